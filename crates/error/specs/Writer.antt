@@ -1,0 +1,22 @@
+-- What every writer answers and leaves: document 01, "Where each call turns back", 4 and 25.
+use Prim.Native.Nat.{ℕ}
+use mathlib.Core.List.{List}
+use lib.ListN.{length}
+use lib.Dec.{ltb}
+use Rattle.wire.specs.Bytes.{pick, put}
+use Rattle.error.specs.Refusal.{numberOf}
+use Rattle.error.specs.declared.Written.{Written}
+use Rattle.error.specs.declared.Written.the-variants.{Wrote, Refused}
+
+-- document 01's number, 0 for none, and how many bytes were written
+abbrev pub outcome : Written → ℕ × ℕ
+outcome (Wrote n) = (0, n)
+outcome (Refused r) = (numberOf r, 0)
+
+-- a text for the output of a call whose lent inputs have so many bytes together: 25, then 4, leave the output as it was; else the
+-- text stands at its front
+unfoldable pub writing : ℕ → List ℕ → List ℕ → (ℕ × ℕ) × List ℕ
+writing inputs text out =
+    pick (ltb 1048576 inputs) ((25, 0), out)
+    (pick (ltb (length out) (length text)) ((4, 0), out)
+    ((0, length text), put out 0 text))

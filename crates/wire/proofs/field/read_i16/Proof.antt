@@ -1,0 +1,48 @@
+use mir.Syntax.{w8, w16, w32, w64}
+use mir.ValLaws.{toZ-ofZ}
+use Rattle.wire.proofs.Signed.{narrowed, signed-value, signed-cut}
+use Rattle.wire.specs.Field.{valueOf, signedOf}
+use Prim.Native.Nat.{ℕ, _≤_, _<_, _+_, _*_, _-_, _^_, _%_, _/_, min}
+use mathlib.Core.Path.{_≡_, refl, sym, ap, _∙_}
+use mathlib.Core.List.{List, [], _∷_, _++_}
+use native.Mathlib.Omega.{arith}
+use lib.ListN.{length, getD, take, drop, set, length-take, length-drop, length-set}
+use borrow.Author.Tests.{le-leb, lt-leb, lt-ltb, le-ltb, eq-eqb, ne-eqb}
+use borrow.Author.Needs.{needs}
+use Rattle.wire.proofs.field.read_i16.Statement.{statement}
+use Rattle.wire.proofs.field.read_i16.Tie as tie
+use Rattle.wire.proofs.field.read_i16.Reads as reads
+use Rattle.wire.proofs.field.read_i16.Lts as lts
+use Rattle.wire.proofs.field.read_be.Reads as read-be-reads
+use Rattle.wire.proofs.field.to_signed.Reads as to-signed-reads
+
+read-be-requires : tie.Need-read-be-requires
+read-be-requires c κs = search needs
+
+enum-known-v : tie.Need-enum-known-v
+enum-known-v c = search needs
+
+to-signed-requires : tie.Need-to-signed-requires
+to-signed-requires c κs =
+    let r = c .before .before .before .read-be in
+    let e : valueOf (r .result) ≡ c .before .v .given .0 .0 = ap valueOf (c .before .v .given .1) in
+    (omega arith, rw e at (r .ensures .1))
+
+cast-t7 : tie.Need-cast-t7
+cast-t7 c = search needs
+
+enum-told : tie.Need-enum-told
+enum-told c = search needs
+
+returns : tie.Need-returns
+returns c =
+    signed-value 32768 _ (c .before .before .v .given .1) (c .before .before .before .before .read-be .ensures .0) (c .to-signed .ensures .0)
+    (narrowed w16 (c .to-signed .result) (c .to-signed .ensures .1) (omega arith))
+
+returns-2 : tie.Need-returns-2
+returns-2 c = signed-cut 32768 _ (c .enum-told .given .1) (c .before .before .read-be .ensures .0)
+
+pub read-i16-spec : {M : Type 1} → statement M
+read-i16-spec =
+    tie.close
+    (tie.spec read-be-requires enum-known-v to-signed-requires cast-t7 enum-told returns returns-2)

@@ -1,0 +1,38 @@
+use Rattle.wire.specs.Field.{valueOf}
+use Prim.Native.Nat.{ℕ, _≤_, _<_, _+_, _*_, _-_, _^_, _%_, _/_, min}
+use mathlib.Core.Path.{_≡_, refl, sym, ap, _∙_}
+use mathlib.Core.List.{List, [], _∷_, _++_}
+use native.Mathlib.Omega.{arith}
+use lib.ListN.{length, getD, take, drop, set, length-take, length-drop, length-set}
+use borrow.Author.Tests.{le-leb, lt-leb, lt-ltb, le-ltb, eq-eqb, ne-eqb}
+use borrow.Author.Needs.{needs}
+use Rattle.wire.proofs.field.read_u8.Statement.{statement}
+use Rattle.wire.proofs.field.read_u8.Tie as tie
+use Rattle.wire.proofs.field.read_u8.Reads as reads
+use Rattle.wire.proofs.field.read_u8.Lts as lts
+use Rattle.wire.proofs.field.read_be.Reads as read-be-reads
+
+read-be-requires : tie.Need-read-be-requires
+read-be-requires c κs = search needs
+
+enum-known-v : tie.Need-enum-known-v
+enum-known-v c = search needs
+
+cast-t6 : tie.Need-cast-t6
+cast-t6 c =
+    let r = c .before .before .before .read-be in
+    let e : valueOf (r .result) ≡ c .before .v .given .0 .0 = ap valueOf (c .before .v .given .1) in
+    record { fits = rw e at (r .ensures .1) }
+
+enum-told : tie.Need-enum-told
+enum-told c = search needs
+
+returns : tie.Need-returns
+returns c = rw (c .before .v .given .1) at (c .before .before .before .read-be .ensures .0)
+
+returns-2 : tie.Need-returns-2
+returns-2 c = rw (c .enum-told .given .1) at (c .before .before .read-be .ensures .0)
+
+pub read-u8-spec : {M : Type 1} → statement M
+read-u8-spec =
+    tie.close (tie.spec read-be-requires enum-known-v cast-t6 enum-told returns returns-2)

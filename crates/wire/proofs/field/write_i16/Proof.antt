@@ -1,0 +1,40 @@
+use Rattle.wire.specs.Bytes.{placed, beBytes}
+use Rattle.wire.specs.Field.{unsigned}
+use mir.Syntax.{w8, w16, w32, w64}
+use mir.ValLaws.{toZ-ofZ}
+use Rattle.wire.proofs.Signed.{widened}
+use Prim.Native.Nat.{ℕ, _≤_, _<_, _+_, _*_, _-_, _^_, _%_, _/_, min}
+use mathlib.Core.Path.{_≡_, refl, sym, ap, _∙_}
+use mathlib.Core.List.{List, [], _∷_, _++_}
+use native.Mathlib.Omega.{arith}
+use lib.ListN.{length, getD, take, drop, set, length-take, length-drop, length-set}
+use borrow.Author.Tests.{le-leb, lt-leb, lt-ltb, le-ltb, eq-eqb, ne-eqb}
+use borrow.Author.Needs.{needs}
+use Rattle.wire.proofs.field.write_i16.Statement.{statement}
+use Rattle.wire.proofs.field.write_i16.Tie as tie
+use Rattle.wire.proofs.field.write_i16.Reads as reads
+use Rattle.wire.proofs.field.write_i16.Lts as lts
+use Rattle.wire.proofs.field.of_signed.Reads as of-signed-reads
+use Rattle.wire.proofs.store.write_be.Reads as write-be-reads
+
+cast-of-signed : tie.Need-cast-of-signed
+cast-of-signed c = rw (toZ-ofZ w16 (c .before .before .args .v) (c .before .before .fits .v)) (record { sfits = omega (arith, c .before .before .fits .v .sfits) })
+
+of-signed-requires : tie.Need-of-signed-requires
+of-signed-requires c κs = (omega arith, rw (widened w16 (c .before .before .args .v) (c .before .before .fits .v) (omega (arith, c .before .before .fits .v .sfits))) (c .before .before .fits .v .sfits))
+
+write-be-requires : tie.Need-write-be-requires
+write-be-requires c κs = search needs
+
+same-length : tie.Need-same-length
+same-length c = search needs
+
+returns : tie.Need-returns
+returns c =
+    let s = c .before .before .before .before .before .before in
+    let e : c .before .before .before .of-signed .result ≡ unsigned 32768 (s .args .v) = c .before .before .before .of-signed .ensures ∙ ap (unsigned 32768) (widened w16 (s .args .v) (s .fits .v) (omega (arith, s .fits .v .sfits))) in
+    c .before .before .write-be .ensures ∙ ap (λ (x : ℕ). placed (s .args .dst .now) (s .args .to) (beBytes 2 x)) e
+
+pub write-i16-spec : {M : Type 1} → statement M
+write-i16-spec =
+    tie.close (tie.spec cast-of-signed of-signed-requires write-be-requires same-length returns)

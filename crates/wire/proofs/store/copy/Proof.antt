@@ -1,0 +1,37 @@
+use Rattle.wire.proofs.Laws.{copied-at}
+use Rattle.wire.specs.Bytes.{copied}
+use Rattle.wire.proofs.Laws.{unplaced, placed-at, length-beBytes, lent-tail}
+use Prim.Native.Nat.{ℕ, _≤_, _<_, _+_, _*_, _-_, _^_, _%_, _/_, min}
+use mathlib.Core.Path.{_≡_, refl, sym, ap, _∙_}
+use mathlib.Core.List.{List, [], _∷_, _++_}
+use native.Mathlib.Omega.{arith}
+use lib.ListN.{length, getD, take, drop, set, length-take, length-drop, length-set}
+use borrow.Author.Tests.{le-leb, lt-leb, lt-ltb, le-ltb, eq-eqb, ne-eqb}
+use borrow.Author.Needs.{needs}
+use Rattle.wire.proofs.store.copy.Statement.{statement}
+use Rattle.wire.proofs.store.copy.Tie as tie
+use Rattle.wire.proofs.store.copy.Reads as reads
+use Rattle.wire.proofs.store.copy.Lts as lts
+use Rattle.wire.proofs.store.copy_all.Reads as copy-all-reads
+use Rattle.wire.proofs.store.least.Reads as least-reads
+
+least-requires : tie.Need-least-requires
+least-requires c κs = search needs
+
+slice-aggregate-copy-all : tie.Need-slice-aggregate-copy-all
+slice-aggregate-copy-all c = simp length-take (omega arith)
+
+copy-all-requires : tie.Need-copy-all-requires
+copy-all-requires c κs = simp length-take (omega arith)
+
+same-length : tie.Need-same-length
+same-length c = search needs
+
+returns : tie.Need-returns
+unfolding copied
+returns c = copied-at _ _ _ _ (c .before .before .before .before .before .least .ensures) (c .before .before .copy-all .ensures)
+
+pub copy-spec : {M : Type 1} → statement M
+copy-spec =
+    tie.close
+    (tie.spec least-requires slice-aggregate-copy-all copy-all-requires same-length returns)
