@@ -1,12 +1,15 @@
 -- The three ways out of a writer.
-use mathlib.Core.Path.{_≡_}
+use mathlib.Core.Path.{_≡_, refl}
 use mathlib.Core.List.{List}
 use Prim.Native.Nat.{ℕ, _≤_, _<_}
 use native.Mathlib.Omega.{arith}
 use lib.ListN.{length}
-use borrow.Author.Tests.{lt-ltb, le-ltb}
-use Rattle.wire.specs.Bytes.{put}
-use Rattle.error.specs.Writer.{writing}
+use lib.Dec.{leb}
+use mathlib.Core.Bool.{Bool, true, false}
+use borrow.Author.Tests.{lt-ltb, le-ltb, le-leb, lt-leb, leb-true, leb-false}
+use Rattle.wire.specs.Bytes.{pick, put}
+use Rattle.error.specs.Writer.{writing, counted}
+use Rattle.error.specs.declared.Counted.the-variants.{Fits, Over}
 
 pub too-long : (inputs : ℕ) (text out : List ℕ) → 1048576 < inputs → ((25, 0), out) ≡ writing inputs text out
 unfolding writing
@@ -21,3 +24,33 @@ unfolding writing
 wrote inputs text out q n h e k p =
     let f : length text ≤ length out = omega arith in
     rw (← e, p) (simp (le-ltb _ _ h, le-ltb _ _ f))
+
+-- ---- a length within a room
+
+pub fits : (room n : ℕ) → n ≤ room → Fits n ≡ counted room n
+unfolding counted
+fits room n h = simp (le-leb _ _ h)
+
+pub over : (room n : ℕ) → room < n → Over ≡ counted room n
+unfolding counted
+over room n h = simp (lt-leb _ _ h)
+
+-- what a count within a room says of the length
+pub counted-fits : (room n k : ℕ) → counted room n ≡ Fits k → (n ≡ k) × (k ≤ room)
+unfolding counted
+counted-fits room n k e = by (leb n room) refl e
+  where
+    by : (t : Bool) → leb n room ≡ t → pick t (Fits n) Over ≡ Fits k → (n ≡ k) × (k ≤ room)
+    by true q p =
+        let e : n ≡ k = cc in
+        let l : n ≤ room = leb-true n room q in
+        (e, omega arith)
+    by false q p = let z : _≡_ {A = ℕ} 0 1 = cc in absurd (omega arith)
+
+pub counted-over : (room n : ℕ) → counted room n ≡ Over → room < n
+unfolding counted
+counted-over room n e = by (leb n room) refl e
+  where
+    by : (t : Bool) → leb n room ≡ t → pick t (Fits n) Over ≡ Over → room < n
+    by true q p = let z : _≡_ {A = ℕ} 0 1 = cc in absurd (omega arith)
+    by false q p = leb-false n room q

@@ -2,11 +2,13 @@
 use Prim.Native.Nat.{ℕ}
 use mathlib.Core.List.{List}
 use lib.ListN.{length}
-use lib.Dec.{ltb}
+use lib.Dec.{leb, ltb}
 use Rattle.wire.specs.Bytes.{pick, put}
 use Rattle.error.specs.Refusal.{numberOf}
 use Rattle.error.specs.declared.Written.{Written}
 use Rattle.error.specs.declared.Written.the-variants.{Wrote, Refused}
+use Rattle.error.specs.declared.Counted.{Counted}
+use Rattle.error.specs.declared.Counted.the-variants.{Fits, Over}
 
 -- document 01's number, 0 for none, and how many bytes were written
 abbrev pub outcome : Written → ℕ × ℕ
@@ -20,3 +22,7 @@ writing inputs text out =
     pick (ltb 1048576 inputs) ((25, 0), out)
     (pick (ltb (length out) (length text)) ((4, 0), out)
     ((0, length text), put out 0 text))
+
+-- a length n, where that is at most the room
+unfoldable pub counted : ℕ → ℕ → Counted
+counted room n = pick (leb n room) (Fits n) Over

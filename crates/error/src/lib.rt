@@ -47,6 +47,12 @@ pub enum Written {
     Refused(Refusal),
 }
 
+// The length of a text that is to be written, or that it is more than the room.
+pub enum Counted {
+    Fits(usize),
+    Over,
+}
+
 impl Refusal {
     // Document 01's number.
     pub fn number(self) -> u8

@@ -1,16 +1,16 @@
 -- Laws of the definitions in specs/: bytes and numbers, lists written over lists.
-use mathlib.Core.Path.{_≡_, refl, sym, ap, _∙_}
+use mathlib.Core.Path.{_≡_, refl, ap, _∙_}
 use mathlib.Core.List.{List, [], _∷_, _++_, append-assoc, append-nil}
 use Prim.Native.Nat.{ℕ, zero, suc, _+_, _*_, _-_, _/_, _%_, _^_, _≤_, _<_, min}
 use native.Mathlib.Nat.{le-of-suc-le-suc, not-suc-le-zero, add-zero, pow-suc, lt-of-lt-of-le, pow-le-pow-right}
 use native.Mathlib.Numerals.{add-one}
 use native.Mathlib.Omega.{arith}
 use lib.ListN.{length, take, drop, getD, set, length-append, length-take, length-drop, take-append-drop, drop-of-length-le}
-use lib.Seq.{take-suc, getD-drop, drop-drop, take-all, take-set-le, take-length, drop-cons, take-at, drop-append-add}
+use lib.Seq.{take-suc, getD-drop, drop-drop, take-all, take-set-le, take-length, drop-cons, set-split, take-at, drop-append-add}
 use lib.Dec.{eqb}
-use mathlib.Core.Bool.{true, false}
+use mathlib.Core.Bool.{Bool, true, false}
 use borrow.Author.Tests.{eq-eqb, ne-eqb, le-leb, lt-leb}
-use Rattle.wire.specs.Bytes.{be, beFrom, beBytes, at, put, placed, copied}
+use Rattle.wire.specs.Bytes.{be, beFrom, beBytes, at, pick, put, placed, copied}
 use Rattle.wire.specs.Find.{indexOf, behind}
 use Rattle.wire.specs.declared.find.Found.{Found}
 use Rattle.wire.specs.declared.find.Found.the-variants.{At, Nothing}
@@ -170,3 +170,39 @@ below-pow (suc n) = let h : 0 < 256 ^ n = below-pow n in rw pow-suc (omega arith
 pub copied-at : (d s q : List ℕ) (n : ℕ) → n ≡ min (length s) (length d) → q ≡ put d 0 (take n s) → (n, q) ≡ copied d s
 unfolding copied
 copied-at d s q n e p = rw (p, e)
+
+-- one byte stored is a list of one written
+pub put-one : (d : List ℕ) (i b : ℕ) → i < length d → set d i b ≡ put d i (b ∷ [])
+unfolding put
+put-one d i b h = set-split d i b h ∙ rw (← add-one i)
+
+-- what is found stands in the list
+pub found-below : (b : ℕ) (s : List ℕ) (i : ℕ) → indexOf b s ≡ At i → i < length s
+unfolding indexOf
+found-below b [] i e = let z : _≡_ {A = ℕ} 0 1 = cc in absurd (omega arith)
+found-below b (x ∷ xs) i e = by (eqb x b) (indexOf b xs) (λ j. found-below b xs j) e
+  where
+    by : (t : Bool) (f : Found) → ((j : ℕ) → f ≡ At j → j < length xs) → pick t (At 0) (behind 1 f) ≡ At i → i < suc (length xs)
+    by true f q p = let z : 0 ≡ i = cc in omega arith
+    by false (At j) q p =
+        let l : j < length xs = q j refl in
+        let z : 1 + j ≡ i = cc in
+        omega arith
+    by false Nothing q p = let z : _≡_ {A = ℕ} 0 1 = cc in absurd (omega arith)
+
+-- a write behind another, where both fit
+pub placed-then : (d d' a b : List ℕ) (to i r : ℕ) (q : List ℕ) → d' ≡ put d to a → i ≡ to + length a → to + length (a ++ b) ≤ length d → (r, q) ≡ placed d' i b
+    → (r ≡ to + length (a ++ b)) × (q ≡ put d to (a ++ b))
+unfolding placed
+placed-then d d' a b to i r q e f h p =
+    let g : length (a ++ b) ≡ length a + length b = length-append a b in
+    let l : length d' ≡ length d = rw e (length-put d a to (omega arith)) in
+    let m : i + length b ≤ length d' = omega arith in
+    let w : _≡_ {A = ℕ × List ℕ} (r, q) (i + length b, put d' i b) = simp (le-leb _ _ m) at p in
+    let s : put d' i b ≡ put d to (a ++ b) = rw (e, f) (put-next d a b to (length a) refl (omega arith)) in
+    (ap (λ (x : ℕ × List ℕ). x .0) w ∙ omega arith, ap (λ (x : ℕ × List ℕ). x .1) w ∙ s)
+
+-- by a test's outcome
+pub by-test : {X : Type 0} (b : Bool) → (b ≡ true → X) → (b ≡ false → X) → X
+by-test true f g = f refl
+by-test false f g = g refl

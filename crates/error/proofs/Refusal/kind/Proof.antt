@@ -1,16 +1,8 @@
 use Rattle.error.specs.Refusal.{kindOf}
-use Prim.Native.Nat.{ℕ, _≤_, _<_, _+_, _*_, _-_, _^_, _%_, _/_, min}
-use mathlib.Core.Path.{_≡_, refl, sym, ap, _∙_}
-use mathlib.Core.List.{List, [], _∷_, _++_}
-use native.Mathlib.Omega.{arith}
-use lib.ListN.{length, getD, take, drop, set, length-take, length-drop, length-set}
-use borrow.Author.Tests.{le-leb, lt-leb, lt-ltb, le-ltb, eq-eqb, ne-eqb}
+use borrow.Author.Tests.{le-leb, lt-leb}
 use borrow.Author.Needs.{needs}
 use Rattle.error.proofs.Refusal.kind.Statement.{statement}
 use Rattle.error.proofs.Refusal.kind.Tie as tie
-use Rattle.error.proofs.Refusal.kind.Reads as reads
-use Rattle.error.proofs.Refusal.kind.Lts as lts
-use Rattle.error.proofs.Refusal.number.Reads as number-reads
 
 number-requires : tie.Need-number-requires
 number-requires c κs = search needs

@@ -3,17 +3,11 @@ use mir.Val.{SFits, toZ, ofZ}
 use mir.Syntax.{w64}
 use mir.ValLaws.{toZ-ofZ}
 use lib.IntN.{pos}
-use Prim.Native.Nat.{ℕ, _≤_, _<_, _+_, _*_, _-_, _^_, _%_, _/_, min}
-use mathlib.Core.Path.{_≡_, refl, sym, ap, _∙_}
-use mathlib.Core.List.{List, [], _∷_, _++_}
+use mathlib.Core.Path.{_≡_, sym}
 use native.Mathlib.Omega.{arith}
-use lib.ListN.{length, getD, take, drop, set, length-take, length-drop, length-set}
-use borrow.Author.Tests.{le-leb, lt-leb, lt-ltb, le-ltb, eq-eqb, ne-eqb}
 use borrow.Author.Needs.{needs}
 use Rattle.wire.proofs.field.of_signed.Statement.{statement}
 use Rattle.wire.proofs.field.of_signed.Tie as tie
-use Rattle.wire.proofs.field.of_signed.Reads as reads
-use Rattle.wire.proofs.field.of_signed.Lts as lts
 
 cast-result : tie.Need-cast-result
 cast-result c =

@@ -1,18 +1,14 @@
 use mathlib.Core.Option.{some}
 use Rattle.wire.proofs.Laws.{below-pow}
 use Rattle.wire.specs.Field.{fieldAt}
-use Prim.Native.Nat.{ℕ, _≤_, _<_, _+_, _*_, _-_, _^_, _%_, _/_, min}
-use mathlib.Core.Path.{_≡_, refl, sym, ap, _∙_}
-use mathlib.Core.List.{List, [], _∷_, _++_}
+use Prim.Native.Nat.{_≤_, _<_, _+_}
+use mathlib.Core.Path.{ap}
 use native.Mathlib.Omega.{arith}
-use lib.ListN.{length, getD, take, drop, set, length-take, length-drop, length-set}
-use borrow.Author.Tests.{le-leb, lt-leb, lt-ltb, le-ltb, eq-eqb, ne-eqb}
+use lib.ListN.{length}
+use borrow.Author.Tests.{le-leb, lt-leb}
 use borrow.Author.Needs.{needs}
 use Rattle.wire.proofs.field.read_be.Statement.{statement}
 use Rattle.wire.proofs.field.read_be.Tie as tie
-use Rattle.wire.proofs.field.read_be.Reads as reads
-use Rattle.wire.proofs.field.read_be.Lts as lts
-use Rattle.wire.proofs.field.load_be.Reads as load-be-reads
 
 returns : tie.Need-returns
 unfolding fieldAt

@@ -1,20 +1,9 @@
-use mir.Syntax.{w8, w16, w32, w64}
+use mir.Syntax.{w64}
 use mir.ValLaws.{toZ-ofZ}
-use Rattle.wire.proofs.Signed.{narrowed, signed-value, signed-cut}
-use Rattle.wire.specs.Field.{valueOf, signedOf}
-use Prim.Native.Nat.{ℕ, _≤_, _<_, _+_, _*_, _-_, _^_, _%_, _/_, min}
-use mathlib.Core.Path.{_≡_, refl, sym, ap, _∙_}
-use mathlib.Core.List.{List, [], _∷_, _++_}
-use native.Mathlib.Omega.{arith}
-use lib.ListN.{length, getD, take, drop, set, length-take, length-drop, length-set}
-use borrow.Author.Tests.{le-leb, lt-leb, lt-ltb, le-ltb, eq-eqb, ne-eqb}
+use Rattle.wire.proofs.Signed.{signed-value, signed-cut}
 use borrow.Author.Needs.{needs}
 use Rattle.wire.proofs.field.read_i64.Statement.{statement}
 use Rattle.wire.proofs.field.read_i64.Tie as tie
-use Rattle.wire.proofs.field.read_i64.Reads as reads
-use Rattle.wire.proofs.field.read_i64.Lts as lts
-use Rattle.wire.proofs.field.read_be.Reads as read-be-reads
-use Rattle.wire.proofs.field.to_signed.Reads as to-signed-reads
 
 read-be-requires : tie.Need-read-be-requires
 read-be-requires c κs = search needs

@@ -1,16 +1,8 @@
 use Rattle.wire.specs.Field.{valueOf}
-use Prim.Native.Nat.{ℕ, _≤_, _<_, _+_, _*_, _-_, _^_, _%_, _/_, min}
-use mathlib.Core.Path.{_≡_, refl, sym, ap, _∙_}
-use mathlib.Core.List.{List, [], _∷_, _++_}
-use native.Mathlib.Omega.{arith}
-use lib.ListN.{length, getD, take, drop, set, length-take, length-drop, length-set}
-use borrow.Author.Tests.{le-leb, lt-leb, lt-ltb, le-ltb, eq-eqb, ne-eqb}
+use mathlib.Core.Path.{_≡_, ap}
 use borrow.Author.Needs.{needs}
 use Rattle.wire.proofs.field.read_u32.Statement.{statement}
 use Rattle.wire.proofs.field.read_u32.Tie as tie
-use Rattle.wire.proofs.field.read_u32.Reads as reads
-use Rattle.wire.proofs.field.read_u32.Lts as lts
-use Rattle.wire.proofs.field.read_be.Reads as read-be-reads
 
 read-be-requires : tie.Need-read-be-requires
 read-be-requires c κs = search needs

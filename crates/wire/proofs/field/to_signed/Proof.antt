@@ -1,15 +1,8 @@
-use Rattle.wire.proofs.Signed.{low, high, high-fits, not-negative, negated}
-use Prim.Native.Nat.{ℕ, _≤_, _<_, _+_, _*_, _-_, _^_, _%_, _/_, min}
-use mathlib.Core.Path.{_≡_, refl, sym, ap, _∙_}
-use mathlib.Core.List.{List, [], _∷_, _++_}
-use native.Mathlib.Omega.{arith}
-use lib.ListN.{length, getD, take, drop, set, length-take, length-drop, length-set}
-use borrow.Author.Tests.{le-leb, lt-leb, lt-ltb, le-ltb, eq-eqb, ne-eqb}
+use Rattle.wire.proofs.Signed.{low, high, high-fits}
+use mathlib.Core.Path.{refl}
 use borrow.Author.Needs.{needs}
 use Rattle.wire.proofs.field.to_signed.Statement.{statement}
 use Rattle.wire.proofs.field.to_signed.Tie as tie
-use Rattle.wire.proofs.field.to_signed.Reads as reads
-use Rattle.wire.proofs.field.to_signed.Lts as lts
 
 cast-result : tie.Need-cast-result
 cast-result c = search needs

@@ -1,21 +1,14 @@
 use Rattle.wire.specs.Bytes.{placed, beBytes}
 use Rattle.wire.specs.Field.{unsigned}
-use mir.Syntax.{w8, w16, w32, w64}
+use mir.Syntax.{w8}
 use mir.ValLaws.{toZ-ofZ}
 use Rattle.wire.proofs.Signed.{widened}
-use Prim.Native.Nat.{ℕ, _≤_, _<_, _+_, _*_, _-_, _^_, _%_, _/_, min}
-use mathlib.Core.Path.{_≡_, refl, sym, ap, _∙_}
-use mathlib.Core.List.{List, [], _∷_, _++_}
+use Prim.Native.Nat.{ℕ}
+use mathlib.Core.Path.{_≡_, ap, _∙_}
 use native.Mathlib.Omega.{arith}
-use lib.ListN.{length, getD, take, drop, set, length-take, length-drop, length-set}
-use borrow.Author.Tests.{le-leb, lt-leb, lt-ltb, le-ltb, eq-eqb, ne-eqb}
 use borrow.Author.Needs.{needs}
 use Rattle.wire.proofs.field.write_i8.Statement.{statement}
 use Rattle.wire.proofs.field.write_i8.Tie as tie
-use Rattle.wire.proofs.field.write_i8.Reads as reads
-use Rattle.wire.proofs.field.write_i8.Lts as lts
-use Rattle.wire.proofs.field.of_signed.Reads as of-signed-reads
-use Rattle.wire.proofs.store.write_be.Reads as write-be-reads
 
 cast-of-signed : tie.Need-cast-of-signed
 cast-of-signed c = rw (toZ-ofZ w8 (c .before .before .args .v) (c .before .before .fits .v)) (record { sfits = omega (arith, c .before .before .fits .v .sfits) })

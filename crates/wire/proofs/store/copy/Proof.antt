@@ -1,19 +1,10 @@
 use Rattle.wire.proofs.Laws.{copied-at}
 use Rattle.wire.specs.Bytes.{copied}
-use Rattle.wire.proofs.Laws.{unplaced, placed-at, length-beBytes, lent-tail}
-use Prim.Native.Nat.{ℕ, _≤_, _<_, _+_, _*_, _-_, _^_, _%_, _/_, min}
-use mathlib.Core.Path.{_≡_, refl, sym, ap, _∙_}
-use mathlib.Core.List.{List, [], _∷_, _++_}
 use native.Mathlib.Omega.{arith}
-use lib.ListN.{length, getD, take, drop, set, length-take, length-drop, length-set}
-use borrow.Author.Tests.{le-leb, lt-leb, lt-ltb, le-ltb, eq-eqb, ne-eqb}
+use lib.ListN.{length-take}
 use borrow.Author.Needs.{needs}
 use Rattle.wire.proofs.store.copy.Statement.{statement}
 use Rattle.wire.proofs.store.copy.Tie as tie
-use Rattle.wire.proofs.store.copy.Reads as reads
-use Rattle.wire.proofs.store.copy.Lts as lts
-use Rattle.wire.proofs.store.copy_all.Reads as copy-all-reads
-use Rattle.wire.proofs.store.least.Reads as least-reads
 
 least-requires : tie.Need-least-requires
 least-requires c κs = search needs

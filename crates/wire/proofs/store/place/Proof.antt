@@ -1,16 +1,11 @@
-use Rattle.wire.proofs.Laws.{unplaced, placed-at, length-beBytes, lent-tail}
-use Prim.Native.Nat.{ℕ, _≤_, _<_, _+_, _*_, _-_, _^_, _%_, _/_, min}
-use mathlib.Core.Path.{_≡_, refl, sym, ap, _∙_}
-use mathlib.Core.List.{List, [], _∷_, _++_}
+use Rattle.wire.proofs.Laws.{unplaced, placed-at, lent-tail}
+use Prim.Native.Nat.{_-_}
+use mathlib.Core.Path.{refl}
 use native.Mathlib.Omega.{arith}
-use lib.ListN.{length, getD, take, drop, set, length-take, length-drop, length-set}
-use borrow.Author.Tests.{le-leb, lt-leb, lt-ltb, le-ltb, eq-eqb, ne-eqb}
+use lib.ListN.{length}
 use borrow.Author.Needs.{needs}
 use Rattle.wire.proofs.store.place.Statement.{statement}
 use Rattle.wire.proofs.store.place.Tie as tie
-use Rattle.wire.proofs.store.place.Reads as reads
-use Rattle.wire.proofs.store.place.Lts as lts
-use Rattle.wire.proofs.store.copy_all.Reads as copy-all-reads
 
 returns : tie.Need-returns
 returns c = unplaced _ _ _ (omega arith)

@@ -1,6 +1,6 @@
 -- With i bytes to go, the i lowest bytes of x written over dst give what is asked.
 use mathlib.Core.Path.{_≡_, refl, sym, _∙_}
-use Prim.Native.Nat.{_≤_, _-_, _+_}
+use Prim.Native.Nat.{_≤_}
 use native.Mathlib.Omega.{arith}
 use lib.ListN.{length, length-set}
 use Rattle.wire.specs.Bytes.{beBytes, put}

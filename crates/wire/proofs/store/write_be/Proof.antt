@@ -1,16 +1,8 @@
-use Rattle.wire.proofs.Laws.{unplaced, placed-at, length-beBytes, lent-tail}
-use Prim.Native.Nat.{ℕ, _≤_, _<_, _+_, _*_, _-_, _^_, _%_, _/_, min}
-use mathlib.Core.Path.{_≡_, refl, sym, ap, _∙_}
-use mathlib.Core.List.{List, [], _∷_, _++_}
+use Rattle.wire.proofs.Laws.{unplaced, placed-at, length-beBytes}
 use native.Mathlib.Omega.{arith}
-use lib.ListN.{length, getD, take, drop, set, length-take, length-drop, length-set}
-use borrow.Author.Tests.{le-leb, lt-leb, lt-ltb, le-ltb, eq-eqb, ne-eqb}
 use borrow.Author.Needs.{needs}
 use Rattle.wire.proofs.store.write_be.Statement.{statement}
 use Rattle.wire.proofs.store.write_be.Tie as tie
-use Rattle.wire.proofs.store.write_be.Reads as reads
-use Rattle.wire.proofs.store.write_be.Lts as lts
-use Rattle.wire.proofs.store.store_be.Reads as store-be-reads
 
 returns : tie.Need-returns
 returns c = let a = c .before .before .args in unplaced (a .dst .now) (a .to) _ (rw length-beBytes (omega arith))

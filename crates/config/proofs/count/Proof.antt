@@ -1,0 +1,123 @@
+-- The names counted and those to come are as long as the value.
+use Rattle.config.specs.OptionValue.{doubled, optionValue}
+use Rattle.config.specs.Code.{nameAt, listed}
+use Rattle.error.proofs.Laws.{fits, over, counted-fits, counted-over}
+use Rattle.config.proofs.Laws.{listed-start, listed-length, listed-end}
+use Prim.Native.Nat.{_≤_, _+_, _-_}
+use mathlib.Core.Path.{_≡_, sym, ap, _∙_}
+use native.Mathlib.Omega.{arith}
+use lib.ListN.{length}
+use borrow.Author.Needs.{needs}
+use Rattle.config.proofs.count.Statement.{statement}
+use Rattle.config.proofs.count.Tie as tie
+
+abbrev Inv-loop : tie.InvT-loop
+Inv-loop names room need₀ i₀ need i = (i ≤ length names) × (need ≤ room) × (need + length (listed i names) ≡ length (optionValue names))
+
+abbrev μ-loop : tie.MeasureT-loop
+μ-loop names room need₀ i₀ need i = length names - i
+
+loop-holds : tie.Need-loop-holds Inv-loop μ-loop
+loop-holds c = (omega arith, omega arith, omega (arith, ap length (listed-start (c .args .names .now))))
+
+comma-requires : tie.Need-comma-requires Inv-loop μ-loop
+comma-requires c κs = search needs
+
+sub-if1 : tie.Need-sub-if1 Inv-loop μ-loop
+sub-if1 c = omega arith
+
+returns : tie.Need-returns Inv-loop μ-loop
+returns c =
+    let l = c .before .before .before in
+    let a = l .before .args in
+    let t = listed-length (a .names .now) (l .loop .i) (omega arith) in
+    over (a .room) (length (optionValue (a .names .now))) (omega arith)
+
+mul-s : tie.Need-mul-s Inv-loop μ-loop
+mul-s c = search needs
+
+shared-slice-copy-out-s : tie.Need-shared-slice-copy-out-s Inv-loop μ-loop
+shared-slice-copy-out-s c = omega arith
+
+sub-count-name : tie.Need-sub-count-name Inv-loop μ-loop
+sub-count-name c = omega arith
+
+sub-count-name-2 : tie.Need-sub-count-name-2 Inv-loop μ-loop
+sub-count-name-2 c = omega arith
+
+count-name-requires : tie.Need-count-name-requires Inv-loop μ-loop
+count-name-requires c κs = search needs
+
+enum-known-n : tie.Need-enum-known-n Inv-loop μ-loop
+enum-known-n c = search needs
+
+enum-told : tie.Need-enum-told Inv-loop μ-loop
+enum-told c = search needs
+
+returns-2 : tie.Need-returns-2 Inv-loop μ-loop
+returns-2 c =
+    let l = c .before .before .before .before .before .before .before in
+    let a = l .before .args in
+    let w = c .before .before .count-name in
+    let t = listed-length (a .names .now) (l .loop .i) (omega arith) in
+    let f = counted-over _ _ (sym (w .ensures) ∙ c .enum-told .given .1) in
+    over (a .room) (length (optionValue (a .names .now))) (omega arith)
+
+-- what the count of a name says
+fitting : (c : tie.After-known-told Inv-loop μ-loop)
+    → let l = c .before .before .before .before .before .before .before .before in
+    let n = length (doubled (nameAt (l .before .args .names .now) (l .loop .i))) in
+    (n ≡ c .before .n .given .0 .0) × (c .before .n .given .0 .0 ≤ l .before .args .room - l .loop .need - c .before .before .before .before .before .before .comma .result)
+fitting c = counted-fits _ _ _ (sym (c .before .before .before .count-name .ensures) ∙ c .before .n .given .1)
+
+add-need : tie.Need-add-need Inv-loop μ-loop
+add-need c = let f = fitting c in omega arith
+
+add-need-2 : tie.Need-add-need-2 Inv-loop μ-loop
+add-need-2 c = let f = fitting c in omega arith
+
+add-i : tie.Need-add-i Inv-loop μ-loop
+add-i c = omega arith
+
+loop-less : tie.Need-loop-less Inv-loop μ-loop
+loop-less c = omega arith
+
+loop-again : tie.Need-loop-again Inv-loop μ-loop
+loop-again c =
+    let l = c .before .before .before .before .before .before .before .before in
+    let f = fitting c in
+    let t = listed-length (l .before .args .names .now) (l .loop .i) (omega arith) in
+    (omega arith, omega arith, omega arith)
+
+returns-3 : tie.Need-returns-3 Inv-loop μ-loop
+returns-3 c =
+    let l = c .before in
+    let a = l .before .args in
+    let t = ap length (listed-end (a .names .now) (l .loop .i) (omega arith)) in
+    let e : l .loop .need ≡ length (optionValue (a .names .now)) = omega arith in
+    rw e (fits (a .room) (length (optionValue (a .names .now))) (omega arith))
+
+pub count-spec : {M : Type 1} → statement M
+count-spec =
+    tie.close
+    (tie.spec
+    Inv-loop
+    μ-loop
+    loop-holds
+    comma-requires
+    sub-if1
+    returns
+    mul-s
+    shared-slice-copy-out-s
+    sub-count-name
+    sub-count-name-2
+    count-name-requires
+    enum-known-n
+    enum-told
+    returns-2
+    add-need
+    add-need-2
+    add-i
+    loop-less
+    loop-again
+    returns-3)

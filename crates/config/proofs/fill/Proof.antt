@@ -1,0 +1,75 @@
+-- The names written and those to come are the value.
+use Rattle.config.specs.OptionValue.{optionValue}
+use Rattle.config.specs.Code.{listed}
+use Rattle.config.proofs.Laws.{Filling, filling-start, filling-next, filling-end, listed-start, listed-next, listed-length, listed-end}
+use Prim.Native.Nat.{_≤_, _-_}
+use native.Mathlib.Omega.{arith}
+use lib.ListN.{length}
+use borrow.Author.Needs.{needs}
+use Rattle.config.proofs.fill.Statement.{statement}
+use Rattle.config.proofs.fill.Tie as tie
+
+abbrev Inv-loop : tie.InvT-loop
+Inv-loop out₀ at names to₀ i₀ out to i = (i ≤ length names) × Filling out₀ at (optionValue names) out to (listed i names)
+
+abbrev μ-loop : tie.MeasureT-loop
+μ-loop out₀ at names to₀ i₀ out to i = length names - i
+
+loop-holds : tie.Need-loop-holds Inv-loop μ-loop
+loop-holds c =
+    let a = c .before .args in
+    (omega arith, rw (listed-start (a .names .now)) (filling-start (a .out .now) (a .at) (optionValue (a .names .now))))
+
+put-comma-requires : tie.Need-put-comma-requires Inv-loop μ-loop
+put-comma-requires c κs =
+    let l = c .before .before in
+    omega (arith, listed-length (l .before .before .args .names .now) (l .loop .i) (omega arith))
+
+mul-s : tie.Need-mul-s Inv-loop μ-loop
+mul-s c = search needs
+
+shared-slice-copy-out-s : tie.Need-shared-slice-copy-out-s Inv-loop μ-loop
+shared-slice-copy-out-s c = omega arith
+
+fill-name-requires : tie.Need-fill-name-requires Inv-loop μ-loop
+fill-name-requires c κs =
+    let l = c .before .before .before .before .before .before .before in
+    omega (arith, listed-length (l .before .before .args .names .now) (l .loop .i) (omega arith), c .before .before .before .before .put-comma .ensures, c .before .before .before .before .put-comma .kept .0)
+
+add-i : tie.Need-add-i Inv-loop μ-loop
+add-i c = omega arith
+
+loop-less : tie.Need-loop-less Inv-loop μ-loop
+loop-less c = omega arith
+
+loop-again : tie.Need-loop-again Inv-loop μ-loop
+loop-again c =
+    let l = c .before .before .before .before .before .before .before .before .before .before in
+    let s = l .before .before in
+    let f = rw (listed-next (s .args .names .now) (l .loop .i) (omega arith)) at (l .loop .inv .1) in
+    (omega arith, filling-next (s .pre) (filling-next (s .pre) f (c .before .before .before .before .before .before .before .put-comma .ensures)) (c .before .before .fill-name .ensures))
+
+same-length : tie.Need-same-length Inv-loop μ-loop
+same-length c = c .before .loop .inv .1 .same
+
+returns : tie.Need-returns Inv-loop μ-loop
+returns c =
+    let l = c .before in
+    filling-end (rw (listed-end (l .before .before .args .names .now) (l .loop .i) (omega arith)) at (l .loop .inv .1))
+
+pub fill-spec : {M : Type 1} → statement M
+fill-spec =
+    tie.close
+    (tie.spec
+    Inv-loop
+    μ-loop
+    loop-holds
+    put-comma-requires
+    mul-s
+    shared-slice-copy-out-s
+    fill-name-requires
+    add-i
+    loop-less
+    loop-again
+    same-length
+    returns)

@@ -1,0 +1,60 @@
+-- The bytes written and those to come are the name with its quotes doubled.
+use Rattle.config.specs.OptionValue.{doubled}
+use Rattle.config.proofs.Laws.{Filling, filling-start, filling-next, filling-end, doubled-next, doubled-length, doubled-end}
+use Prim.Native.Nat.{_≤_, _-_}
+use native.Mathlib.Omega.{arith}
+use lib.ListN.{length, drop}
+use Rattle.config.proofs.fill_name.Statement.{statement}
+use Rattle.config.proofs.fill_name.Tie as tie
+
+abbrev Inv-loop : tie.InvT-loop
+Inv-loop out₀ at s to₀ i₀ out to i = (i ≤ length s) × Filling out₀ at (doubled s) out to (doubled (drop i s))
+
+abbrev μ-loop : tie.MeasureT-loop
+μ-loop out₀ at s to₀ i₀ out to i = length s - i
+
+loop-holds : tie.Need-loop-holds Inv-loop μ-loop
+loop-holds c = let a = c .before .before .args in (omega arith, filling-start (a .out .now) (a .at) (doubled (a .s .now)))
+
+shared-slice-read-put-byte : tie.Need-shared-slice-read-put-byte Inv-loop μ-loop
+shared-slice-read-put-byte c = omega arith
+
+put-byte-requires : tie.Need-put-byte-requires Inv-loop μ-loop
+put-byte-requires c κs =
+    let l = c .before .before .before in
+    omega (arith, doubled-length (l .before .before .before .args .s .now) (l .loop .i) (omega arith))
+
+add-i : tie.Need-add-i Inv-loop μ-loop
+add-i c = omega arith
+
+loop-less : tie.Need-loop-less Inv-loop μ-loop
+loop-less c = omega arith
+
+loop-again : tie.Need-loop-again Inv-loop μ-loop
+loop-again c =
+    let l = c .before .before .before .before .before .before in
+    let a = l .before .before .before .args in
+    (omega arith, filling-next (l .before .before .before .pre) (rw (doubled-next (a .s .now) (l .loop .i) (omega arith)) at (l .loop .inv .1)) (c .before .before .put-byte .ensures))
+
+same-length : tie.Need-same-length Inv-loop μ-loop
+same-length c = c .before .loop .inv .1 .same
+
+returns : tie.Need-returns Inv-loop μ-loop
+returns c =
+    let l = c .before in
+    filling-end (rw (doubled-end (l .before .before .before .args .s .now) (l .loop .i) (omega arith)) at (l .loop .inv .1))
+
+pub fill-name-spec : {M : Type 1} → statement M
+fill-name-spec =
+    tie.close
+    (tie.spec
+    Inv-loop
+    μ-loop
+    loop-holds
+    shared-slice-read-put-byte
+    put-byte-requires
+    add-i
+    loop-less
+    loop-again
+    same-length
+    returns)

@@ -1,0 +1,61 @@
+-- Where the value is counted into what is left of the output, it is filled in there.
+use Rattle.config.specs.OptionValue.{optionValue}
+use Rattle.wire.proofs.Laws.{placed-at, unplaced}
+use Rattle.error.proofs.Laws.{counted-fits, counted-over}
+use mathlib.Core.Path.{refl, sym, _∙_}
+use native.Mathlib.Omega.{arith}
+use borrow.Author.Needs.{needs}
+use Rattle.config.proofs.place.Statement.{statement}
+use Rattle.config.proofs.place.Tie as tie
+
+returns : tie.Need-returns
+returns c =
+    let a = c .before .before .args in
+    unplaced (a .out .now) (a .to) (optionValue (a .names .now)) (omega arith)
+
+sub-count : tie.Need-sub-count
+sub-count c = search needs
+
+count-requires : tie.Need-count-requires
+count-requires c κs = search needs
+
+enum-told : tie.Need-enum-told
+enum-told c = search needs
+
+enum-told-2 : tie.Need-enum-told-2
+enum-told-2 c = search needs
+
+returns-2 : tie.Need-returns-2
+returns-2 c =
+    let a = c .before .before .before .before .before .args in
+    let f = counted-over _ _ (sym (c .before .before .count .ensures) ∙ c .enum-told2 .given .1) in
+    unplaced (a .out .now) (a .to) (optionValue (a .names .now)) (omega arith)
+
+fill-requires : tie.Need-fill-requires
+fill-requires c κs =
+    let f = counted-fits _ _ _ (sym (c .before .before .before .count .ensures) ∙ c .before .enum-told .given .1) in
+    omega arith
+
+same-length : tie.Need-same-length
+same-length c = search needs
+
+returns-3 : tie.Need-returns-3
+returns-3 c =
+    let a = c .before .before .before .before .before .before .before .before .before .args in
+    let f = counted-fits _ _ _ (sym (c .before .before .before .before .before .before .count .ensures) ∙ c .before .before .before .before .enum-told .given .1) in
+    let w = c .before .before .fill .ensures in
+    rw (w .behind) (placed-at (a .out .now) (a .to) _ (optionValue (a .names .now)) _ refl (omega arith) (w .text))
+
+pub place-spec : {M : Type 1} → statement M
+place-spec =
+    tie.close
+    (tie.spec
+    returns
+    sub-count
+    count-requires
+    enum-told
+    enum-told-2
+    returns-2
+    fill-requires
+    same-length
+    returns-3)

@@ -1,0 +1,59 @@
+-- A single quote is stored twice.
+use Rattle.config.proofs.Laws.{quote, plain, filled-one, filled-two}
+use mathlib.Core.Path.{ap}
+use native.Mathlib.Omega.{arith}
+use lib.ListN.{length, length-set}
+use borrow.Author.Needs.{needs}
+use Rattle.config.proofs.put_byte.Statement.{statement}
+use Rattle.config.proofs.put_byte.Tie as tie
+
+slice-write-out : tie.Need-slice-write-out
+slice-write-out c = omega (arith, ap length (quote (c .before .args .c) (c .if1 .taken)))
+
+add-out : tie.Need-add-out
+add-out c = search needs
+
+slice-write-out-2 : tie.Need-slice-write-out-2
+slice-write-out-2 c = simp length-set (omega (arith, ap length (quote (c .before .args .c) (c .if1 .taken))))
+
+add-result : tie.Need-add-result
+add-result c = search needs
+
+same-length : tie.Need-same-length
+same-length c = search needs
+
+returns : tie.Need-returns
+returns c =
+    let a = c .before .args in
+    let q = quote (a .c) (c .if1 .taken) in
+    rw q (filled-two (a .out .now) (a .at) (a .c) (omega (arith, ap length q)))
+
+slice-write-out-3 : tie.Need-slice-write-out-3
+slice-write-out-3 c = omega (arith, ap length (plain (c .before .args .c) (c .if1 .left)))
+
+add-result-2 : tie.Need-add-result-2
+add-result-2 c = search needs
+
+same-length-2 : tie.Need-same-length-2
+same-length-2 c = search needs
+
+returns-2 : tie.Need-returns-2
+returns-2 c =
+    let a = c .before .args in
+    let q = plain (a .c) (c .if1 .left) in
+    rw q (filled-one (a .out .now) (a .at) (a .c) (omega (arith, ap length q)))
+
+pub put-byte-spec : {M : Type 1} → statement M
+put-byte-spec =
+    tie.close
+    (tie.spec
+    slice-write-out
+    add-out
+    slice-write-out-2
+    add-result
+    same-length
+    returns
+    slice-write-out-3
+    add-result-2
+    same-length-2
+    returns-2)

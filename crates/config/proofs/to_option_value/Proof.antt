@@ -1,0 +1,71 @@
+-- The names are counted, then the value, and where both are within their limits it is filled in.
+use Rattle.config.specs.OptionValue.{optionValue, total}
+use Rattle.error.proofs.Laws.{too-long, no-room, wrote, counted-fits, counted-over}
+use mathlib.Core.Path.{sym, _∙_}
+use native.Mathlib.Omega.{arith}
+use borrow.Author.Needs.{needs}
+use Rattle.config.proofs.to_option_value.Statement.{statement}
+use Rattle.config.proofs.to_option_value.Tie as tie
+
+names-len-requires : tie.Need-names-len-requires
+names-len-requires c κs = search needs
+
+enum-told : tie.Need-enum-told
+enum-told c = search needs
+
+enum-told-2 : tie.Need-enum-told-2
+enum-told-2 c = search needs
+
+returns : tie.Need-returns
+returns c =
+    let a = c .before .before .before .before .args in
+    let f = counted-over _ _ (sym (c .before .before .names-len .ensures) ∙ c .enum-told2 .given .1) in
+    too-long (total (a .names .now)) (optionValue (a .names .now)) (a .out .now) f
+
+count-requires : tie.Need-count-requires
+count-requires c κs = search needs
+
+enum-told-3 : tie.Need-enum-told-3
+enum-told-3 c = search needs
+
+enum-told-4 : tie.Need-enum-told-4
+enum-told-4 c = search needs
+
+returns-2 : tie.Need-returns-2
+returns-2 c =
+    let a = c .before .before .before .before .before .before .before .args in
+    let t = counted-fits _ _ _ (sym (c .before .before .before .before .before .names-len .ensures) ∙ c .before .before .before .enum-told .given .1) in
+    let f = counted-over _ _ (sym (c .before .before .count .ensures) ∙ c .enum-told4 .given .1) in
+    no-room (total (a .names .now)) (optionValue (a .names .now)) (a .out .now) (omega arith) f
+
+fill-requires : tie.Need-fill-requires
+fill-requires c κs =
+    let f = counted-fits _ _ _ (sym (c .before .before .before .count .ensures) ∙ c .before .enum-told3 .given .1) in
+    omega arith
+
+same-length : tie.Need-same-length
+same-length c = search needs
+
+returns-3 : tie.Need-returns-3
+returns-3 c =
+    let a = c .before .before .before .before .before .before .before .before .before .before .before .args in
+    let t = counted-fits _ _ _ (sym (c .before .before .before .before .before .before .before .before .before .names-len .ensures) ∙ c .before .before .before .before .before .before .before .enum-told .given .1) in
+    let f = counted-fits _ _ _ (sym (c .before .before .before .before .before .before .count .ensures) ∙ c .before .before .before .before .enum-told3 .given .1) in
+    let w = c .before .before .fill in
+    wrote (total (a .names .now)) (optionValue (a .names .now)) (a .out .now) (w .last .0) (w .result) (omega arith) (omega (arith, w .ensures .behind)) (omega (arith, w .ensures .behind)) (w .ensures .text)
+
+pub to-option-value-spec : {M : Type 1} → statement M
+to-option-value-spec =
+    tie.close
+    (tie.spec
+    names-len-requires
+    enum-told
+    enum-told-2
+    returns
+    count-requires
+    enum-told-3
+    enum-told-4
+    returns-2
+    fill-requires
+    same-length
+    returns-3)

@@ -1,0 +1,31 @@
+-- The value of an option that lists names: document 01, "`to_option_value` doubles each single quote and joins names with commas".
+use Prim.Native.Nat.{ℕ, _+_}
+use mathlib.Core.List.{List, [], _∷_, _++_}
+use lib.ListN.{length}
+use lib.Dec.{eqb}
+use denote.Ref.{RefT, now}
+use Rattle.wire.specs.Bytes.{pick}
+
+-- a byte, a single quote twice
+abbrev pub quoted : ℕ → List ℕ
+quoted c = pick (eqb c 39) (39 ∷ 39 ∷ []) (c ∷ [])
+
+-- a name with each single quote doubled
+unfoldable pub doubled : List ℕ → List ℕ
+doubled [] = []
+doubled (c ∷ s) = quoted c ++ doubled s
+
+-- the names behind the first, a comma before each
+unfoldable pub following : List (RefT (List ℕ)) → List ℕ
+following [] = []
+following (n ∷ ns) = 44 ∷ (doubled (now n) ++ following ns)
+
+-- the names, joined with commas
+unfoldable pub optionValue : List (RefT (List ℕ)) → List ℕ
+optionValue [] = []
+optionValue (n ∷ ns) = doubled (now n) ++ following ns
+
+-- the bytes of all names together
+unfoldable pub total : List (RefT (List ℕ)) → ℕ
+total [] = 0
+total (n ∷ ns) = length (now n) + total ns

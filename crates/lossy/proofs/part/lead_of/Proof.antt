@@ -1,0 +1,111 @@
+-- Each branch's bounds say which rows the byte is past.
+use Rattle.lossy.specs.WellFormed.{table}
+use Rattle.lossy.proofs.Table.{row-at, row-none}
+use native.Mathlib.Omega.{arith}
+use borrow.Author.Needs.{needs}
+use Rattle.lossy.proofs.part.lead_of.Statement.{statement}
+use Rattle.lossy.proofs.part.lead_of.Tie as tie
+
+due-requires : tie.Need-due-requires
+due-requires c κs = search needs
+
+none-requires : tie.Need-none-requires
+none-requires c κs = search needs
+
+due-requires-2 : tie.Need-due-requires-2
+due-requires-2 c κs = search needs
+
+due-requires-3 : tie.Need-due-requires-3
+due-requires-3 c κs = search needs
+
+due-requires-4 : tie.Need-due-requires-4
+due-requires-4 c κs = search needs
+
+due-requires-5 : tie.Need-due-requires-5
+due-requires-5 c κs = search needs
+
+due-requires-6 : tie.Need-due-requires-6
+due-requires-6 c κs = search needs
+
+due-requires-7 : tie.Need-due-requires-7
+due-requires-7 c κs = search needs
+
+due-requires-8 : tie.Need-due-requires-8
+due-requires-8 c κs = search needs
+
+due-requires-9 : tie.Need-due-requires-9
+due-requires-9 c κs = search needs
+
+none-requires-2 : tie.Need-none-requires-2
+none-requires-2 c κs = search needs
+
+returns : tie.Need-returns
+unfolding table
+returns c = rw (c .due .ensures) (row-at 0 table (c .before .before .args .b) (omega arith) (omega arith), omega arith)
+
+returns-2 : tie.Need-returns-2
+unfolding table
+returns-2 c = rw (c .none .ensures) (row-none 1 table (c .before .before .before .args .b) (omega arith) (omega arith), omega arith)
+
+returns-3 : tie.Need-returns-3
+unfolding table
+returns-3 c = rw (c .due2 .ensures) (row-at 1 table (c .before .before .before .before .args .b) (omega arith) (omega arith), omega arith)
+
+returns-4 : tie.Need-returns-4
+unfolding table
+returns-4 c = rw (c .due3 .ensures) (row-at 2 table (c .before .before .before .before .before .args .b) (omega arith) (omega arith), omega arith)
+
+returns-5 : tie.Need-returns-5
+unfolding table
+returns-5 c = rw (c .due4 .ensures) (row-at 3 table (c .before .before .before .before .before .before .args .b) (omega arith) (omega arith), omega arith)
+
+returns-6 : tie.Need-returns-6
+unfolding table
+returns-6 c = rw (c .due5 .ensures) (row-at 4 table (c .before .before .before .before .before .before .before .args .b) (omega arith) (omega arith), omega arith)
+
+returns-7 : tie.Need-returns-7
+unfolding table
+returns-7 c = rw (c .due6 .ensures) (row-at 5 table (c .before .before .before .before .before .before .before .before .args .b) (omega arith) (omega arith), omega arith)
+
+returns-8 : tie.Need-returns-8
+unfolding table
+returns-8 c = rw (c .due7 .ensures) (row-at 6 table (c .before .before .before .before .before .before .before .before .before .args .b) (omega arith) (omega arith), omega arith)
+
+returns-9 : tie.Need-returns-9
+unfolding table
+returns-9 c = rw (c .due8 .ensures) (row-at 7 table (c .before .before .before .before .before .before .before .before .before .before .args .b) (omega arith) (omega arith), omega arith)
+
+returns-10 : tie.Need-returns-10
+unfolding table
+returns-10 c = rw (c .due9 .ensures) (row-at 8 table (c .before .before .before .before .before .before .before .before .before .before .before .args .b) (omega arith) (omega arith), omega arith)
+
+returns-11 : tie.Need-returns-11
+unfolding table
+returns-11 c = rw (c .none2 .ensures) (row-none 9 table (c .before .before .before .before .before .before .before .before .before .before .before .args .b) (omega arith) (omega arith), omega arith)
+
+pub lead-of-spec : {M : Type 1} → statement M
+lead-of-spec =
+    tie.close
+    (tie.spec
+    due-requires
+    none-requires
+    due-requires-2
+    due-requires-3
+    due-requires-4
+    due-requires-5
+    due-requires-6
+    due-requires-7
+    due-requires-8
+    due-requires-9
+    none-requires-2
+    returns
+    returns-2
+    returns-3
+    returns-4
+    returns-5
+    returns-6
+    returns-7
+    returns-8
+    returns-9
+    returns-10
+    returns-11)

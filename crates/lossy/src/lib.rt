@@ -1,0 +1,90 @@
+// Lossy text: what String::from_utf8_lossy makes of a byte string.
+mod part;
+
+ghost use mathlib.Core.Path.{_≡_};
+ghost use Prim.Native.Nat.{_+_, _≤_};
+ghost use lib.ListN.{length, drop};
+ghost use Rattle.wire.specs.Bytes.{placed, put};
+ghost use Rattle.error.specs.Writer.{writing, counted};
+ghost use Rattle.lossy.specs.Lossy.{lossyOf, shown, lossyOutcome};
+ghost use Rattle.lossy.specs.Code.{cutOf};
+use error::Counted;
+use error::Refusal;
+
+// What the lossy writer answers.
+pub enum Lossy {
+    Wrote(usize),
+    Refused(Refusal),
+}
+
+// The length of the lossy text, where that is at most room.
+pub fn count(text: &[u8], room: usize) -> Counted
+    ensures { λ r. ⌜ r ≡ counted room (length (lossyOf (now (text .entry)))) ⌝ }
+{
+    let mut need: usize = 0;
+    let mut i: usize = 0;
+    while i < text.len() {
+        let p = part::part_at(text, i);
+        let n = part::shown_len(p);
+        if room - need < n {
+            return Counted::Over;
+        }
+        need += n;
+        i += p.len;
+    }
+    Counted::Fits(need)
+}
+
+// What a part of the text becomes, at the place where it fits, and the place behind it.
+fn place_part(out: &mut [u8], at: usize, text: &[u8], i: usize, p: part::Part) -> usize
+    requires { ⌜ i + p .len ≤ length (now text) ⌝ }
+    ensures { λ r. ⌜ (r, now (out .exit)) ≡ placed (now (out .entry)) at (shown (cutOf p (drop i (now (text .entry))))) ⌝ }
+{
+    let n = p.len;
+    if p.well {
+        return wire::store::place(out, at, &text[i..i + n]);
+    }
+    wire::store::place(out, at, b"\xEF\xBF\xBD")
+}
+
+// The lossy text over out from `to` on.
+fn fill(out: &mut [u8], to: usize, text: &[u8])
+    requires { ⌜ to + length (lossyOf (now text)) ≤ length (now out) ⌝ }
+    ensures { λ _. ⌜ now (out .exit) ≡ put (now (out .entry)) to (lossyOf (now (text .entry))) ⌝ }
+{
+    let mut at = to;
+    let mut i: usize = 0;
+    while i < text.len() {
+        let p = part::part_at(text, i);
+        at = place_part(out, at, text, i, p);
+        i += p.len;
+    }
+}
+
+// The place behind the lossy text, written at `to` where it fits.
+pub fn place(out: &mut [u8], to: usize, text: &[u8]) -> usize
+    ensures { λ r. ⌜ (r, now (out .exit)) ≡ placed (now (out .entry)) to (lossyOf (now (text .entry))) ⌝ }
+{
+    if out.len() < to {
+        return to;
+    }
+    let Counted::Fits(n) = count(text, out.len() - to) else {
+        return to;
+    };
+    fill(out, to, text);
+    to + n
+}
+
+// The lossy text over the front of out.
+pub fn write_lossy(text: &[u8], out: &mut [u8]) -> Lossy
+    ensures { λ r. ⌜ (lossyOutcome r, now (out .exit)) ≡ writing (length (now (text .entry))) (lossyOf (now (text .entry))) (now (out .entry)) ⌝ }
+{
+    if 1048576 < text.len() {
+        return Lossy::Refused(Refusal::InputTooLong);
+    }
+    let Counted::Fits(n) = count(text, out.len()) else {
+        return Lossy::Refused(Refusal::OutputTooShort);
+    };
+    fill(out, 0, text);
+    Lossy::Wrote(n)
+}

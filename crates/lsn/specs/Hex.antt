@@ -1,0 +1,52 @@
+-- Hexadecimal texts: what one spells.
+use Prim.Native.Nat.{ℕ, _+_, _*_, _-_, _^_}
+use mathlib.Core.List.{List, [], _∷_}
+use mathlib.Core.Option.{Option, some, none}
+use mathlib.Core.Bool.{Bool, false}
+use lib.Dec.{leb, ltb, eqb}
+use Rattle.wire.specs.Bytes.{pick}
+use Rattle.lsn.specs.declared.hex.HexPart.{HexPart}
+use Rattle.lsn.specs.declared.hex.HexPart.the-variants.{Value, Invalid}
+
+abbrev between : ℕ → ℕ → ℕ → Bool
+between a b c = pick (leb a c) (leb c b) false
+
+-- a digit's value: 0 to 9, A to F, a to f
+unfoldable pub digitOf : ℕ → Option ℕ
+digitOf c =
+    pick (between 48 57 c) (some (c - 48))
+    (pick (between 65 70 c) (some (c - 55))
+    (pick (between 97 102 c) (some (c - 87))
+    none))
+
+-- what becomes of a value that may be missing
+abbrev pub andThen : Option ℕ → (ℕ → Option ℕ) → Option ℕ
+andThen none f = none
+andThen (some v) f = f v
+
+-- the number that the digits spell behind acc; none where one is no digit
+unfoldable pub valueFrom : ℕ → List ℕ → Option ℕ
+valueFrom acc [] = some acc
+valueFrom acc (c ∷ s) = andThen (digitOf c) (λ d. valueFrom (acc * 16 + d) s)
+
+-- a number of 64 bits
+abbrev pub in64 : ℕ → Option ℕ
+in64 v = pick (ltb v (2 ^ 64)) (some v) none
+
+-- one digit or more, of a number of 64 bits
+unfoldable pub hexDigits : List ℕ → Option ℕ
+hexDigits [] = none
+hexDigits (c ∷ s) = andThen (valueFrom 0 (c ∷ s)) in64
+
+-- one part of a position text. Document 01: "each part is a `u64` hexadecimal text, leading plus sign and zeros allowed"
+unfoldable pub hexPart : List ℕ → Option ℕ
+hexPart [] = none
+hexPart (c ∷ s) = pick (eqb c 43) (hexDigits s) (hexDigits (c ∷ s))
+
+-- what the answers of the code say
+abbrev pub partOf : HexPart → Option ℕ
+partOf (Value v) = some v
+partOf Invalid = none
+
+abbrev pub digitIs : ℕ → Option ℕ
+digitIs d = pick (ltb d 16) (some d) none

@@ -1,0 +1,79 @@
+// Log positions.
+mod hex;
+
+ghost use mathlib.Core.Path.{_≡_};
+ghost use lib.Dec.{eqb};
+ghost use Rattle.error.specs.Writer.{writing, outcome};
+ghost use Rattle.lsn.specs.Position.{positionOf, parseOutcome, displayOf, isBelow};
+use error::Refusal;
+use error::Written;
+use hex::HexPart;
+use wire::find::Found;
+
+// A position in the server's log.
+pub struct Lsn(pub u64);
+
+pub enum Parsed {
+    Position(Lsn),
+    Refused(Refusal),
+}
+
+impl Lsn {
+    pub const ZERO: Lsn = Lsn(0);
+
+    pub fn from_u64(value: u64) -> Lsn
+        ensures { λ r. ⌜ r .0 ≡ value ⌝ }
+    {
+        Lsn(value)
+    }
+
+    pub fn as_u64(self) -> u64
+        ensures { λ r. ⌜ r ≡ self .0 ⌝ }
+    {
+        self.0
+    }
+
+    pub fn is_zero(self) -> bool
+        ensures { λ r. ⌜ r ≡ eqb (self .0) 0 ⌝ }
+    {
+        self.0 == 0
+    }
+
+    // The only comparison of positions.
+    pub fn is_below(self, other: Lsn) -> bool
+        ensures { λ r. ⌜ r ≡ isBelow self other ⌝ }
+    {
+        self.0 < other.0
+    }
+
+    pub fn parse(s: &[u8]) -> Parsed
+        ensures { λ r. ⌜ parseOutcome r ≡ positionOf (now (s .entry)) ⌝ }
+    {
+        let Found::At(i) = wire::find::find(s, b'/') else {
+            return Parsed::Refused(Refusal::MissingSlash);
+        };
+        let HexPart::Value(hi) = hex::part(&s[..i]) else {
+            return Parsed::Refused(Refusal::InvalidHighPart);
+        };
+        let HexPart::Value(lo) = hex::part(&s[i + 1..]) else {
+            return Parsed::Refused(Refusal::InvalidLowPart);
+        };
+        Parsed::Position(Lsn((hi << 32) | lo))
+    }
+
+    // The Rust's Display.
+    pub fn display(self, out: &mut [u8]) -> Written
+        ensures { λ r. ⌜ (outcome r, now (out .exit)) ≡ writing 0 (displayOf (self .0)) (now (out .entry)) ⌝ }
+    {
+        let hi = self.0 / 4294967296;
+        let lo = self.0 % 4294967296;
+        let n = text::hex_len(hi) + 1 + text::hex_len(lo);
+        if out.len() < n {
+            return Written::Refused(Refusal::OutputTooShort);
+        }
+        let a = text::place_hex(out, 0, hi);
+        let b = wire::store::place(out, a, b"/");
+        text::place_hex(out, b, lo);
+        Written::Wrote(n)
+    }
+}

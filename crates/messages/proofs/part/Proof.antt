@@ -1,0 +1,80 @@
+-- What a field names ends where the payload ends.
+use mathlib.Core.Path.{_≡_, sym, _∙_}
+use Prim.Native.Nat.{_≤_, _+_, _-_}
+use native.Mathlib.Omega.{arith}
+use lib.ListN.{drop-of-length-le, length, drop, length-drop}
+use lib.Seq.{take-nil, take-all}
+use borrow.Author.Needs.{needs}
+use Rattle.messages.proofs.Laws.{tail-whole}
+use Rattle.messages.proofs.part.Statement.{statement}
+use Rattle.messages.proofs.part.Tie as tie
+
+sub-result : tie.Need-sub-result
+sub-result c = search needs
+
+part-result-start : tie.Need-part-result-start
+part-result-start c = search needs
+
+part-result-end : tie.Need-part-result-end
+part-result-end c = search needs
+
+returns : tie.Need-returns
+returns c =
+    let a = c .before .before .args in
+    let h : length (a .payload .now) ≤ a .f .from = omega arith in
+    rw (drop-of-length-le (a .payload .now) h, take-nil (a .f .len))
+
+sub-if2 : tie.Need-sub-if2
+sub-if2 c = search needs
+
+sub-result-2 : tie.Need-sub-result-2
+sub-result-2 c = search needs
+
+part-result-start-2 : tie.Need-part-result-start-2
+part-result-start-2 c = search needs
+
+part-result-end-2 : tie.Need-part-result-end-2
+part-result-end-2 c = search needs
+
+returns-2 : tie.Need-returns-2
+returns-2 c =
+    let a = c .before .before .before .args in
+    let l = length-drop (a .f .from) (a .payload .now) in
+    tail-whole (a .payload .now) (a .f .from) ∙ sym (take-all (a .f .len) (drop (a .f .from) (a .payload .now)) (omega arith))
+
+add-result : tie.Need-add-result
+add-result c = search needs
+
+sub-result-3 : tie.Need-sub-result-3
+sub-result-3 c = search needs
+
+part-result-start-3 : tie.Need-part-result-start-3
+part-result-start-3 c = search needs
+
+part-result-end-3 : tie.Need-part-result-end-3
+part-result-end-3 c = search needs
+
+returns-3 : tie.Need-returns-3
+returns-3 c =
+    let f = c .before .before .before .args .f in
+    let e : f .from + f .len - f .from ≡ f .len = omega arith in
+    rw e
+
+pub part-spec : {M : Type 1} → statement M
+part-spec =
+    tie.close
+    (tie.spec
+    sub-result
+    part-result-start
+    part-result-end
+    returns
+    sub-if2
+    sub-result-2
+    part-result-start-2
+    part-result-end-2
+    returns-2
+    add-result
+    sub-result-3
+    part-result-start-3
+    part-result-end-3
+    returns-3)

@@ -1,0 +1,96 @@
+-- The four pieces are placed one behind the other.
+use mathlib.Core.Bool.{false}
+use mathlib.Core.Path.{_≡_, refl, sym, ap, _∙_}
+use mathlib.Core.List.{List, [], _++_}
+use Prim.Native.Nat.{ℕ, _≤_, _+_}
+use native.Mathlib.Omega.{arith}
+use lib.Dec.{leb}
+use lib.ListN.{length-append, length}
+use borrow.Author.Tests.{leb-true, leb-false, not-true, not-false}
+use borrow.Author.Needs.{needs}
+use Rattle.wire.specs.Bytes.{put, placed}
+use Rattle.wire.proofs.Laws.{put-none, placed-then}
+use Rattle.error.specs.Writer.{writing}
+use Rattle.error.proofs.Laws.{no-room, wrote}
+use Rattle.lossy.specs.Lossy.{lossyOf}
+use Rattle.messages.specs.ErrorText.{coded, opened, closed}
+use Rattle.messages.proofs.Text.{length-coded, coded-pieces}
+use Rattle.messages.proofs.with_code.Statement.{statement}
+use Rattle.messages.proofs.with_code.Tie as tie
+
+four-pieces : (d m k : List ℕ) {q1 q2 q3 q4 : List ℕ} {r1 r2 r3 r4 : ℕ} → length (coded m k) ≤ length d
+    → (r1, q1) ≡ placed d 0 m → (r2, q2) ≡ placed q1 r1 opened → (r3, q3) ≡ placed q2 r2 k → (r4, q4) ≡ placed q3 r3 closed
+    → ((0, r4), q4) ≡ writing 0 (coded m k) d
+four-pieces d m k {q1} {q2} {q3} {q4} {r1} {r2} {r3} {r4} f e1 e2 e3 e4 =
+    let l : length (coded m k) ≡ length m + 12 + length k = length-coded m k in
+    let h2 : 0 + length (m ++ opened) ≤ length d = rw length-append (omega arith) in
+    let h3 : 0 + length ((m ++ opened) ++ k) ≤ length d = simp length-append (omega arith) in
+    let h4 : 0 + length (((m ++ opened) ++ k) ++ closed) ≤ length d = simp length-append (omega arith) in
+    let w1 = placed-then d d [] m 0 0 r1 q1 (sym (put-none d 0)) refl (omega arith) e1 in
+    let w2 = placed-then d q1 m opened 0 r1 r2 q2 (w1 .1) (w1 .0) h2 e2 in
+    let w3 = placed-then d q2 (m ++ opened) k 0 r2 r3 q3 (w2 .1) (w2 .0) h3 e3 in
+    let w4 = placed-then d q3 ((m ++ opened) ++ k) closed 0 r3 r4 q4 (w3 .1) (w3 .0) h4 e4 in
+    let p = coded-pieces m k in
+    let g : length (coded m k) ≡ length (((m ++ opened) ++ k) ++ closed) = ap length p in
+    wrote 0 (coded m k) d q4 r4 (omega arith) (omega (arith, w4 .0)) (omega (arith, w4 .0)) (w4 .1 ∙ sym (ap (put d 0) p))
+
+has-room-requires : tie.Need-has-room-requires
+has-room-requires c κs = search needs
+
+returns : tie.Need-returns
+returns c =
+    let r = c .before in
+    let a = r .before .before .before .before .args in
+    let text = coded (lossyOf (a .text .now)) (lossyOf (a .code .now)) in
+    let t : leb (length text) (length (a .out .now)) ≡ false = sym (r .has-room .ensures) ∙ not-true _ (c .if1 .taken) in
+    no-room 0 text (a .out .now) (omega arith) (leb-false (length text) (length (a .out .now)) t)
+
+place-requires : tie.Need-place-requires
+place-requires c κs = search needs
+
+slice-aggregate-place : tie.Need-slice-aggregate-place
+slice-aggregate-place c = search needs
+
+place-requires-2 : tie.Need-place-requires-2
+place-requires-2 c κs = search needs
+
+place-requires-3 : tie.Need-place-requires-3
+place-requires-3 c κs = search needs
+
+slice-aggregate-place-2 : tie.Need-slice-aggregate-place-2
+slice-aggregate-place-2 c = search needs
+
+place-requires-4 : tie.Need-place-requires-4
+place-requires-4 c κs = search needs
+
+same-length : tie.Need-same-length
+same-length c = search needs
+
+returns-2 : tie.Need-returns-2
+returns-2 c =
+    let p4 = c .before .before in
+    let p3 = p4 .before .before .before .before .before in
+    let p2 = p3 .before .before .before .before in
+    let p1 = p2 .before .before .before .before .before in
+    let e = p1 .before .before in
+    let r = e .before in
+    let a = r .before .before .before .before .args in
+    let m = lossyOf (a .text .now) in
+    let k = lossyOf (a .code .now) in
+    let f : length (coded m k) ≤ length (a .out .now) = leb-true (length (coded m k)) (length (a .out .now)) (sym (r .has-room .ensures) ∙ not-false _ (e .if1 .left)) in
+    four-pieces _ m k f (p1 .place .ensures) (p2 .place2 .ensures) (p3 .place3 .ensures) (p4 .place4 .ensures)
+
+pub with-code-spec : {M : Type 1} → statement M
+with-code-spec =
+    tie.close
+    (tie.spec
+    has-room-requires
+    returns
+    place-requires
+    slice-aggregate-place
+    place-requires-2
+    place-requires-3
+    slice-aggregate-place-2
+    place-requires-4
+    same-length
+    returns-2)

@@ -1,0 +1,24 @@
+-- An authentication request: PostgreSQL documentation, "Message Formats" (Authentication...): Int32, then what that code asks for.
+use mathlib.Core.List.{List}
+use mathlib.Core.Option.{Option, some, none}
+use Prim.Native.Nat.{ℕ, _-_}
+use lib.ListN.{length}
+use lib.IntN.{ℤ, pos}
+use Rattle.wire.specs.Field.{fieldAt, signed}
+use Rattle.error.specs.Refusal.{numberOf}
+use Rattle.messages.specs.declared.AuthRequest.{AuthRequest}
+use Rattle.messages.specs.declared.AuthRequest.the-variants.{Request, Refused}
+
+-- what an answer says: document 01's number, 0 for none, the code, and where the rest begins and how long it is
+abbrev pub authOutcome : AuthRequest → ℕ × ℤ × ℕ × ℕ
+authOutcome (Request code from len) = (0, code, from, len)
+authOutcome (Refused r) = (numberOf r, pos 0, 0, 0)
+
+-- the same of a code that may be cut: 21 under 4 bytes
+abbrev pub authBy : ℕ → Option ℕ → ℕ × ℤ × ℕ × ℕ
+authBy n none = (21, pos 0, 0, 0)
+authBy n (some v) = (0, signed 2147483648 v, 4, n - 4)
+
+-- a 32-bit code and the rest
+unfoldable pub authOf : List ℕ → ℕ × ℤ × ℕ × ℕ
+authOf payload = authBy (length payload) (fieldAt 4 payload 0)

@@ -1,0 +1,4 @@
+pub mod Fields
+pub mod FieldLayout
+pub mod ErrorText
+pub mod Auth

@@ -1,0 +1,1 @@
+// Theorems alone: document 01's proved table, in specs/ProvedTable.antt.

@@ -1,0 +1,418 @@
+//! Makes the records that the program `leaves` is run on, and the lines that it must print.
+//! Nothing here comes from the program: lossy text is String::from_utf8_lossy, hexadecimal is u64::from_str_radix and `{:X}`,
+//! the rest is read off the PostgreSQL documentation in plain Rust. See README.md beside this file.
+//!
+//! Use: leaves STDIN-FILE STDOUT-FILE
+
+use std::fmt::Write as _;
+
+struct Vectors {
+    input: Vec<u8>,
+    lines: String,
+    counts: std::collections::BTreeMap<u8, usize>,
+}
+
+fn sum(bytes: &[u8]) -> u32 {
+    bytes.iter().fold(7u32, |h, b| h.wrapping_mul(31).wrapping_add(*b as u32))
+}
+
+fn hex(bytes: &[u8]) -> String {
+    if bytes.is_empty() {
+        return "-".to_string();
+    }
+    bytes.iter().map(|b| format!("{b:02x}")).collect()
+}
+
+impl Vectors {
+    fn record(&mut self, kind: u8, out_len: usize, fill: u8, input: &[u8]) {
+        self.input.push(kind);
+        self.input.extend((out_len as u32).to_be_bytes());
+        self.input.push(fill);
+        self.input.extend((input.len() as u32).to_be_bytes());
+        self.input.extend(input);
+        *self.counts.entry(kind).or_insert(0) += 1;
+    }
+
+    /// A writer's record and line: the text where it fits, else refusal 4 and an untouched output.
+    fn writer(&mut self, kind: u8, out_len: usize, fill: u8, input: &[u8], text: &[u8]) {
+        self.record(kind, out_len, fill, input);
+        let mut out = vec![fill; out_len];
+        if out_len < text.len() {
+            writeln!(self.lines, "{} 4 0 {} -", kind as char, sum(&out)).unwrap();
+            return;
+        }
+        out[..text.len()].copy_from_slice(text);
+        writeln!(self.lines, "{} 0 {} {} {}", kind as char, text.len(), sum(&out), hex(text)).unwrap();
+    }
+
+    /// One short, exact, one over, and none at all.
+    fn writer_around(&mut self, kind: u8, input: &[u8], text: &[u8]) {
+        let n = text.len();
+        let mut lens = vec![0, n, n + 1];
+        if n > 0 {
+            lens.push(n - 1);
+        }
+        for (i, len) in lens.into_iter().enumerate() {
+            self.writer(kind, len, [0x00, 0xFF, 0x2A, 0x80][i % 4], input, text);
+        }
+    }
+
+    fn position(&mut self, text: &[u8]) {
+        self.record(b'p', 0, 0, text);
+        let line = match position_of(text) {
+            Ok(v) => format!("p 0 {}", display(v)),
+            Err(n) => format!("p {n}"),
+        };
+        writeln!(self.lines, "{line}").unwrap();
+    }
+
+    fn lossy(&mut self, text: &[u8], out_len: usize, fill: u8) {
+        let shown = String::from_utf8_lossy(text).into_owned();
+        self.writer(b'l', out_len, fill, text, shown.as_bytes());
+    }
+
+    fn lossy_around(&mut self, text: &[u8]) {
+        let shown = String::from_utf8_lossy(text).into_owned();
+        self.writer_around(b'l', text, shown.as_bytes());
+    }
+
+    fn lossy_roomy(&mut self, text: &[u8]) {
+        self.lossy(text, 3 * text.len(), 0x5A);
+    }
+
+    fn error(&mut self, payload: &[u8]) {
+        let fields = error_fields(payload);
+        self.record(b'f', 0, 0, payload);
+        let mut line = String::from("f 0");
+        for letter in LETTERS {
+            line.push(' ');
+            match fields.get(&letter) {
+                None => line.push('n'),
+                Some(v) => line.push_str(&hex(v)),
+            }
+        }
+        writeln!(self.lines, "{line}").unwrap();
+        self.writer_around(b'e', payload, error_text(&fields).as_bytes());
+    }
+
+    fn auth(&mut self, payload: &[u8]) {
+        self.record(b'a', 0, 0, payload);
+        let line = if payload.len() < 4 {
+            "a 21".to_string()
+        } else {
+            let code = i32::from_be_bytes(payload[..4].try_into().unwrap());
+            format!("a 0 {} {}", code, hex(&payload[4..]))
+        };
+        writeln!(self.lines, "{line}").unwrap();
+    }
+
+    fn names(&mut self, names: &[&[u8]]) {
+        let mut input = Vec::new();
+        for n in names {
+            input.extend((n.len() as u16).to_be_bytes());
+            input.extend(*n);
+        }
+        let mut text: Vec<u8> = Vec::new();
+        for (i, n) in names.iter().enumerate() {
+            if i > 0 {
+                text.push(b',');
+            }
+            for c in *n {
+                if *c == b'\'' {
+                    text.push(b'\'');
+                }
+                text.push(*c);
+            }
+        }
+        self.writer_around(b'o', &input, &text);
+    }
+}
+
+const LETTERS: [u8; 15] = [
+    b'S', b'C', b'M', b'D', b'H', b'P', b'W', b's', b't', b'c', b'd', b'n', b'F', b'L', b'R',
+];
+
+fn display(v: u64) -> String {
+    format!("{:X}/{:X}", v >> 32, v & 0xFFFF_FFFF)
+}
+
+fn part_of(text: &[u8]) -> Option<u64> {
+    u64::from_str_radix(std::str::from_utf8(text).ok()?, 16).ok()
+}
+
+fn position_of(text: &[u8]) -> Result<u64, u8> {
+    let slash = text.iter().position(|c| *c == b'/').ok_or(22u8)?;
+    let hi = part_of(&text[..slash]).ok_or(23u8)?;
+    let lo = part_of(&text[slash + 1..]).ok_or(24u8)?;
+    Ok(((hi as u128 * (1u128 << 32)) as u64) | lo)
+}
+
+/// Letter, string, zero byte; a zero in a letter's place ends the message; the last of a letter wins.
+fn error_fields(payload: &[u8]) -> std::collections::HashMap<u8, Vec<u8>> {
+    let mut fields = std::collections::HashMap::new();
+    let mut rest = payload;
+    while let Some((letter, tail)) = rest.split_first() {
+        if *letter == 0 {
+            break;
+        }
+        let mut pieces = tail.splitn(2, |c| *c == 0);
+        let value = pieces.next().unwrap();
+        let Some(after) = pieces.next() else { break };
+        fields.insert(*letter, value.to_vec());
+        rest = after;
+    }
+    fields
+}
+
+fn error_text(fields: &std::collections::HashMap<u8, Vec<u8>>) -> String {
+    let text = |letter: u8| fields.get(&letter).map(|v| String::from_utf8_lossy(v).into_owned());
+    match (text(b'M'), text(b'C')) {
+        (Some(m), Some(c)) => m + " (SQLSTATE " + &c + ")",
+        (Some(m), None) => m,
+        (None, Some(c)) => "error (SQLSTATE ".to_string() + &c + ")",
+        (None, None) => "unknown server error".to_string(),
+    }
+}
+
+/// Marsaglia's xorshift, so that every run makes the same records.
+struct Draw(u64);
+
+impl Draw {
+    fn next(&mut self) -> u64 {
+        self.0 ^= self.0 << 13;
+        self.0 ^= self.0 >> 7;
+        self.0 ^= self.0 << 17;
+        self.0
+    }
+
+    fn below(&mut self, n: u64) -> u64 {
+        self.next() % n
+    }
+
+    fn pick<'a, T>(&mut self, from: &'a [T]) -> &'a T {
+        &from[self.below(from.len() as u64) as usize]
+    }
+}
+
+fn positions(v: &mut Vectors, draw: &mut Draw) {
+    let zeros = "0".repeat(40);
+    let parts: Vec<String> = [
+        "", "0", "1", "9", "a", "f", "A", "F", "g", "G", "+", "-", "+0", "+1", "-1", "-0", "++1", "+-1", "1+", " 1", "1 ", "0x1", "1_0",
+        "00", "16", "B374D848", "b374d848", "FFFFFFFF", "100000000", "123456789ABCDEF0", "FFFFFFFFFFFFFFFF", "ffffffffffffffff",
+        "10000000000000000", "0FFFFFFFFFFFFFFFF", "+FFFFFFFFFFFFFFFF", "+10000000000000000", "8000000000000000", "1FFFFFFFFFFFFFFFF",
+    ]
+    .iter()
+    .map(|s| s.to_string())
+    .chain([zeros.clone(), zeros.clone() + "1", "+".to_string() + &zeros, zeros + "g"])
+    .collect();
+    for hi in &parts {
+        for lo in ["0", "", "B374D848", "FFFFFFFFFFFFFFFF", "+1", "x", "10000000000000000"] {
+            v.position(format!("{hi}/{lo}").as_bytes());
+        }
+    }
+    for lo in &parts {
+        v.position(format!("16/{lo}").as_bytes());
+        v.position(lo.as_bytes());
+    }
+    for text in ["/", "//", "1/2/3", "1//2", "/1/2", "16/B374D848", "+1/2", "100000000/0", "0/0", "0/1\n", "\u{0}/0", "1\u{0}/0", "ä/0", "0/ä"] {
+        v.position(text.as_bytes());
+    }
+    for b in 0..=255u8 {
+        v.position(&[b, b'/', b'7']);
+        v.position(&[b'7', b'/', b]);
+    }
+    for _ in 0..200 {
+        let value = draw.next() >> draw.below(64);
+        v.position(display(value).as_bytes());
+        v.position(display(value).to_lowercase().as_bytes());
+        let mut damaged = display(value).into_bytes();
+        let at = draw.below(damaged.len() as u64) as usize;
+        damaged[at] = draw.next() as u8;
+        v.position(&damaged);
+    }
+}
+
+fn displays(v: &mut Vectors, draw: &mut Draw) {
+    let mut values = vec![0u64, 1, u64::MAX, 0x16B374D848, 1 << 32, (1 << 32) - 1];
+    for k in 0..16 {
+        values.push(1u64 << (4 * k));
+        values.push((1u64 << (4 * k)).wrapping_sub(1));
+        values.push(0xFu64 << (4 * k));
+    }
+    for _ in 0..50 {
+        values.push(draw.next() >> draw.below(64));
+    }
+    for value in values {
+        let text = display(value);
+        v.writer_around(b'd', &value.to_be_bytes(), text.as_bytes());
+    }
+}
+
+fn lossy_texts(v: &mut Vectors, draw: &mut Draw) {
+    // the Unicode Standard, section 3.9: Tables 3-8 to 3-11, and the examples of document 01
+    let standard: [&[u8]; 6] = [
+        &[0xC0, 0xAF, 0xE0, 0x80, 0xBF, 0xF0, 0x81, 0x82, 0x41],
+        &[0xED, 0xA0, 0x80, 0xED, 0xBF, 0xBF, 0xED, 0xAF, 0x41],
+        &[0xF4, 0x91, 0x92, 0x93, 0xFF, 0x41, 0x80, 0xBF, 0x42],
+        &[0xE1, 0x80, 0xE2, 0xF0, 0x91, 0x92, 0xF1, 0xBF, 0x41],
+        &[0x41, 0xE2, 0x82, 0x42],
+        &[0xED, 0xA0, 0x80],
+    ];
+    for text in standard {
+        v.lossy_around(text);
+        for n in 0..text.len() {
+            v.lossy_roomy(&text[..n]);
+        }
+    }
+    for b in 0..=255u8 {
+        v.lossy_around(&[b]);
+    }
+    // every boundary of the well-formed ranges, at each byte of a sequence
+    let first = [0x00, 0x7F, 0x80, 0xBF, 0xC0, 0xC1, 0xC2, 0xDF, 0xE0, 0xE1, 0xEC, 0xED, 0xEE, 0xEF, 0xF0, 0xF1, 0xF3, 0xF4, 0xF5, 0xFF];
+    let second = [0x00, 0x7F, 0x80, 0x8F, 0x90, 0x9F, 0xA0, 0xBF, 0xC0, 0xC2, 0xFF];
+    let later = [0x7F, 0x80, 0xBF, 0xC0];
+    for a in first {
+        for b in second {
+            v.lossy_roomy(&[a, b]);
+            v.lossy_roomy(&[a, b, 0x41]);
+            for c in later {
+                v.lossy_roomy(&[a, b, c]);
+                for d in later {
+                    v.lossy_roomy(&[a, b, c, d]);
+                }
+            }
+        }
+    }
+    let pieces: [&[u8]; 16] = [
+        b"a", b"caption", "ä".as_bytes(), "λόγος".as_bytes(), "żółw".as_bytes(), "語".as_bytes(), "😀".as_bytes(), "\u{FFFD}".as_bytes(),
+        &[0x80], &[0xE2, 0x82], &[0xF0, 0x9F, 0x98], &[0xC2], &[0xFF], &[0xED, 0xA0, 0x80], &[0xF4, 0x90], &[0x00],
+    ];
+    for _ in 0..300 {
+        let mut text = Vec::new();
+        for _ in 0..draw.below(12) {
+            text.extend(*draw.pick(&pieces));
+        }
+        v.lossy_around(&text);
+    }
+    for _ in 0..300 {
+        let n = draw.below(40);
+        let text: Vec<u8> = (0..n).map(|_| draw.next() as u8).collect();
+        v.lossy_roomy(&text);
+    }
+    let long: Vec<u8> = (0..21_845u32).map(|i| if i % 7 == 3 { 0xE2 } else { b'a' + (i % 26) as u8 }).collect();
+    v.lossy(&long, 65_536, 0x11);
+    v.lossy(&vec![0x80; 21_845], 65_535, 0x11);
+    v.lossy(&vec![0x80; 21_846], 65_536, 0x11);
+    v.lossy(&vec![b'x'; 65_536], 65_536, 0x11);
+}
+
+fn errors(v: &mut Vectors, draw: &mut Draw) {
+    let field = |letter: u8, value: &[u8]| -> Vec<u8> { [&[letter], value, &[0]].concat() };
+    let whole: Vec<u8> = [
+        field(b'S', b"ERROR"),
+        field(b'V', b"ERROR"),
+        field(b'C', b"42P01"),
+        field(b'M', b"relation \"captions\" does not exist"),
+        field(b'P', b"15"),
+        field(b'F', b"parse_relation.c"),
+        field(b'L', b"1392"),
+        field(b'R', b"parserOpenTable"),
+        vec![0],
+    ]
+    .concat();
+    for n in 0..=whole.len() {
+        v.error(&whole[..n]);
+    }
+    for letter in 0..=255u8 {
+        v.error(&[field(letter, b"value"), vec![0]].concat());
+    }
+    let cases: Vec<Vec<u8>> = vec![
+        vec![],
+        vec![0],
+        vec![0, b'M', b'x', 0],
+        field(b'M', b""),
+        field(b'C', b""),
+        [field(b'M', b""), field(b'C', b"")].concat(),
+        [field(b'M', b"first"), field(b'M', b"second")].concat(),
+        [field(b'M', b"first"), field(b'C', b"00000"), field(b'M', b"")].concat(),
+        [field(b'C', b"57P01"), vec![b'M', b'c', b'u', b't']].concat(),
+        [field(b'M', b"kept"), vec![0], field(b'M', b"behind the end")].concat(),
+        [field(b'M', &[0xE2, 0x82]), field(b'C', &[0xFF, 0x41])].concat(),
+        [field(b'M', "Übersetzung fehlt".as_bytes()), field(b'C', b"P0001"), vec![0]].concat(),
+        vec![b'M'],
+        vec![b'M', b'M', 0, b'M'],
+    ];
+    for payload in cases {
+        v.error(&payload);
+    }
+    for _ in 0..150 {
+        let mut payload = Vec::new();
+        for _ in 0..draw.below(6) {
+            let letter = if draw.below(4) == 0 { draw.next() as u8 } else { *draw.pick(&LETTERS) };
+            let n = draw.below(9);
+            let value: Vec<u8> = (0..n).map(|_| draw.next() as u8).filter(|b| *b != 0).collect();
+            payload.extend(field(letter, &value));
+        }
+        match draw.below(3) {
+            0 => payload.push(0),
+            1 => payload.push(b'D'),
+            _ => {}
+        }
+        v.error(&payload);
+    }
+}
+
+fn auths(v: &mut Vectors, draw: &mut Draw) {
+    for n in 0..=9usize {
+        let payload: Vec<u8> = (0..n).map(|i| if i == 0 { 0x80 } else { i as u8 }).collect();
+        v.auth(&payload);
+    }
+    for code in [0i32, 3, 5, 10, 11, 12, -1, i32::MIN, i32::MAX, 1, 256, 65_536] {
+        v.auth(&code.to_be_bytes());
+        v.auth(&[&code.to_be_bytes()[..], b"SCRAM-SHA-256\0\0"].concat());
+    }
+    for _ in 0..40 {
+        let n = draw.below(12);
+        let payload: Vec<u8> = (0..n).map(|_| draw.next() as u8).collect();
+        v.auth(&payload);
+    }
+}
+
+fn name_lists(v: &mut Vectors, draw: &mut Draw) {
+    v.names(&[]);
+    v.names(&[b""]);
+    v.names(&[b"", b""]);
+    v.names(&[b"", b"", b""]);
+    v.names(&[b"'"]);
+    v.names(&[b"''", b"a'b"]);
+    v.names(&[b"captions"]);
+    v.names(&[b"captions_de", b"captions_pl", "captions_ελ".as_bytes()]);
+    v.names(&[b"a,b", b"c"]);
+    v.names(&[b"\0", b"\xFF'"]);
+    let pool: [&[u8]; 6] = [b"", b"a", b"'", b"it's", b",", b"''''"];
+    for _ in 0..60 {
+        let n = draw.below(5);
+        let names: Vec<&[u8]> = (0..n).map(|_| *draw.pick(&pool)).collect();
+        v.names(&names);
+    }
+}
+
+fn main() {
+    let args: Vec<String> = std::env::args().collect();
+    let mut v = Vectors { input: Vec::new(), lines: String::new(), counts: Default::default() };
+    let mut draw = Draw(0x5275_6666_6C65_2026);
+    positions(&mut v, &mut draw);
+    displays(&mut v, &mut draw);
+    lossy_texts(&mut v, &mut draw);
+    errors(&mut v, &mut draw);
+    auths(&mut v, &mut draw);
+    name_lists(&mut v, &mut draw);
+    // an unknown kind ends the program
+    v.input.extend([b'?', 0, 0, 0, 0, 0, 0, 0, 0, 0]);
+    v.lines.push_str("BAD\n");
+    std::fs::write(&args[1], &v.input).unwrap();
+    std::fs::write(&args[2], &v.lines).unwrap();
+    for (kind, n) in &v.counts {
+        eprintln!("{} {}", *kind as char, n);
+    }
+}
