@@ -1,0 +1,36 @@
+-- 32 bits fit 64.
+use mir.Syntax.{w32}
+use mir.ValLaws.{toZ-ofZ}
+use native.Mathlib.Omega.{arith}
+use borrow.Author.Needs.{needs}
+use Rattle.leaves.proofs.lines.signed.Statement.{statement}
+use Rattle.leaves.proofs.lines.signed.Tie as tie
+
+slice-aggregate-place : tie.Need-slice-aggregate-place
+slice-aggregate-place c = search needs
+
+place-requires : tie.Need-place-requires
+place-requires c κs = search needs
+
+cast-place-signed : tie.Need-cast-place-signed
+cast-place-signed c = rw (toZ-ofZ w32 (c .before .before .before .before .before .before .before .args .n) (c .before .before .before .before .before .before .before .fits .n)) (record { sfits = omega (arith, c .before .before .before .before .before .before .before .fits .n .sfits) })
+
+place-signed-requires : tie.Need-place-signed-requires
+place-signed-requires c κs = search needs
+
+same-length : tie.Need-same-length
+same-length c = search needs
+
+returns : tie.Need-returns
+returns c = search needs
+
+pub signed-spec : {M : Type 1} → statement M
+signed-spec =
+    tie.close
+    (tie.spec
+    slice-aggregate-place
+    place-requires
+    cast-place-signed
+    place-signed-requires
+    same-length
+    returns)
