@@ -40,6 +40,7 @@ abbrev pub shown : Part → List ℕ
 shown (well s) = s
 shown (ill s) = 0xEF ∷ 0xBF ∷ 0xBD ∷ []
 
+-- what the parts become, one behind the other
 unfoldable pub shownAll : List Part → List ℕ
 shownAll [] = []
 shownAll (p ∷ ps) = shown p ++ shownAll ps

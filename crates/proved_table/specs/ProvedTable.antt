@@ -29,6 +29,7 @@ pub record ProvedTable : Type 0 where
   -- ED A0 80 has three
   pub three-marks : lossyOf (0xED ∷ 0xA0 ∷ 0x80 ∷ []) ≡ mark (mark (mark []))
 
+-- each by computing the definitions
 pub proved-table : ProvedTable
 unfolding indexOf digitOf valueFrom hexDigits hexPart joined positionOf table rowOf matched partsOf shownAll lossyOf
 proved-table =
