@@ -1,0 +1,4 @@
+pub mod CutLaws
+pub mod Laws
+pub mod ReadBack
+pub mod StartupBack

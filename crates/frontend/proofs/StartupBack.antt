@@ -1,0 +1,124 @@
+-- A startup message that was written is read back: its length field counts all of it, and each String ends at its zero byte.
+use mathlib.Core.Path.{_≡_, refl, ap, _∙_}
+use mathlib.Core.List.{List, [], _∷_, _++_, append-assoc}
+use mathlib.Core.Option.{some}
+use Prim.Native.Nat.{ℕ, zero, suc, _+_, _*_, _-_, _≤_, _<_}
+use native.Mathlib.Nat.{not-suc-le-zero}
+use native.Mathlib.Numerals.{one-add}
+use native.Mathlib.Omega.{arith}
+use lib.ListN.{length, drop, length-append}
+use lib.Seq.{take-at, drop-at, take-append-seam, drop-append-seam, drop-append-add}
+use lib.IntN.{ℤ, pos, negsuc}
+use lib.Signed.{mag}
+use denote.Ref.{RefT, now}
+use borrow.Author.Tests.{le-ltb, lt-ltb, lt-leb, le-leb, ne-eqb}
+use Rattle.wire.specs.Bytes.{at, beBytes}
+use Rattle.wire.specs.Field.{fieldAt, signed, unsigned, signedOf}
+use Rattle.wire.specs.Find.{indexOf}
+use Rattle.wire.specs.declared.find.Found.the-variants.{At}
+use Rattle.wire.proofs.Laws.{length-beBytes}
+use Rattle.frontend.specs.Frontend.{pairs, startup}
+use Rattle.frontend.specs.Startup.{stringOf, pairsFrom, pairsOf, startupOf, paired, NoZero, Sendable}
+use Rattle.frontend.proofs.ReadBack.{be-back}
+
+-- ---- strings
+
+zero-at : (v t : List ℕ) → NoZero v → indexOf 0 (v ++ (0 ∷ t)) ≡ At (length v)
+unfolding indexOf
+zero-at [] t n = refl
+zero-at (b ∷ v) t n = simp (ne-eqb b 0 (n .0), zero-at v t (n .1), one-add)
+
+pub string-back : (v t : List ℕ) → NoZero v → stringOf (v ++ (0 ∷ t)) ≡ some (v, t)
+unfolding stringOf
+string-back v t n = rw (zero-at v t n, take-append-seam, drop-append-add)
+
+-- a name that is not empty, with its value
+pub pair-back : (n : ℕ) (name value t : List ℕ) (ps : List (List ℕ × List ℕ)) → NoZero name → (name ≡ [] → ⊥) → NoZero value → pairsFrom n t ≡ some ps
+    → pairsFrom (suc n) (name ++ (0 ∷ (value ++ (0 ∷ t)))) ≡ some ((name, value) ∷ ps)
+unfolding pairsFrom
+pair-back n [] value t ps a e b r = absurd (e refl)
+pair-back n (c ∷ name) value t ps a e b r = rw (string-back (c ∷ name) (value ++ (0 ∷ t)) a, string-back value t b, r)
+
+terminator-back : (n : ℕ) → pairsFrom (suc n) (0 ∷ []) ≡ some []
+unfolding pairsFrom stringOf indexOf
+terminator-back n = refl
+
+pairs-from : (n : ℕ) (texts : List (RefT (List ℕ))) → length texts < n → Sendable texts → pairsFrom n (pairs texts) ≡ some (paired texts)
+unfolding pairs
+pairs-from zero texts h s = absurd (not-suc-le-zero h)
+pairs-from (suc n) [] h s = terminator-back n
+pairs-from (suc zero) (name ∷ []) h s = absurd (omega arith)
+pairs-from (suc (suc n)) (name ∷ []) h s = pair-back (suc n) (now name) [] (0 ∷ []) [] (s .0) (s .1) tt (terminator-back n)
+pairs-from (suc n) (name ∷ value ∷ rest) h s =
+    pair-back n (now name) (now value) (pairs rest) (paired rest) (s .0) (s .1) (s .2) (pairs-from n rest (omega arith) (s .3))
+
+fewer : (texts : List (RefT (List ℕ))) → length texts < length (pairs texts)
+unfolding pairs
+fewer [] = omega arith
+fewer (name ∷ []) = simp length-append (omega arith)
+fewer (name ∷ value ∷ rest) = let f = fewer rest in simp length-append (omega arith)
+
+pub pairs-back : (texts : List (RefT (List ℕ))) → Sendable texts → pairsOf (pairs texts) ≡ some (paired texts)
+unfolding pairsOf
+pairs-back texts s = pairs-from (length (pairs texts)) texts (fewer texts) s
+
+-- ---- fields
+
+-- two's complement there and back
+pub signed-back : (half : ℕ) (z : ℤ) → mag z < half → signed half (unsigned half z) ≡ z
+unfolding signed unsigned
+signed-back half (pos k) h = simp (lt-ltb k half h)
+signed-back half (negsuc k) h = simp (le-ltb (half * 2 - 1 - k) half (omega arith)) (ap negsuc (omega arith))
+
+below : (half : ℕ) (z : ℤ) → mag z < half → unsigned half z < half * 2
+unfolding unsigned
+below half (pos k) h = omega arith
+below half (negsuc k) h = omega arith
+
+-- a field of four bytes behind i others
+field-at : (a t : List ℕ) (i v : ℕ) → length a ≡ i → v < 4294967296 → fieldAt 4 (a ++ (beBytes 4 v ++ t)) i ≡ some v
+unfolding fieldAt
+field-at a t i v e h =
+    let b : List ℕ = beBytes 4 v in
+    let l : length b ≡ 4 = length-beBytes 4 v in
+    let n : length (a ++ (b ++ t)) ≡ i + 4 + length t = simp length-append (omega arith) in
+    let p : i + 4 ≤ length (a ++ (b ++ t)) = omega arith in
+    let s : at (a ++ (b ++ t)) i 4 ≡ b = rw (drop-at a (b ++ t) i e) (take-at b t 4 l) in
+    rw (s, be-back 4 v h) (simp (le-leb _ _ p))
+
+-- ---- the message
+
+module _ (version : ℤ) (texts : List (RefT (List ℕ))) where
+  -- the length field counts the whole message
+  pub length-back : (rest : List ℕ) → length (startup version texts) < 4294967296 → fieldAt 4 (startup version texts ++ rest) 0 ≡ some (length (startup version texts))
+  unfolding startup
+  length-back rest h =
+      let b : List ℕ = beBytes 4 (unsigned 2147483648 version) ++ pairs texts in
+      let n : length (startup version texts) ≡ length b + 4 = length-append (beBytes 4 (length b + 4)) b ∙ omega (arith, length-beBytes 4 (length b + 4)) in
+      rw (append-assoc (beBytes 4 (length b + 4)) b rest, n) (field-at [] (b ++ rest) 0 (length b + 4) refl (omega arith))
+
+  version-back : mag version < 2147483648 → signedOf 2147483648 (fieldAt 4 (startup version texts) 4) ≡ some version
+  unfolding startup
+  version-back h =
+      let b : List ℕ = beBytes 4 (unsigned 2147483648 version) ++ pairs texts in
+      let f = field-at (beBytes 4 (length b + 4)) (pairs texts) 4 (unsigned 2147483648 version) (length-beBytes 4 (length b + 4)) (below 2147483648 version h) in
+      rw f (ap some (signed-back 2147483648 version h))
+
+  texts-behind : drop 8 (startup version texts) ≡ pairs texts
+  unfolding startup
+  texts-behind =
+      let v : List ℕ = beBytes 4 (unsigned 2147483648 version) in
+      let l : List ℕ = beBytes 4 (length (v ++ pairs texts) + 4) in
+      let n : length (l ++ v) ≡ 8 = simp (length-append, length-beBytes) in
+      rw (← append-assoc l v (pairs texts)) (drop-at (l ++ v) (pairs texts) 8 n)
+
+  -- a startup message of texts without zero bytes and of names that are not empty is read back, with the bytes behind it
+  pub startup-back : (rest : List ℕ) → mag version < 2147483648 → Sendable texts → length (startup version texts) < 2147483648
+      → startupOf (startup version texts ++ rest) ≡ some (record { version = version; parameters = paired texts; rest = rest })
+  unfolding startupOf
+  startup-back rest h s k =
+      let m : List ℕ = startup version texts in
+      let n : length m ≤ length (m ++ rest) = omega (arith, length-append m rest) in
+      rw (length-back rest (omega arith))
+      (simp (lt-leb 2147483648 (length m) k, le-ltb (length (m ++ rest)) (length m) n)
+      (rw (take-append-seam m rest, drop-append-seam m rest, version-back h, texts-behind, pairs-back texts s)))

@@ -1,0 +1,53 @@
+-- The header, and the body behind it.
+use mir.Syntax.{w64}
+use mir.ValLaws.{toZ-ofZ}
+use Rattle.frontend.proofs.Laws.{stands-first, stands-next, written, length-header, framed-header, length-framed, length-status}
+use Rattle.error.proofs.Laws.{no-room}
+use Rattle.stream.specs.Message.{framed}
+use Rattle.frontend.specs.Frontend.{copyData, statusBody, statusUpdate}
+use Rattle.frontend.specs.Code.{header}
+use Prim.Native.Nat.{ℕ, _≤_}
+use mathlib.Core.Path.{_≡_, _∙_}
+use mathlib.Core.List.{List, _++_}
+use native.Mathlib.Omega.{arith}
+use lib.ListN.{length}
+use borrow.Author.Needs.{needs}
+use Rattle.frontend.proofs.write_status_update.Statement.{statement}
+use Rattle.frontend.proofs.write_status_update.Tie as tie
+
+returns : tie.Need-returns
+unfolding statusUpdate copyData
+returns c =
+    let a = c .before .before .args in
+    let l = length-status (a .position .0) (a .client-time) (a .reply) in
+    no-room 0 (statusUpdate (a .position .0) (a .client-time) (a .reply)) (a .out .now) (omega arith) (omega (arith, l, length-framed 100 (statusBody (a .position .0) (a .client-time) (a .reply))))
+
+place-header-requires : tie.Need-place-header-requires
+place-header-requires c κs = search needs
+
+place-status-requires : tie.Need-place-status-requires
+place-status-requires c κs =
+    let s = stands-first (length-header 100 34) (omega arith) (c .before .before .before .place-header .ensures) in
+    omega (arith, s .place, c .before .before .before .place-header .kept .0, c .before .before .before .before .before .if1 .left)
+
+same-length : tie.Need-same-length
+same-length c = search needs
+
+returns-2 : tie.Need-returns-2
+unfolding statusUpdate copyData
+returns-2 c =
+    let p = c .before .before .before .before .before .before in
+    let i = p .before .before in
+    let s = i .before .before in
+    let a = s .args in
+    let b : List ℕ = statusBody (a .position .0) (a .client-time) (a .reply) in
+    let l : length b ≡ 34 = length-status (a .position .0) (a .client-time) (a .reply) in
+    let h : 39 ≤ length (a .out .now) = omega (arith, i .if1 .left) in
+    let w = stands-first (length-header 100 34) (omega arith) (p .place-header .ensures) in
+    let w′ = stands-next b 34 w l (omega arith) (rw (toZ-ofZ w64 (a .client-time) (s .fits .client-time)) at (c .before .before .place-status .ensures)) in
+    let e : framed 100 b ≡ header 100 34 ++ b = framed-header 100 b ∙ rw l in
+    rw e (written (omega arith) h w′)
+
+pub write-status-update-spec : {M : Type 1} → statement M
+write-status-update-spec =
+    tie.close (tie.spec returns place-header-requires place-status-requires same-length returns-2)

@@ -1,0 +1,62 @@
+-- The messages that a client sends: PostgreSQL documentation, "Message Formats" (Query, CopyData, CopyDone, Terminate, StartupMessage), and
+-- "Streaming Replication Protocol" (Standby status update). A String ends in a zero byte.
+use Prim.Native.Nat.{ℕ, _+_}
+use mathlib.Core.Bool.{Bool, true, false}
+use mathlib.Core.List.{List, [], _∷_, _++_}
+use lib.ListN.{length}
+use lib.IntN.{ℤ}
+use denote.Ref.{RefT, now}
+use Rattle.wire.specs.Bytes.{beBytes}
+use Rattle.wire.specs.Field.{unsigned}
+use Rattle.stream.specs.Message.{framed}
+
+-- Query: Byte1('Q'), Int32, String
+unfoldable pub query : List ℕ → List ℕ
+query text = framed 81 (text ++ (0 ∷ []))
+
+-- CopyData: Byte1('d'), Int32, Byten
+unfoldable pub copyData : List ℕ → List ℕ
+copyData payload = framed 100 payload
+
+-- CopyDone: Byte1('c'), Int32(4)
+unfoldable pub copyDone : List ℕ
+copyDone = framed 99 []
+
+-- Terminate: Byte1('X'), Int32(4)
+unfoldable pub terminate : List ℕ
+terminate = framed 88 []
+
+abbrev pub flag : Bool → ℕ
+flag true = 1
+flag false = 0
+
+-- Standby status update: Byte1('r'), Int64 written, Int64 flushed, Int64 applied, Int64 client time, Byte1 reply. Document 01: the position
+-- three times
+unfoldable pub statusBody : ℕ → ℤ → Bool → List ℕ
+statusBody position time reply =
+    114 ∷ (beBytes 8 position
+    ++ (beBytes 8 position
+    ++ (beBytes 8 position
+    ++ (beBytes 8 (unsigned 9223372036854775808 time)
+    ++ (flag reply ∷ [])))))
+
+-- the whole message: the body in a CopyData
+unfoldable pub statusUpdate : ℕ → ℤ → Bool → List ℕ
+statusUpdate position time reply = copyData (statusBody position time reply)
+
+-- names and values in turn, a zero byte behind the last pair. A name without a value has the empty one
+unfoldable pub pairs : List (RefT (List ℕ)) → List ℕ
+pairs [] = 0 ∷ []
+pairs (name ∷ []) = now name ++ (0 ∷ 0 ∷ 0 ∷ [])
+pairs (name ∷ value ∷ rest) = now name ++ (0 ∷ (now value ++ (0 ∷ pairs rest)))
+
+-- StartupMessage: Int32 length counting itself, Int32 version, pairs; it has no tag
+unfoldable pub startup : ℤ → List (RefT (List ℕ)) → List ℕ
+startup version texts =
+    let body : List ℕ = beBytes 4 (unsigned 2147483648 version) ++ pairs texts in
+    beBytes 4 (length body + 4) ++ body
+
+-- the bytes of all texts together
+unfoldable pub total : List (RefT (List ℕ)) → ℕ
+total [] = 0
+total (t ∷ ts) = length (now t) + total ts

@@ -1,0 +1,1 @@
+// Definitions and theorems alone: a stream of bytes cut into messages.
