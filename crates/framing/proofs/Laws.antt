@@ -9,9 +9,7 @@ use lib.ListN.{length, getD, take, drop, length-take, length-drop}
 use lib.Seq.{take-all}
 use lib.Dec.{ltb, leb}
 use borrow.Author.Tests.{le-leb, lt-leb, lt-ltb, le-ltb}
-use mathlib.Core.Option.{Option, some, none}
-use Rattle.wire.specs.Bytes.{pick, put, copied, be, at}
-use Rattle.wire.specs.Field.{fieldAt}
+use Rattle.wire.specs.Bytes.{pick, put, copied}
 use Rattle.stream.specs.Message.{lengthField}
 use Rattle.framing.specs.declared.MessageReader.{MessageReader}
 use Rattle.framing.specs.Read.{Said, whole, refused, fresh, shut, at-byte, Result, later, unfinished, payloadOf, judgedOf, headerOf}
@@ -105,20 +103,3 @@ judged-taken limit h u p =
     let n : ℕ = lengthField h in
     let z : 0 ≤ length u = omega arith in
     pick-both P (leb 2147483648 n) _ _ z (pick-both P (ltb n 4) _ _ z (pick-both P (ltb limit (n - 4)) _ _ z (payload-taken (at-byte h 5 (n - 4)) u false p)))
-
--- ---- a field that is there
-
-pub field-value : (n : ℕ) (s : List ℕ) (i v : ℕ) → some v ≡ fieldAt n s i → v ≡ be (at s i n)
-unfolding fieldAt
-field-value n s i v e = by (leb (i + n) (length s)) e
-  where
-    by : (t : Bool) → some v ≡ pick t (some (be (at s i n))) none → v ≡ be (at s i n)
-    by true q = cc
-    by false q = let z : _≡_ {A = ℕ} 0 1 = cc in absurd (omega arith)
-
-pub field-there : (n : ℕ) (s : List ℕ) (i : ℕ) → i + n ≤ length s → none ≡ fieldAt n s i → ⊥
-unfolding fieldAt
-field-there n s i h e =
-    let q : _≡_ {A = Option ℕ} none (some (be (at s i n))) = simp (le-leb _ _ h) at e in
-    let z : _≡_ {A = ℕ} 0 1 = cc in
-    omega arith

@@ -1,4 +1,3 @@
-pub mod CutLaws
 pub mod Laws
 pub mod ReadBack
 pub mod StartupBack

@@ -2,29 +2,20 @@
 use mathlib.Core.Path.{_≡_, refl, sym, _∙_}
 use mathlib.Core.List.{List, [], _∷_, _++_, append-assoc}
 use mathlib.Core.Bool.{Bool}
-use Prim.Native.Nat.{ℕ, zero, suc, _+_, _*_, _-_, _/_, _%_, _^_, _≤_, _<_}
-use native.Mathlib.Nat.{pow-suc}
+use Prim.Native.Nat.{ℕ, _+_, _-_, _≤_, _<_}
 use native.Mathlib.Omega.{arith}
 use lib.ListN.{length, drop, getD, length-append}
 use lib.Seq.{take-at, drop-at, take-append-seam, drop-append-seam, drop-drop}
 use lib.IntN.{ℤ}
 use borrow.Author.Tests.{le-ltb, lt-leb}
-use Rattle.wire.specs.Bytes.{at, be, beFrom, beBytes}
-use Rattle.wire.proofs.Laws.{be-snoc, length-beBytes}
+use Rattle.wire.specs.Bytes.{at, beBytes}
+use Rattle.wire.proofs.Laws.{length-beBytes}
 use Rattle.stream.specs.Message.{framed, frontOf, lengthField, whole}
 use Rattle.stream.specs.Cut.{behind, message, cutOf}
 use Rattle.frontend.specs.Frontend.{query, copyData, copyDone, terminate, statusBody, statusUpdate}
 use Rattle.frontend.proofs.Laws.{length-framed, length-status}
-use Rattle.frontend.proofs.CutLaws.{cut-step}
-
--- a number that fits n bytes is what they spell
-pub be-back : (n v : ℕ) → v < 256 ^ n → be (beBytes n v) ≡ v
-unfolding beBytes be beFrom
-be-back zero v h = omega arith
-be-back (suc n) v h =
-    let k : v < 256 ^ n * 256 = rw pow-suc at h in
-    let b : be (beBytes n (v / 256)) ≡ v / 256 = be-back n (v / 256) (omega arith) in
-    be-snoc (beBytes n (v / 256)) (v % 256) ∙ omega arith
+use Rattle.stream.proofs.Laws.{cut-next}
+use Rattle.wire.proofs.FieldLaws.{be-beBytes}
 
 module _ (tag : ℕ) (payload rest : List ℕ) where
   field-back : length payload + 4 < 2147483648 → lengthField (framed tag payload ++ rest) ≡ length payload + 4
@@ -32,7 +23,7 @@ module _ (tag : ℕ) (payload rest : List ℕ) where
   field-back h =
       let b : List ℕ = beBytes 4 (length payload + 4) in
       let e : at (framed tag payload ++ rest) 1 4 ≡ b = rw (append-assoc b payload rest) (take-at b (payload ++ rest) 4 (length-beBytes 4 (length payload + 4))) in
-      rw e (be-back 4 (length payload + 4) (omega arith))
+      rw e (be-beBytes 4 (length payload + 4) (omega arith))
 
   tag-back : getD (framed tag payload ++ rest) 0 0 ≡ tag
   unfolding framed
@@ -66,7 +57,7 @@ framed-back limit tag payload rest h k =
     let b : drop 5 s ≡ payload ++ rest = payload-back tag payload rest in
     let p : at s 5 (length payload) ≡ payload = rw b (take-append-seam payload rest) in
     let r : drop (5 + length payload) s ≡ rest = sym (drop-drop (length payload) 5 s) ∙ rw b (drop-append-seam payload rest) in
-    cut-step limit s ∙ rw (front-back tag payload rest limit h k, p, r)
+    cut-next limit s ∙ rw (front-back tag payload rest limit h k, p, r)
 
 -- ---- each message, with any bytes behind it
 

@@ -2,7 +2,7 @@
 use mathlib.Core.Path.{_≡_, refl, ap, _∙_}
 use mathlib.Core.List.{List, [], _∷_, _++_, append-assoc}
 use mathlib.Core.Option.{some}
-use Prim.Native.Nat.{ℕ, zero, suc, _+_, _*_, _-_, _≤_, _<_}
+use Prim.Native.Nat.{ℕ, zero, suc, _+_, _*_, _≤_, _<_}
 use native.Mathlib.Nat.{not-suc-le-zero}
 use native.Mathlib.Numerals.{one-add}
 use native.Mathlib.Omega.{arith}
@@ -11,15 +11,15 @@ use lib.Seq.{take-at, drop-at, take-append-seam, drop-append-seam, drop-append-a
 use lib.IntN.{ℤ, pos, negsuc}
 use lib.Signed.{mag}
 use denote.Ref.{RefT, now}
-use borrow.Author.Tests.{le-ltb, lt-ltb, lt-leb, le-leb, ne-eqb}
+use borrow.Author.Tests.{le-ltb, lt-leb, le-leb, ne-eqb}
 use Rattle.wire.specs.Bytes.{at, beBytes}
-use Rattle.wire.specs.Field.{fieldAt, signed, unsigned, signedOf}
+use Rattle.wire.specs.Field.{fieldAt, unsigned, signedOf}
 use Rattle.wire.specs.Find.{indexOf}
 use Rattle.wire.specs.declared.find.Found.the-variants.{At}
 use Rattle.wire.proofs.Laws.{length-beBytes}
 use Rattle.frontend.specs.Frontend.{pairs, startup}
 use Rattle.frontend.specs.Startup.{stringOf, pairsFrom, pairsOf, startupOf, paired, NoZero, Sendable}
-use Rattle.frontend.proofs.ReadBack.{be-back}
+use Rattle.wire.proofs.FieldLaws.{be-beBytes, signed-unsigned}
 
 -- ---- strings
 
@@ -64,12 +64,6 @@ pairs-back texts s = pairs-from (length (pairs texts)) texts (fewer texts) s
 
 -- ---- fields
 
--- two's complement there and back
-pub signed-back : (half : ℕ) (z : ℤ) → mag z < half → signed half (unsigned half z) ≡ z
-unfolding signed unsigned
-signed-back half (pos k) h = simp (lt-ltb k half h)
-signed-back half (negsuc k) h = simp (le-ltb (half * 2 - 1 - k) half (omega arith)) (ap negsuc (omega arith))
-
 below : (half : ℕ) (z : ℤ) → mag z < half → unsigned half z < half * 2
 unfolding unsigned
 below half (pos k) h = omega arith
@@ -84,7 +78,7 @@ field-at a t i v e h =
     let n : length (a ++ (b ++ t)) ≡ i + 4 + length t = simp length-append (omega arith) in
     let p : i + 4 ≤ length (a ++ (b ++ t)) = omega arith in
     let s : at (a ++ (b ++ t)) i 4 ≡ b = rw (drop-at a (b ++ t) i e) (take-at b t 4 l) in
-    rw (s, be-back 4 v h) (simp (le-leb _ _ p))
+    rw (s, be-beBytes 4 v h) (simp (le-leb _ _ p))
 
 -- ---- the message
 
@@ -102,7 +96,7 @@ module _ (version : ℤ) (texts : List (RefT (List ℕ))) where
   version-back h =
       let b : List ℕ = beBytes 4 (unsigned 2147483648 version) ++ pairs texts in
       let f = field-at (beBytes 4 (length b + 4)) (pairs texts) 4 (unsigned 2147483648 version) (length-beBytes 4 (length b + 4)) (below 2147483648 version h) in
-      rw f (ap some (signed-back 2147483648 version h))
+      rw f (ap some (signed-unsigned 2147483648 version h))
 
   texts-behind : drop 8 (startup version texts) ≡ pairs texts
   unfolding startup

@@ -1,5 +1,9 @@
 -- Four bytes stand behind the tag.
-use Rattle.framing.proofs.Laws.{field-value, field-there}
+use mathlib.Core.Path.{_≡_, _∙_}
+use mathlib.Core.Option.{Option, some, none}
+use Prim.Native.Nat.{ℕ}
+use Rattle.stream.specs.Message.{lengthField}
+use Rattle.wire.proofs.FieldLaws.{field-whole}
 use native.Mathlib.Omega.{arith}
 use borrow.Author.Needs.{needs}
 use Rattle.framing.proofs.length_of.Statement.{statement}
@@ -15,10 +19,19 @@ enum-told : tie.Need-enum-told
 enum-told c = search needs
 
 returns : tie.Need-returns
-returns c = field-value 4 (c .before .before .before .before .before .args .header .now) 1 _ (rw (c .before .v .given .1) at (c .before .before .before .read-u32 .ensures))
+returns c =
+    let h = c .before .before .before .before .before .args .header .now in
+    let e : some (c .before .v .given .0 .0) ≡ some (lengthField h) =
+    (rw (c .before .v .given .1) at (c .before .before .before .read-u32 .ensures)) ∙ field-whole 4 h 1 (omega arith) in
+    cc
 
 returns-2 : tie.Need-returns-2
-returns-2 c = absurd (field-there 4 (c .before .before .before .before .args .header .now) 1 (omega arith) (rw (c .enum-told .given .1) at (c .before .before .read-u32 .ensures)))
+returns-2 c =
+    let h = c .before .before .before .before .args .header .now in
+    let e : _≡_ {A = Option ℕ} none (some (lengthField h)) =
+    (rw (c .enum-told .given .1) at (c .before .before .read-u32 .ensures)) ∙ field-whole 4 h 1 (omega arith) in
+    let z : _≡_ {A = ℕ} 0 1 = cc e in
+    absurd (omega arith)
 
 pub length-of-spec : {M : Type 1} → statement M
 length-of-spec = tie.close (tie.spec read-u32-requires enum-known-v enum-told returns returns-2)

@@ -1,0 +1,3 @@
+pub mod Laws
+pub mod RowLayout
+pub mod Play

@@ -1,0 +1,238 @@
+-- The walk over the columns and the layout, place by place: what stands at a place is how the rest of the payload is laid out.
+use mathlib.Core.Path.{_≡_, refl, sym, ap, _∙_}
+use mathlib.Core.Bool.{Bool, true, false}
+use mathlib.Core.List.{List, [], _∷_, _++_, map, map-map, append-assoc}
+use mathlib.Core.Logic.{inl, inr, ⊎-elim}
+use mathlib.Core.Option.{Option, some, none}
+use Prim.Native.Nat.{ℕ, zero, suc, _+_, _-_, _≤_, _<_}
+use native.Mathlib.Omega.{arith}
+use lib.ListN.{length, drop, length-append, length-take, length-drop, length-map, take-append-drop}
+use lib.Seq.{drop-drop, take-append-seam, drop-append-seam}
+use lib.Dec.{ltb, leb}
+use lib.Pow.{areBytes}
+use borrow.Author.Tests.{le-leb, lt-leb, le-ltb, leb-true, leb-false, ltb-false}
+use Rattle.wire.specs.Bytes.{pick, at, be, beBytes}
+use Rattle.wire.specs.Field.{fieldAt}
+use Rattle.wire.proofs.FieldLaws.{field-read, part-bytes, part-there}
+use Rattle.query.specs.Row.{columnBy, columnAt, also, andThen, columnsFrom, rowBy, rowOf, nth, columnOf}
+use Rattle.query.specs.RowLayout.{Cell, null, value, cellBytes, cellsBytes, Sendable, AllSendable, Laid, Told, bytes, told, toldBy, readOf, meant, cellOf, rowBytes, Short, Laid-is-read, Read-is-laid, Sent-is-read, Part-is-within}
+use Rattle.query.specs.declared.Column.{Column}
+use Rattle.query.specs.declared.Column.the-variants.{Null, Part, Absent}
+
+-- ---- from the layout to the walk
+
+null-read : (n : ℕ) (s : List ℕ) (i : ℕ) (t : List ℕ) → Sendable (null n) → drop i s ≡ beBytes 4 n ++ t → (columnAt s i ≡ some (Null, i + 4)) × (drop (i + 4) s ≡ t)
+unfolding columnAt
+null-read n s i t h e =
+    let f = field-read 4 s i n t (omega arith) (h .1) e in
+    (rw (f .0) (simp (le-leb _ _ (h .0))), f .1)
+
+value-read : (v s : List ℕ) (i : ℕ) (t : List ℕ) → Sendable (value v) → drop i s ≡ beBytes 4 (length v) ++ (v ++ t)
+    → (columnAt s i ≡ some (Part (i + 4) (length v), i + 4 + length v)) × (at s (i + 4) (length v) ≡ v) × (drop (i + 4 + length v) s ≡ t)
+unfolding columnAt
+value-read v s i t h e =
+    let f = field-read 4 s i (length v) (v ++ t) (omega arith) (omega arith) e in
+    let l : length s - (i + 4) ≡ length v + length t = sym (length-drop (i + 4) s) ∙ (ap length (f .1) ∙ length-append v t) in
+    let g : length v ≤ length s - (i + 4) = omega arith in
+    let d : drop (i + 4 + length v) s ≡ t = sym (drop-drop (length v) (i + 4) s) ∙ rw (f .1) (drop-append-seam v t) in
+    (rw (f .0) (simp (lt-leb _ _ h, le-ltb _ _ g)), rw (f .1) (take-append-seam v t), d)
+
+told-also : (s : List ℕ) (c : Column) (r : Option (List Column)) (ts : List Told) → toldBy s r ≡ some ts → toldBy s (also c r) ≡ some (told s c ∷ ts)
+told-also s c none ts e = let z : _≡_ {A = ℕ} 0 1 = cc in absurd (omega arith)
+told-also s c (some cs) ts e = let f : map (told s) cs ≡ ts = cc in rw f
+
+cells-read : (cells : List Cell) (s : List ℕ) (i : ℕ) (rest : List ℕ) → AllSendable cells → drop i s ≡ cellsBytes cells ++ rest
+    → toldBy s (columnsFrom (length cells) s i) ≡ some (map meant cells)
+unfolding columnsFrom cellsBytes cellBytes
+cells-read [] s i rest h e = refl
+cells-read (null n ∷ cells) s i rest h e =
+    let w = null-read n s i (cellsBytes cells ++ rest) (h .0) (e ∙ simp append-assoc) in
+    rw (w .0) (told-also s Null (columnsFrom (length cells) s (i + 4)) (map meant cells) (cells-read cells s (i + 4) rest (h .1) (w .1)))
+cells-read (value v ∷ cells) s i rest h e =
+    let w = value-read v s i (cellsBytes cells ++ rest) (h .0) (e ∙ simp append-assoc) in
+    let k : ℕ = i + 4 + length v in
+    rw (w .0)
+    (told-also s (Part (i + 4) (length v)) (columnsFrom (length cells) s k) (map meant cells) (cells-read cells s k rest (h .1) (w .2))
+    ∙ ap (λ (b : List ℕ). some (bytes b ∷ map meant cells)) (w .1))
+
+pub laid-is-read : Laid-is-read
+unfolding readOf rowOf
+laid-is-read payload cells r =
+    let n : r .count < 65536 = ⊎-elim (λ h. omega arith) (λ h. h .1) (r .counts) in
+    let f = field-read 2 payload 0 (r .count) (cellsBytes cells ++ r .rest) (omega arith) n (r .whole) in
+    ⊎-elim
+    (λ h. rw (f .0) (simp (lt-leb _ _ (h .1)) (rw (h .0) (cells-read cells payload 2 (r .rest) (r .sendable) (f .1)))))
+    (λ h. rw (f .0, h .2) (simp (le-leb _ _ (h .0))))
+    (r .counts)
+
+all-sendable : (vs : List (Option (List ℕ))) → Short vs → AllSendable (map cellOf vs)
+all-sendable [] h = tt
+all-sendable (none ∷ vs) h = (omega arith, all-sendable vs h)
+all-sendable (some v ∷ vs) h = (h .0, all-sendable vs (h .1))
+
+pub sent-is-read : Sent-is-read
+unfolding rowBytes
+sent-is-read vs surplus n h =
+    laid-is-read (rowBytes vs ++ surplus) (map cellOf vs)
+    (record {
+      count = length vs;
+      counts = inl (sym (length-map vs cellOf), n);
+      sendable = all-sendable vs h;
+      rest = surplus;
+      whole = simp append-assoc;
+    })
+    ∙ ap some (map-map meant cellOf vs)
+
+-- ---- from the walk to the layout
+
+-- what stands at a place
+data Stands (s : List ℕ) (i : ℕ) : Option (Column × ℕ) → Type 0 where
+  cut : Stands s i none
+  a-null : i + 4 ≤ length s → 2147483648 ≤ be (at s i 4) → Stands s i (some (Null, i + 4))
+  a-value : be (at s i 4) < 2147483648 → i + 4 + be (at s i 4) ≤ length s → Stands s i (some (Part (i + 4) (be (at s i 4)), i + 4 + be (at s i 4)))
+
+stands : (s : List ℕ) (i : ℕ) → Stands s i (columnAt s i)
+unfolding columnAt fieldAt
+stands s i = there (leb (i + 4) (length s)) refl
+  where
+    n : ℕ
+    n = be (at s i 4)
+
+    room : (t : Bool) → ltb (length s - (i + 4)) n ≡ t → i + 4 ≤ length s → n < 2147483648 → Stands s i (pick t none (some (Part (i + 4) n, i + 4 + n)))
+    room true q h a = cut
+    room false q h a = let k : n ≤ length s - (i + 4) = ltb-false _ _ q in a-value a (omega arith)
+
+    sign : (t : Bool) → leb 2147483648 n ≡ t → i + 4 ≤ length s → Stands s i (pick t (some (Null, i + 4)) (pick (ltb (length s - (i + 4)) n) none (some (Part (i + 4) n, i + 4 + n))))
+    sign true q h = a-null h (leb-true _ _ q)
+    sign false q h = room (ltb (length s - (i + 4)) n) refl h (leb-false _ _ q)
+
+    there : (t : Bool) → leb (i + 4) (length s) ≡ t → Stands s i (columnBy (length s) i (pick t (some n) none))
+    there true q = sign (leb 2147483648 n) refl (leb-true _ _ q)
+    there false q = cut
+
+-- bytes that begin with n columns, which say these things
+record Begins (n : ℕ) (t : List ℕ) (ts : List Told) : Type 0 where
+  cells : List Cell
+  count : length cells ≡ n
+  sendable : AllSendable cells
+  rest : List ℕ
+  whole : t ≡ cellsBytes cells ++ rest
+  same : map meant cells ≡ ts
+
+one-more : (c : Cell) (n : ℕ) (u t : List ℕ) (ts : List Told) → Sendable c → u ≡ cellBytes c ++ t → Begins n t ts → Begins (suc n) u (meant c ∷ ts)
+unfolding cellsBytes
+one-more c n u t ts h e r =
+    record {
+      cells = c ∷ r .cells;
+      count = ap suc (r .count);
+      sendable = (h, r .sendable);
+      rest = r .rest;
+      whole = e ∙ rw (r .whole) (simp append-assoc);
+      same = ap (λ (l : List Told). meant c ∷ l) (r .same);
+    }
+
+also-some : (c : Column) (r : Option (List Column)) (cs : List Column) → also c r ≡ some cs → (ds : List Column) × (r ≡ some ds) × (cs ≡ c ∷ ds)
+also-some c none cs e = let z : _≡_ {A = ℕ} 0 1 = cc in absurd (omega arith)
+also-some c (some ds) cs e = (ds, refl, (cc))
+
+-- at a column: its bytes, and what the walk reads behind it
+column-laid : (n : ℕ) (s : List ℕ) (i : ℕ) (r : Option (Column × ℕ)) (go : ℕ → Option (List Column)) (cs : List Column) → areBytes s ≡ true → Stands s i r → andThen r go ≡ some cs
+    → ((k : ℕ) (ds : List Column) → go k ≡ some ds → Begins n (drop k s) (map (told s) ds)) → Begins (suc n) (drop i s) (map (told s) cs)
+unfolding cellBytes
+column-laid n s i r go cs b cut e more = let z : _≡_ {A = ℕ} 0 1 = cc in absurd (omega arith)
+column-laid n s i r go cs b (a-null h a) e more =
+    let w = also-some Null (go (i + 4)) cs e in
+    rw (w .2) (one-more (null (be (at s i 4))) n (drop i s) (drop (i + 4) s) (map (told s) (w .0)) (a, part-bytes s i 4 b h .1) (part-there 4 s i b h) (more (i + 4) (w .0) (w .1)))
+column-laid n s i r go cs b (a-value a h) e more =
+    let len : ℕ = be (at s i 4) in
+    let v : List ℕ = at s (i + 4) len in
+    let k : ℕ = i + 4 + len in
+    let w = also-some (Part (i + 4) len) (go k) cs e in
+    let l : length v ≡ len = simp (length-take, length-drop) (omega arith) in
+    let d : drop (i + 4) s ≡ v ++ drop k s = rw (← drop-drop len (i + 4) s) (sym (take-append-drop len (drop (i + 4) s))) in
+    let c : drop i s ≡ cellBytes (value v) ++ drop k s = part-there 4 s i b (omega arith) ∙ (ap (λ (x : List ℕ). beBytes 4 len ++ x) d ∙ rw l (sym (append-assoc (beBytes 4 len) v (drop k s)))) in
+    rw (w .2) (one-more (value v) n (drop i s) (drop k s) (map (told s) (w .0)) (rw l a) c (more k (w .0) (w .1)))
+
+walk-laid : (n : ℕ) (s : List ℕ) (i : ℕ) (cs : List Column) → areBytes s ≡ true → columnsFrom n s i ≡ some cs → Begins n (drop i s) (map (told s) cs)
+unfolding columnsFrom cellsBytes
+walk-laid zero s i cs b e =
+    let z : cs ≡ [] = cc in
+    rw z (record { cells = []; count = refl; sendable = tt; rest = drop i s; whole = refl; same = refl })
+walk-laid (suc n) s i cs b e = column-laid n s i (columnAt s i) (λ k. columnsFrom n s k) cs b (stands s i) e (λ k ds. walk-laid n s k ds b)
+
+told-some : (s : List ℕ) (r : Option (List Column)) (ts : List Told) → toldBy s r ≡ some ts → (cs : List Column) × (r ≡ some cs) × (map (told s) cs ≡ ts)
+told-some s none ts e = let z : _≡_ {A = ℕ} 0 1 = cc in absurd (omega arith)
+told-some s (some cs) ts e = (cs, refl, (cc))
+
+pub read-is-laid : Read-is-laid
+unfolding readOf rowOf fieldAt cellsBytes
+read-is-laid payload ts b e = there (leb 2 (length payload)) refl e
+  where
+    n : ℕ
+    n = be (at payload 0 2)
+
+    sign : (t : Bool) → leb 32768 n ≡ t → 2 ≤ length payload → toldBy payload (pick t (some []) (columnsFrom n payload 2)) ≡ some ts
+        → (cells : List Cell) × Laid payload cells × (map meant cells ≡ ts)
+    sign true q h p =
+        ([], record { count = n; counts = inr (leb-true 32768 n q, part-bytes payload 0 2 b h .1, refl); sendable = tt; rest = drop 2 payload; whole = part-there 2 payload 0 b h }, (cc))
+    sign false q h p =
+        let w = told-some payload (columnsFrom n payload 2) ts p in
+        let r = walk-laid n payload 2 (w .0) b (w .1) in
+        let x : payload ≡ beBytes 2 n ++ (cellsBytes (r .cells) ++ r .rest) = part-there 2 payload 0 b h ∙ ap (λ (l : List ℕ). beBytes 2 n ++ l) (r .whole) in
+        (r .cells, record { count = n; counts = inl (sym (r .count), leb-false 32768 n q); sendable = r .sendable; rest = r .rest; whole = x }, r .same ∙ w .2)
+
+    there : (t : Bool) → leb 2 (length payload) ≡ t → toldBy payload (rowBy payload (pick t (some n) none)) ≡ some ts
+        → (cells : List Cell) × Laid payload cells × (map meant cells ≡ ts)
+    there true q p = sign (leb 32768 n) refl (leb-true 2 (length payload) q) p
+    there false q p = let z : _≡_ {A = ℕ} 0 1 = cc in absurd (omega arith)
+
+-- ---- a part stands in the payload
+
+abbrev Within : List ℕ → Column → Type 0
+Within s Null = Unit
+Within s (Part from len) = from + len ≤ length s
+Within s Absent = Unit
+
+abbrev AllWithin : List ℕ → List Column → Type 0
+AllWithin s [] = Unit
+AllWithin s (c ∷ cs) = Within s c × AllWithin s cs
+
+abbrev RowWithin : List ℕ → Option (List Column) → Type 0
+RowWithin s none = Unit
+RowWithin s (some cs) = AllWithin s cs
+
+also-within : (s : List ℕ) (c : Column) (r : Option (List Column)) → Within s c → RowWithin s r → RowWithin s (also c r)
+also-within s c none h k = tt
+also-within s c (some cs) h k = (h, k)
+
+column-within : (s : List ℕ) (i : ℕ) (r : Option (Column × ℕ)) (go : ℕ → Option (List Column)) → Stands s i r → ((k : ℕ) → RowWithin s (go k)) → RowWithin s (andThen r go)
+column-within s i r go cut more = tt
+column-within s i r go (a-null h a) more = also-within s Null (go (i + 4)) tt (more (i + 4))
+column-within s i r go (a-value a h) more = also-within s (Part (i + 4) (be (at s i 4))) (go (i + 4 + be (at s i 4))) h (more (i + 4 + be (at s i 4)))
+
+walk-within : (n : ℕ) (s : List ℕ) (i : ℕ) → RowWithin s (columnsFrom n s i)
+unfolding columnsFrom
+walk-within zero s i = tt
+walk-within (suc n) s i = column-within s i (columnAt s i) (λ k. columnsFrom n s k) (stands s i) (λ k. walk-within n s k)
+
+row-within : (s : List ℕ) (f : Option ℕ) → RowWithin s (rowBy s f)
+row-within s none = tt
+row-within s (some n) = by (leb 32768 n)
+  where
+    by : (t : Bool) → RowWithin s (pick t (some []) (columnsFrom n s 2))
+    by true = tt
+    by false = walk-within n s 2
+
+nth-within : (s : List ℕ) (i : ℕ) (cs : List Column) → AllWithin s cs → Within s (nth i cs)
+unfolding nth
+nth-within s i [] h = tt
+nth-within s zero (c ∷ cs) h = h .0
+nth-within s (suc i) (c ∷ cs) h = nth-within s i cs (h .1)
+
+one-within : (s : List ℕ) (i : ℕ) (r : Option (List Column)) → RowWithin s r → Within s (columnOf r i)
+one-within s i none h = tt
+one-within s i (some cs) h = nth-within s i cs h
+
+pub part-is-within : Part-is-within
+unfolding rowOf
+part-is-within payload i from len e = rw e at (one-within payload i (rowOf payload) (row-within payload (fieldAt 2 payload 0)))

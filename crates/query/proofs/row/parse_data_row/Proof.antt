@@ -1,0 +1,32 @@
+-- The walk's answer has the number of columns.
+use Rattle.query.specs.Row.{rowOf}
+use Rattle.query.proofs.Laws.{countBy, count-picked}
+use mathlib.Core.Path.{ap, _∙_}
+use borrow.Author.Needs.{needs}
+use Rattle.query.proofs.row.parse_data_row.Statement.{statement}
+use Rattle.query.proofs.row.parse_data_row.Tie as tie
+
+walk-row-requires : tie.Need-walk-row-requires
+walk-row-requires c κs = search needs
+
+enum-known-n : tie.Need-enum-known-n
+enum-known-n c = search needs
+
+enum-told : tie.Need-enum-told
+enum-told c = search needs
+
+returns : tie.Need-returns
+returns c =
+    let r = c .before .before .before in
+    let a = r .before .before .args in
+    ap countBy (rw (c .before .n .given .1) at (r .walk-row .ensures)) ∙ count-picked (rowOf (a .payload .now)) 0
+
+returns-2 : tie.Need-returns-2
+returns-2 c =
+    let r = c .before .before in
+    let a = r .before .before .args in
+    ap countBy (rw (c .enum-told .given .1) at (r .walk-row .ensures)) ∙ count-picked (rowOf (a .payload .now)) 0
+
+pub parse-data-row-spec : {M : Type 1} → statement M
+parse-data-row-spec =
+    tie.close (tie.spec walk-row-requires enum-known-n enum-told returns returns-2)

@@ -1,0 +1,82 @@
+-- The columns passed and those that follow, from the place reached, make the columns of the whole walk.
+use mathlib.Core.Option.{some, none}
+use Rattle.query.specs.Row.{columnAt, columnsFrom}
+use Rattle.query.specs.Code.{pickedOf}
+use Rattle.query.proofs.Laws.{walked, walk-start, walk-turn, walk-cut, walk-end}
+use Prim.Native.Nat.{_≤_, _-_}
+use mathlib.Core.Path.{_≡_, sym, _∙_}
+use native.Mathlib.Omega.{arith}
+use borrow.Author.Needs.{needs}
+use Rattle.query.proofs.row.walk.Statement.{statement}
+use Rattle.query.proofs.row.walk.Tie as tie
+
+abbrev Inv-loop : tie.InvT-loop
+Inv-loop payload n i at₀ k₀ c₀ at k c = (k ≤ n) × (walked k i c (columnsFrom (n - k) payload at) ≡ pickedOf (columnsFrom n payload 2) i)
+
+abbrev μ-loop : tie.MeasureT-loop
+μ-loop payload n i at₀ k₀ c₀ at k c = n - k
+
+loop-holds : tie.Need-loop-holds Inv-loop μ-loop
+loop-holds c =
+    let a = c .before .args in
+    let z : a .n - 0 ≡ a .n = omega arith in
+    (omega arith, rw z (walk-start (a .i) (columnsFrom (a .n) (a .payload .now) 2)))
+
+column-at-requires : tie.Need-column-at-requires Inv-loop μ-loop
+column-at-requires c κs = search needs
+
+enum-known-one : tie.Need-enum-known-one Inv-loop μ-loop
+enum-known-one c = search needs
+
+enum-told : tie.Need-enum-told Inv-loop μ-loop
+enum-told c = search needs
+
+returns : tie.Need-returns Inv-loop μ-loop
+returns c =
+    let r = c .before .before in
+    let l = r .before .before in
+    let a = l .before .before .args in
+    let e : none ≡ columnAt (a .payload .now) (l .loop .at) = rw (c .enum-told .given .1) at (r .column-at .ensures) in
+    sym (walk-cut (a .n) (l .loop .k) (a .i) (a .payload .now) (l .loop .at) (l .loop .c) (omega arith) e) ∙ l .loop .inv .1
+
+kept-requires : tie.Need-kept-requires Inv-loop μ-loop
+kept-requires c κs = search needs
+
+add-k : tie.Need-add-k Inv-loop μ-loop
+add-k c = omega arith
+
+loop-less : tie.Need-loop-less Inv-loop μ-loop
+loop-less c = omega arith
+
+loop-again : tie.Need-loop-again Inv-loop μ-loop
+loop-again c =
+    let r = c .before .before .before .before in
+    let l = r .before .before in
+    let a = l .before .before .args in
+    let one = c .before .before .one .given .0 .0 in
+    let next = c .before .before .one .given .0 .1 .0 in
+    let e : some (one, next) ≡ columnAt (a .payload .now) (l .loop .at) = rw (c .before .before .one .given .1) at (r .column-at .ensures) in
+    (omega arith, rw (c .kept .ensures) (sym (walk-turn (a .n) (l .loop .k) (a .i) (a .payload .now) (l .loop .at) next (l .loop .c) one (omega arith) e) ∙ l .loop .inv .1))
+
+returns-2 : tie.Need-returns-2 Inv-loop μ-loop
+returns-2 c =
+    let l = c .before in
+    let a = l .before .before .args in
+    sym (walk-end (a .n) (l .loop .k) (a .i) (a .payload .now) (l .loop .at) (l .loop .c) (omega arith)) ∙ l .loop .inv .1
+
+pub walk-spec : {M : Type 1} → statement M
+walk-spec =
+    tie.close
+    (tie.spec
+    Inv-loop
+    μ-loop
+    loop-holds
+    column-at-requires
+    enum-known-one
+    enum-told
+    returns
+    kept-requires
+    add-k
+    loop-less
+    loop-again
+    returns-2)

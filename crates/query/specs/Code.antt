@@ -1,0 +1,24 @@
+-- What the inner functions say: the column at a place, and the walk over a row that picks one column out.
+use Prim.Native.Nat.{ℕ}
+use mathlib.Core.List.{List}
+use mathlib.Core.Option.{Option, some, none}
+use lib.ListN.{length}
+use Rattle.query.specs.Row.{nth}
+use Rattle.query.specs.declared.Column.{Column}
+use Rattle.query.specs.declared.row.Next.{Next}
+use Rattle.query.specs.declared.row.Walked.{Walked}
+
+-- a column and the place behind it
+abbrev pub nextOf : Next → Option (Column × ℕ)
+nextOf (Next.At c next) = some (c, next)
+nextOf Next.Cut = none
+
+-- how many columns there are, and one of them
+abbrev pub walkOf : Walked → Option (ℕ × Column)
+walkOf (Walked.Row n c) = some (n, c)
+walkOf Walked.Malformed = none
+
+-- .. of a row's columns and a column's number
+abbrev pub pickedOf : Option (List Column) → ℕ → Option (ℕ × Column)
+pickedOf none i = none
+pickedOf (some cs) i = some (length cs, nth i cs)

@@ -1,0 +1,6 @@
+pub mod Row
+pub mod RowLayout
+pub mod Query
+pub mod Fold
+pub mod Played
+pub mod Code

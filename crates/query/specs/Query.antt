@@ -1,0 +1,43 @@
+-- The answers to a simple query: document 01, "the fold of `simple_query` (rows until `Z`, last error wins)".
+use Prim.Native.Nat.{ℕ}
+use mathlib.Core.List.{List, [], _∷_}
+use mathlib.Core.Option.{Option, some, none}
+use lib.Dec.{eqb}
+use Rattle.wire.specs.Bytes.{pick}
+use Rattle.query.specs.Row.{rowOf}
+use Rattle.query.specs.declared.Column.{Column}
+
+-- how a query ends: without an error, with the payload of the last ErrorResponse, or with a malformed row (20); or not yet
+pub data Ending : Type 0 where
+  ready : Ending
+  failed : List ℕ → Ending
+  malformed : Ending
+  open-yet : Option (List ℕ) → Ending
+
+-- the columns of the rows in their order, and the ending
+pub record Answer : Type 0 where
+  pub rows : List (List Column)
+  pub ending : Ending
+
+abbrev pub endingBy : Option (List ℕ) → Ending
+endingBy none = ready
+endingBy (some e) = failed e
+
+abbrev pub only : Ending → Answer
+only e = record { rows = []; ending = e }
+
+abbrev pub rowThen : Option (List Column) → Answer → Answer
+rowThen none a = only malformed
+rowThen (some cs) a = record { rows = cs ∷ a .rows; ending = a .ending }
+
+-- the messages of a query, each a tag and a payload, behind a last error: `D` a row, `E` an error, `Z` the end, others skipped
+unfoldable pub answerFrom : Option (List ℕ) → List (ℕ × List ℕ) → Answer
+answerFrom e [] = only (open-yet e)
+answerFrom e (m ∷ ms) =
+    pick (eqb (m .0) 68) (rowThen (rowOf (m .1)) (answerFrom e ms))
+    (pick (eqb (m .0) 69) (answerFrom (some (m .1)) ms)
+    (pick (eqb (m .0) 90) (only (endingBy e))
+    (answerFrom e ms)))
+
+unfoldable pub answerOf : List (ℕ × List ℕ) → Answer
+answerOf ms = answerFrom none ms

@@ -1,0 +1,103 @@
+-- The layout of a row: PostgreSQL documentation, "Message Formats" (DataRow). Int16 number of columns; for each column Int32 length of its
+-- value, -1 for null, and that many bytes. Document 01 takes any negative length for null, and a negative number of columns for none; surplus
+-- bytes are ignored.
+use mathlib.Core.Path.{_≡_}
+use mathlib.Core.Bool.{true}
+use mathlib.Core.List.{List, [], _∷_, _++_, map}
+use mathlib.Core.Logic.{_⊎_}
+use mathlib.Core.Option.{Option, some, none}
+use Prim.Native.Nat.{ℕ, _+_, _≤_, _<_}
+use lib.ListN.{length}
+use lib.Pow.{areBytes}
+use Rattle.wire.specs.Bytes.{at, beBytes}
+use Rattle.query.specs.Row.{rowOf, columnOf}
+use Rattle.query.specs.declared.Column.{Column}
+use Rattle.query.specs.declared.Column.the-variants.{Null, Part, Absent}
+
+-- a column as it is sent: a null with the length that says so, or a value
+pub data Cell : Type 0 where
+  null : ℕ → Cell
+  value : List ℕ → Cell
+
+unfoldable pub cellBytes : Cell → List ℕ
+cellBytes (null n) = beBytes 4 n
+cellBytes (value v) = beBytes 4 (length v) ++ v
+
+unfoldable pub cellsBytes : List Cell → List ℕ
+cellsBytes [] = []
+cellsBytes (c ∷ cs) = cellBytes c ++ cellsBytes cs
+
+-- a null's length is negative, a value's is not
+abbrev pub Sendable : Cell → Type 0
+Sendable (null n) = (2147483648 ≤ n) × (n < 4294967296)
+Sendable (value v) = length v < 2147483648
+
+abbrev pub AllSendable : List Cell → Type 0
+AllSendable [] = Unit
+AllSendable (c ∷ cs) = Sendable c × AllSendable cs
+
+-- the number of columns as it is sent: how many there are, or a negative number for none
+abbrev pub Counts : ℕ → List Cell → Type 0
+Counts n cs = ((n ≡ length cs) × (n < 32768)) ⊎ ((32768 ≤ n) × (n < 65536) × (cs ≡ []))
+
+-- the payload is these columns as they are sent, and what follows them
+pub record Laid (payload : List ℕ) (cells : List Cell) : Type 0 where
+  pub count : ℕ
+  pub counts : Counts count cells
+  pub sendable : AllSendable cells
+  pub rest : List ℕ
+  pub whole : payload ≡ beBytes 2 count ++ (cellsBytes cells ++ rest)
+
+-- what a column says: that it is null, the bytes that it names in the payload, or that there is no such column
+pub data Told : Type 0 where
+  nothing : Told
+  bytes : List ℕ → Told
+  missing : Told
+
+abbrev pub told : List ℕ → Column → Told
+told payload Null = nothing
+told payload (Part from len) = bytes (at payload from len)
+told payload Absent = missing
+
+abbrev pub toldBy : List ℕ → Option (List Column) → Option (List Told)
+toldBy payload none = none
+toldBy payload (some cs) = some (map (told payload) cs)
+
+-- what the columns of a payload say, in order
+unfoldable pub readOf : List ℕ → Option (List Told)
+readOf payload = toldBy payload (rowOf payload)
+
+abbrev pub meant : Cell → Told
+meant (null n) = nothing
+meant (value v) = bytes v
+
+-- a payload that is laid out as columns is read as these
+abbrev pub Laid-is-read : Type 0
+Laid-is-read = (payload : List ℕ) (cells : List Cell) → Laid payload cells → readOf payload ≡ some (map meant cells)
+
+-- .. and what is read from a payload of bytes is how it is laid out
+abbrev pub Read-is-laid : Type 0
+Read-is-laid = (payload : List ℕ) (ts : List Told) → areBytes payload ≡ true → readOf payload ≡ some ts → (cells : List Cell) × Laid payload cells × (map meant cells ≡ ts)
+
+-- nulls and values as the document has them sent: the length of a null is -1
+abbrev pub cellOf : Option (List ℕ) → Cell
+cellOf none = null 4294967295
+cellOf (some v) = value v
+
+unfoldable pub rowBytes : List (Option (List ℕ)) → List ℕ
+rowBytes vs = beBytes 2 (length vs) ++ cellsBytes (map cellOf vs)
+
+-- every value is shorter than 2^31
+abbrev pub Short : List (Option (List ℕ)) → Type 0
+Short [] = Unit
+Short (none ∷ vs) = Short vs
+Short (some v ∷ vs) = (length v < 2147483648) × Short vs
+
+-- so they are read back, whatever follows
+abbrev pub Sent-is-read : Type 0
+Sent-is-read = (vs : List (Option (List ℕ))) (surplus : List ℕ) → length vs < 32768 → Short vs
+    → readOf (rowBytes vs ++ surplus) ≡ some (map (λ v. meant (cellOf v)) vs)
+
+-- a part that a column names stands in the payload whole
+abbrev pub Part-is-within : Type 0
+Part-is-within = (payload : List ℕ) (i from len : ℕ) → columnOf (rowOf payload) i ≡ Part from len → from + len ≤ length payload

@@ -1,0 +1,103 @@
+// DataRow.
+ghost use mathlib.Core.Path.{_≡_};
+ghost use lib.Dec.{eqb};
+ghost use Rattle.wire.specs.Bytes.{pick};
+ghost use Rattle.query.specs.Row.{columnAt, columnsFrom, rowOf, countOf, columnOf, rowOutcome};
+ghost use Rattle.query.specs.Code.{nextOf, walkOf, pickedOf};
+use crate::Column;
+use error::Refusal;
+use wire::field::U16Field;
+use wire::field::U32Field;
+
+pub enum Row {
+    Columns(usize),
+    Refused(Refusal),
+}
+
+// A column, and the place behind it.
+enum Next {
+    At(Column, usize),
+    Cut,
+}
+
+// How many columns a row has, and one of them.
+enum Walked {
+    Row(usize, Column),
+    Malformed,
+}
+
+fn column_at(payload: &[u8], at: usize) -> Next
+    ensures { λ r. ⌜ nextOf r ≡ columnAt (now (payload .entry)) at ⌝ }
+{
+    let U32Field::Value(len) = wire::field::read_u32(payload, at) else {
+        return Next::Cut;
+    };
+    let from = at + 4;
+    // The upper half of the lengths are negative.
+    if 2147483648 <= len {
+        return Next::At(Column::Null, from);
+    }
+    let n = len as usize;
+    if payload.len() - from < n {
+        return Next::Cut;
+    }
+    Next::At(Column::Part(from, n), from + n)
+}
+
+fn kept(k: usize, i: usize, c: Column, other: Column) -> Column
+    ensures { λ r. ⌜ r ≡ pick (eqb k i) c other ⌝ }
+{
+    if k == i { c } else { other }
+}
+
+// The walk over n columns, which keeps the i-th.
+fn walk(payload: &[u8], n: usize, i: usize) -> Walked
+    ensures { λ r. ⌜ walkOf r ≡ pickedOf (columnsFrom n (now (payload .entry)) 2) i ⌝ }
+{
+    let mut at: usize = 2;
+    let mut k: usize = 0;
+    let mut c = Column::Absent;
+    while k < n {
+        let Next::At(one, next) = column_at(payload, at) else {
+            return Walked::Malformed;
+        };
+        c = kept(k, i, one, c);
+        at = next;
+        k += 1;
+    }
+    Walked::Row(n, c)
+}
+
+// The walk over a whole row. It goes to the end also behind column i, since a row that is cut has no column.
+fn walk_row(payload: &[u8], i: usize) -> Walked
+    ensures { λ r. ⌜ walkOf r ≡ pickedOf (rowOf (now (payload .entry))) i ⌝ }
+{
+    let U16Field::Value(n) = wire::field::read_u16(payload, 0) else {
+        return Walked::Malformed;
+    };
+    // The upper half of the counts are negative.
+    if 32768 <= n {
+        return Walked::Row(0, Column::Absent);
+    }
+    walk(payload, n as usize, i)
+}
+
+// How many columns a row has.
+pub fn parse_data_row(payload: &[u8]) -> Row
+    ensures { λ r. ⌜ rowOutcome r ≡ countOf (rowOf (now (payload .entry))) ⌝ }
+{
+    match walk_row(payload, 0) {
+        Walked::Row(n, _) => Row::Columns(n),
+        Walked::Malformed => Row::Refused(Refusal::MalformedDataRow),
+    }
+}
+
+// One column, from 0.
+pub fn column(payload: &[u8], i: usize) -> Column
+    ensures { λ r. ⌜ r ≡ columnOf (rowOf (now (payload .entry))) i ⌝ }
+{
+    match walk_row(payload, i) {
+        Walked::Row(_, c) => c,
+        Walked::Malformed => Column::Absent,
+    }
+}

@@ -1,0 +1,92 @@
+// The fold of simple_query: one call for each whole message. The payload of the last ErrorResponse is kept at the front of a lent buffer, as
+// far as that has room.
+ghost use mathlib.Core.Path.{_≡_};
+ghost use Rattle.query.specs.Row.{rowOf};
+ghost use Rattle.query.specs.Fold.{fresh, answerOutcome, rowAnswer, endAnswer, messageOf};
+use crate::row;
+use crate::row::Row;
+use error::Refusal;
+
+// Whether an ErrorResponse came, and how many of its bytes are kept.
+pub struct SimpleQuery {
+    pub failed: bool,
+    pub kept: usize,
+}
+
+pub enum Answer {
+    More,
+    Row(usize),
+    Ready,
+    Failed(usize),
+    Refused(Refusal),
+}
+
+// What a message answers, and the query behind it.
+pub struct Step {
+    pub query: SimpleQuery,
+    pub answer: Answer,
+}
+
+impl SimpleQuery {
+    pub fn new() -> SimpleQuery
+        ensures { λ r. ⌜ r ≡ fresh ⌝ }
+    {
+        SimpleQuery {
+            failed: false,
+            kept: 0,
+        }
+    }
+
+    // The next message. Each row is handed on at once; what ends the query leaves a new one.
+    pub fn message(self, tag: u8, payload: &[u8], error: &mut [u8]) -> Step
+        ensures { λ r. ⌜ (r .query, answerOutcome (r .answer), now (error .exit)) ≡ messageOf self tag (now (payload .entry)) (now (error .entry)) ⌝ }
+    {
+        match tag {
+            b'D' => self.with_row(payload),
+            b'E' => {
+                let kept = wire::store::copy(error, payload);
+                let query = SimpleQuery { failed: true, kept };
+                Step {
+                    query,
+                    answer: Answer::More,
+                }
+            }
+            b'Z' => {
+                let answer = self.end();
+                Step {
+                    query: SimpleQuery::new(),
+                    answer,
+                }
+            }
+            _ => Step {
+                query: self,
+                answer: Answer::More,
+            },
+        }
+    }
+
+    fn with_row(self, payload: &[u8]) -> Step
+        ensures { λ r. ⌜ (r .query, answerOutcome (r .answer)) ≡ rowAnswer self (rowOf (now (payload .entry))) ⌝ }
+    {
+        match row::parse_data_row(payload) {
+            Row::Columns(n) => Step {
+                query: self,
+                answer: Answer::Row(n),
+            },
+            Row::Refused(r) => Step {
+                query: SimpleQuery::new(),
+                answer: Answer::Refused(r),
+            },
+        }
+    }
+
+    fn end(self) -> Answer
+        ensures { λ r. ⌜ answerOutcome r ≡ endAnswer self ⌝ }
+    {
+        if self.failed {
+            Answer::Failed(self.kept)
+        } else {
+            Answer::Ready
+        }
+    }
+}
