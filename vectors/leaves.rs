@@ -4,6 +4,8 @@
 //!
 //! Use: leaves STDIN-FILE STDOUT-FILE
 
+mod messages;
+
 use std::fmt::Write as _;
 
 struct Vectors {
@@ -407,6 +409,7 @@ fn main() {
     errors(&mut v, &mut draw);
     auths(&mut v, &mut draw);
     name_lists(&mut v, &mut draw);
+    messages::all(&mut v, &mut draw);
     // an unknown kind ends the program
     v.input.extend([b'?', 0, 0, 0, 0, 0, 0, 0, 0, 0]);
     v.lines.push_str("BAD\n");

@@ -1,21 +1,17 @@
 // The kinds of records.
+use crate::boundaries;
 use crate::lines;
-use error::Written;
+use crate::reader;
+use crate::rows;
+use crate::writers;
 use lossy::Lossy;
 use lsn::Lsn;
 use lsn::Parsed;
 use messages::AuthRequest;
 use messages::ErrorFields;
 use messages::Field;
-use wire::field::U16Field;
+use replication::CopyData;
 use wire::field::U64Field;
-
-fn written(line: &mut [u8], kind: u8, w: Written, out: &[u8]) -> usize {
-    match w {
-        Written::Wrote(n) => lines::writer(line, kind, 0, n, out),
-        Written::Refused(r) => lines::writer(line, kind, r.number(), 0, out),
-    }
-}
 
 fn shown(line: &mut [u8], kind: u8, w: Lossy, out: &[u8]) -> usize {
     match w {
@@ -43,7 +39,7 @@ fn display(line: &mut [u8], input: &[u8], out: &mut [u8]) -> usize {
         return 0;
     };
     let w = Lsn::from_u64(v).display(out);
-    written(line, b'd', w, out)
+    writers::written(line, b'd', w, out)
 }
 
 fn field(line: &mut [u8], at: usize, input: &[u8], f: Field) -> usize {
@@ -81,28 +77,64 @@ fn auth(line: &mut [u8], input: &[u8]) -> usize {
     }
 }
 
-// Names, each 2 bytes of length and its bytes: 65,536 bytes have at most 32,768.
-fn option_value(line: &mut [u8], input: &[u8], out: &mut [u8]) -> usize {
-    let mut names = [&input[0..0]; 32768];
-    let mut n: usize = 0;
-    let mut at: usize = 0;
-    while at < input.len() {
-        let U16Field::Value(k) = wire::field::read_u16(input, at) else {
-            return 0;
-        };
-        let len = k as usize;
-        if input.len() - at < 2 + len {
-            return 0;
+fn copy_data(line: &mut [u8], input: &[u8]) -> usize {
+    match replication::parse_copy_data(input) {
+        CopyData::XLogData {
+            wal_start,
+            wal_end,
+            server_time,
+            from,
+            len,
+        } => {
+            let a = lines::start(line, b'c', 0);
+            let b = wire::store::place(line, a, b" w");
+            let c = lines::position(line, b, wal_start);
+            let d = lines::position(line, c, wal_end);
+            let e = lines::long(line, d, server_time);
+            let f = lines::part(line, e, input, from, len);
+            lines::end(line, f)
         }
-        if 32768 <= n {
-            return 0;
+        CopyData::KeepAlive {
+            wal_end,
+            server_time,
+            reply,
+        } => {
+            let a = lines::start(line, b'c', 0);
+            let b = wire::store::place(line, a, b" k");
+            let c = lines::position(line, b, wal_end);
+            let d = lines::long(line, c, server_time);
+            let e = lines::flag(line, d, reply);
+            lines::end(line, e)
         }
-        names[n] = &input[at + 2..at + 2 + len];
-        n += 1;
-        at = at + 2 + len;
+        CopyData::Refused(r) => lines::refused(line, b'c', r.number()),
     }
-    let w = config::to_option_value(&names[0..n], out);
-    written(line, b'o', w, out)
+}
+
+// Kinds with an output.
+fn client_message(kind: u8, input: &[u8], out: &mut [u8], line: &mut [u8]) -> usize {
+    match kind {
+        b'q' => {
+            let w = frontend::write_query(input, out);
+            writers::written(line, b'q', w, out)
+        }
+        b'y' => {
+            let w = frontend::write_copy_data(input, out);
+            writers::written(line, b'y', w, out)
+        }
+        b'z' => {
+            let w = frontend::write_copy_done(out);
+            writers::written(line, b'z', w, out)
+        }
+        b'x' => {
+            let w = frontend::write_terminate(out);
+            writers::written(line, b'x', w, out)
+        }
+        b't' => writers::status(line, input, out),
+        b'o' => writers::named(line, b'o', input, 0, out),
+        b's' => writers::named(line, b's', input, 4, out),
+        b'g' => reader::reads(line, input, out),
+        _ => 0,
+    }
 }
 
 // The length of the record's line, or 0 for a malformed one.
@@ -120,7 +152,10 @@ pub(crate) fn line_of(kind: u8, input: &[u8], out: &mut [u8], line: &mut [u8]) -
         }
         b'f' => fields(line, input),
         b'a' => auth(line, input),
-        b'o' => option_value(line, input, out),
-        _ => 0,
+        b'c' => copy_data(line, input),
+        b'b' => boundaries::boundary(line, input),
+        b'r' => rows::row(line, input),
+        b'm' => rows::simple(line, input),
+        _ => client_message(kind, input, out, line),
     }
 }

@@ -34,6 +34,30 @@ pub(crate) fn signed(line: &mut [u8], at: usize, n: i32) -> usize {
     text::place_signed(line, a, n as i64)
 }
 
+pub(crate) fn long(line: &mut [u8], at: usize, n: i64) -> usize {
+    let a = wire::store::place(line, at, b" ");
+    text::place_signed(line, a, n)
+}
+
+pub(crate) fn flag(line: &mut [u8], at: usize, on: bool) -> usize {
+    if on {
+        wire::store::place(line, at, b" 1")
+    } else {
+        wire::store::place(line, at, b" 0")
+    }
+}
+
+// The bytes that a part names.
+pub(crate) fn part(line: &mut [u8], at: usize, s: &[u8], from: usize, len: usize) -> usize {
+    if s.len() < from {
+        return at;
+    }
+    if s.len() - from < len {
+        return at;
+    }
+    bytes(line, at, &s[from..from + len])
+}
+
 // Bytes in hexadecimal, a hyphen for none.
 pub(crate) fn bytes(line: &mut [u8], at: usize, s: &[u8]) -> usize {
     if s.len() == 0 {

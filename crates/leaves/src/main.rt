@@ -1,17 +1,21 @@
 // Reads records from standard input to its end and prints the line of each.
+mod boundaries;
 mod kinds;
 mod lines;
+mod reader;
+mod rows;
+mod writers;
 
 ghost use mathlib.Core.Path.{_≡_};
 ghost use Prim.Native.Nat.{_<_};
 ghost use lib.ListN.{length};
 use wire::field::U32Field;
 
-// A line's longest part is the hexadecimal of 65,536 bytes.
-fn line_buffer() -> [u8; 262144]
-    ensures { λ r. ⌜ 262144 ≡ length r ⌝ }
+// A line's longest part is the hexadecimal of the lossy text of 65,536 bytes.
+fn line_buffer() -> [u8; 524288]
+    ensures { λ r. ⌜ 524288 ≡ length r ⌝ }
 {
-    [0; 262144]
+    [0; 524288]
 }
 
 fn fill_with(out: &mut [u8], b: u8) {

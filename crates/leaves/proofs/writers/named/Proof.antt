@@ -2,14 +2,17 @@ use lib.ListN.{length}
 use borrow.Author.Needs.{needs}
 use mathlib.Core.Path.{_≡_}
 use Prim.Native.Nat.{_≤_, _-_}
-use Rattle.leaves.proofs.kinds.option_value.Statement.{statement}
-use Rattle.leaves.proofs.kinds.option_value.Tie as tie
+use Rattle.leaves.proofs.writers.named.Statement.{statement}
+use Rattle.leaves.proofs.writers.named.Tie as tie
 
 abbrev Inv-loop : tie.InvT-loop
-Inv-loop line input out names₀ n₀ at₀ names n at = (at ≤ length input) × (n ≤ 32768) × (length names ≡ 32768)
+Inv-loop line kind input from out names₀ n₀ at₀ names n at = (at ≤ length input) × (n ≤ 32768) × (length names ≡ 32768)
 
 abbrev μ-loop : tie.MeasureT-loop
-μ-loop line input out names₀ n₀ at₀ names n at = length input - at
+μ-loop line kind input from out names₀ n₀ at₀ names n at = length input - at
+
+returns : tie.Need-returns Inv-loop μ-loop
+returns c = search needs
 
 sub-names : tie.Need-sub-names Inv-loop μ-loop
 sub-names c = search needs
@@ -32,23 +35,23 @@ enum-known-k c = search needs
 enum-told : tie.Need-enum-told Inv-loop μ-loop
 enum-told c = search needs
 
-returns : tie.Need-returns Inv-loop μ-loop
-returns c = search needs
+returns-2 : tie.Need-returns-2 Inv-loop μ-loop
+returns-2 c = search needs
 
 cast-len : tie.Need-cast-len Inv-loop μ-loop
 cast-len c = search needs
 
-sub-if1 : tie.Need-sub-if1 Inv-loop μ-loop
-sub-if1 c = search needs
+sub-if2 : tie.Need-sub-if2 Inv-loop μ-loop
+sub-if2 c = search needs
 
-add-if1 : tie.Need-add-if1 Inv-loop μ-loop
-add-if1 c = search needs
-
-returns-2 : tie.Need-returns-2 Inv-loop μ-loop
-returns-2 c = search needs
+add-if2 : tie.Need-add-if2 Inv-loop μ-loop
+add-if2 c = search needs
 
 returns-3 : tie.Need-returns-3 Inv-loop μ-loop
 returns-3 c = search needs
+
+returns-4 : tie.Need-returns-4 Inv-loop μ-loop
+returns-4 c = search needs
 
 add-names : tie.Need-add-names Inv-loop μ-loop
 add-names c = search needs
@@ -89,20 +92,17 @@ loop-less c = search needs
 loop-again : tie.Need-loop-again Inv-loop μ-loop
 loop-again c = search needs
 
-sub-to-option-value : tie.Need-sub-to-option-value Inv-loop μ-loop
-sub-to-option-value c = search needs
+sub-with-names : tie.Need-sub-with-names Inv-loop μ-loop
+sub-with-names c = search needs
 
-part-to-option-value-start : tie.Need-part-to-option-value-start Inv-loop μ-loop
-part-to-option-value-start c = search needs
+part-with-names-start : tie.Need-part-with-names-start Inv-loop μ-loop
+part-with-names-start c = search needs
 
-part-to-option-value-end : tie.Need-part-to-option-value-end Inv-loop μ-loop
-part-to-option-value-end c = search needs
+part-with-names-end : tie.Need-part-with-names-end Inv-loop μ-loop
+part-with-names-end c = search needs
 
-to-option-value-requires : tie.Need-to-option-value-requires Inv-loop μ-loop
-to-option-value-requires c κs = search needs
-
-written-requires : tie.Need-written-requires Inv-loop μ-loop
-written-requires c κs = search needs
+with-names-requires : tie.Need-with-names-requires Inv-loop μ-loop
+with-names-requires c κs = search needs
 
 same-length : tie.Need-same-length Inv-loop μ-loop
 same-length c = search needs
@@ -110,15 +110,16 @@ same-length c = search needs
 same-length-2 : tie.Need-same-length-2 Inv-loop μ-loop
 same-length-2 c = search needs
 
-returns-4 : tie.Need-returns-4 Inv-loop μ-loop
-returns-4 c = search needs
+returns-5 : tie.Need-returns-5 Inv-loop μ-loop
+returns-5 c = search needs
 
-pub option-value-spec : {M : Type 1} → statement M
-option-value-spec =
+pub named-spec : {M : Type 1} → statement M
+named-spec =
     tie.close
     (tie.spec
     Inv-loop
     μ-loop
+    returns
     sub-names
     part-names-start
     part-names-end
@@ -126,12 +127,12 @@ option-value-spec =
     read-u16-requires
     enum-known-k
     enum-told
-    returns
-    cast-len
-    sub-if1
-    add-if1
     returns-2
+    cast-len
+    sub-if2
+    add-if2
     returns-3
+    returns-4
     add-names
     add-names-2
     add-names-3
@@ -145,11 +146,10 @@ option-value-spec =
     add-at-2
     loop-less
     loop-again
-    sub-to-option-value
-    part-to-option-value-start
-    part-to-option-value-end
-    to-option-value-requires
-    written-requires
+    sub-with-names
+    part-with-names-start
+    part-with-names-end
+    with-names-requires
     same-length
     same-length-2
-    returns-4)
+    returns-5)

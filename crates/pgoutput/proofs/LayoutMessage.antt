@@ -1,0 +1,150 @@
+-- Message, field by field: behind each field stands the next, behind the prefix a zero byte, and behind the content a surplus that is not read.
+use mathlib.Core.Path.{_≡_, refl, sym, ap, _∙_}
+use mathlib.Core.Bool.{Bool, true}
+use mathlib.Core.Option.{some}
+use mathlib.Core.List.{List, [], _∷_, _++_, append-assoc}
+use Prim.Native.Nat.{ℕ, suc, _+_, _-_, _%_, _≤_, _<_, _^_}
+use native.Mathlib.Numerals.{add-one, one-add}
+use native.Mathlib.Omega.{arith}
+use lib.ListN.{length, take, drop, length-append, length-drop, take-append-drop}
+use lib.Seq.{drop-drop, drop-append-add, take-append-seam, length-take-le}
+use lib.Dec.{eqb}
+use lib.Pow.{areBytes}
+use borrow.Author.Tests.{eqb-true, eqb-false, ne-eqb}
+use Rattle.wire.specs.Bytes.{at, beBytes}
+use Rattle.wire.specs.Field.{fieldAt}
+use Rattle.wire.specs.Find.{indexOf, behind}
+use Rattle.wire.specs.declared.find.Found.{Found}
+use Rattle.wire.specs.declared.find.Found.the-variants.{At, Nothing}
+use Rattle.wire.proofs.Laws.{by-test}
+use Rattle.wire.proofs.FieldLaws.{beBytes-one, field-read, field-there}
+use Rattle.pgoutput.specs.Boundary.{message, refused, messageAt, boundaryOf, messageBytes}
+use Rattle.pgoutput.specs.BoundaryLayout.{NoZero, Message-is-read, SentMessage, Read-is-Message}
+use Rattle.pgoutput.proofs.Laws.{message-values, prefix-within}
+use Rattle.pgoutput.proofs.LayoutFields.{by-letter, begin-fields, commit-fields, message-fields}
+
+-- ---- the zero byte behind a prefix
+
+ended : (v t : List ℕ) → NoZero v → indexOf 0 (v ++ (0 ∷ t)) ≡ At (length v)
+unfolding indexOf
+ended [] t n = refl
+ended (b ∷ v) t n = simp (ne-eqb b 0 (n .0), ended v t (n .1), one-add)
+
+found-behind : (f : Found) (k : ℕ) → behind 1 f ≡ At k → (j : ℕ) × (f ≡ At j) × (k ≡ suc j)
+found-behind (At j) k e = let h : 1 + j ≡ k = cc in (j, refl, sym h ∙ one-add j)
+found-behind Nothing k e = let z : _≡_ {A = ℕ} 0 1 = cc in absurd (omega arith)
+
+found-at : (s : List ℕ) (k : ℕ) → indexOf 0 s ≡ At k → NoZero (take k s) × (s ≡ take k s ++ (0 ∷ drop (k + 1) s))
+unfolding indexOf
+found-at [] k e = let z : _≡_ {A = ℕ} 0 1 = cc in absurd (omega arith)
+found-at (b ∷ s) k e =
+    by-test (eqb b 0)
+    (λ t.
+    let h : k ≡ 0 = cc in
+    rw (h, eqb-true b 0 t) (tt, refl))
+    (λ t.
+    let w = found-behind (indexOf 0 s) k (rw t at e) in
+    let r = found-at s (w .0) (w .1) in
+    rw (add-one, w .2) ((eqb-false b 0 t, r .0), ap (λ (l : List ℕ). b ∷ l) (rw add-one at (r .1))))
+
+-- what stands behind a prefix of n bytes from place 10 and its zero byte
+behind-prefix : (s : List ℕ) (n : ℕ) → drop (n + 1) (drop 10 s) ≡ drop (10 + n + 1) s
+behind-prefix s n = let p : 10 + (n + 1) ≡ 10 + n + 1 = omega arith in drop-drop (n + 1) 10 s ∙ rw p
+
+-- ---- from the bytes to the values
+
+laid : (s : List ℕ) (v a : ℕ) (prefix content rest : List ℕ) → v < 256 → a < 2 ^ 64 → NoZero prefix → length content < 2 ^ 31
+    → drop 1 s ≡ v ∷ (beBytes 8 a ++ (prefix ++ (0 ∷ (beBytes 4 (length content) ++ (content ++ rest)))))
+    → (messageAt s 1 ≡ message (eqb (v % 2) 1) a 10 (length prefix) (10 + length prefix + 1 + 4) (length content))
+    × (at s 10 (length prefix) ≡ prefix) × (at s (10 + length prefix + 1 + 4) (length content) ≡ content)
+laid s v a prefix content rest hv ha hp hc e =
+    let n : ℕ = length prefix in
+    let m : List ℕ = beBytes 4 (length content) ++ (content ++ rest) in
+    let o = field-read 1 s 1 v (beBytes 8 a ++ (prefix ++ (0 ∷ m))) (omega arith) hv (rw (beBytes-one v hv) e) in
+    let p = field-read 8 s 2 a (prefix ++ (0 ∷ m)) (omega arith) ha (o .1) in
+    let f : indexOf 0 (drop 10 s) ≡ At n = rw (p .1) (ended prefix m hp) in
+    let d : drop (10 + n + 1) s ≡ m = sym (behind-prefix s n) ∙ rw (p .1, drop-append-add) in
+    let c = field-read 4 s (10 + n + 1) (length content) (content ++ rest) (omega arith) (omega arith) d in
+    let l : length s - (10 + n + 1 + 4) ≡ length content + length rest = sym (length-drop (10 + n + 1 + 4) s) ∙ ap length (c .1) ∙ length-append content rest in
+    (message-values s 1 v a n (length content) (o .0) (p .0) f (c .0) hc (omega arith), rw (p .1) (take-append-seam prefix (0 ∷ m)), rw (c .1) (take-append-seam content rest))
+
+pub message-is-read : Message-is-read
+unfolding boundaryOf messageBytes
+message-is-read flags position prefix content surplus hf hp hz hc =
+    let r = laid (messageBytes flags position prefix content ++ surplus) flags position prefix content surplus hf hp hz hc (simp append-assoc) in
+    record { said = r .0; prefix-there = r .1; content-there = r .2 }
+
+-- ---- from the values to the bytes
+
+-- the prefix, its zero byte, the content's length, the content and the surplus
+parts : (s : List ℕ) (n len : ℕ) → areBytes s ≡ true → indexOf 0 (drop 10 s) ≡ At n → fieldAt 4 s (10 + n + 1) ≡ some len → len ≤ length s - (10 + n + 1 + 4)
+    → (length (at s 10 n) ≡ n) × (length (at s (10 + n + 1 + 4) len) ≡ len) × NoZero (at s 10 n)
+    × (drop 10 s ≡ at s 10 n ++ (0 ∷ (beBytes 4 (length (at s (10 + n + 1 + 4) len)) ++ (at s (10 + n + 1 + 4) len ++ drop len (drop (10 + n + 1 + 4) s)))))
+parts s n len bytes e f l =
+    let i : ℕ = 10 + n + 1 + 4 in
+    let w = found-at (drop 10 s) n e in
+    let c = field-there 4 s (10 + n + 1) len bytes f in
+    let h : 10 + n < length s = prefix-within s 10 n e in
+    let pl : length (at s 10 n) ≡ n = length-take-le n (drop 10 s) (simp length-drop (omega arith)) in
+    let cl : length (at s i len) ≡ len = length-take-le len (drop i s) (simp length-drop l) in
+    let d : drop i s ≡ at s i len ++ drop len (drop i s) = sym (take-append-drop len (drop i s)) in
+    let m : drop (n + 1) (drop 10 s) ≡ beBytes 4 len ++ (at s i len ++ drop len (drop i s)) = behind-prefix s n ∙ c .2 ∙ ap (λ (x : List ℕ). beBytes 4 len ++ x) d in
+    (pl, cl, w .0, w .1 ∙ ap (λ (x : List ℕ). at s 10 n ++ (0 ∷ x)) (rw cl m))
+
+regroup : (a b c d e : List ℕ) → a ++ (b ++ (0 ∷ (c ++ (d ++ e)))) ≡ (a ++ (b ++ (0 ∷ (c ++ d)))) ++ e
+regroup a b c d e = simp append-assoc
+
+sent : (t : List ℕ) (v a n len : ℕ) → areBytes (77 ∷ t) ≡ true → fieldAt 1 (77 ∷ t) 1 ≡ some v → fieldAt 8 (77 ∷ t) 2 ≡ some a → indexOf 0 (drop 10 (77 ∷ t)) ≡ At n
+    → fieldAt 4 (77 ∷ t) (10 + n + 1) ≡ some len → len < 2147483648 → len ≤ length (77 ∷ t) - (10 + n + 1 + 4)
+    → (length (at (77 ∷ t) 10 n) ≡ n) × (length (at (77 ∷ t) (10 + n + 1 + 4) len) ≡ len)
+    × SentMessage (77 ∷ t) (eqb (v % 2) 1) a (at (77 ∷ t) 10 n) (at (77 ∷ t) (10 + n + 1 + 4) len)
+unfolding messageBytes
+sent t v a n len bytes e f g h b l =
+    let s : List ℕ = 77 ∷ t in
+    let i : ℕ = 10 + n + 1 + 4 in
+    let o = field-there 1 s 1 v bytes e in
+    let p = field-there 8 s 2 a bytes f in
+    let q = parts s n len bytes g h l in
+    let k : t ≡ v ∷ drop 1 t = rw (beBytes-one v (o .1)) at (o .2) in
+    let w : drop 1 t ≡ beBytes 8 a ++ (at s 10 n ++ (0 ∷ (beBytes 4 (length (at s i len)) ++ (at s i len ++ drop len (drop i s))))) =
+    p .2 ∙ ap (λ (x : List ℕ). beBytes 8 a ++ x) (q .3)
+    in (
+      q .0,
+      q .1,
+      record {
+        flags = v;
+        flags-fit = o .1;
+        flag-is = refl;
+        position-fits = p .1;
+        no-zero = q .2;
+        content-fits = rw (q .1) b;
+        surplus = drop len (drop i s);
+        whole = ap (λ (x : List ℕ). 77 ∷ x) (k ∙ ap (λ (x : List ℕ). v ∷ x) (w ∙ regroup (beBytes 8 a) (at s 10 n) (beBytes 4 (length (at s i len))) (at s i len) (drop len (drop i s))));
+      },
+    )
+
+accepted : (s t : List ℕ) (flag : Bool) (position pf pl cf cl v a n len : ℕ) → areBytes s ≡ true → s ≡ 77 ∷ t → fieldAt 1 s 1 ≡ some v → fieldAt 8 s 2 ≡ some a
+    → indexOf 0 (drop 10 s) ≡ At n → fieldAt 4 s (10 + n + 1) ≡ some len → len < 2147483648 → len ≤ length s - (10 + n + 1 + 4)
+    → message (eqb (v % 2) 1) a 10 n (10 + n + 1 + 4) len ≡ message flag position pf pl cf cl
+    → (length (at s pf pl) ≡ pl) × (length (at s cf cl) ≡ cl) × SentMessage s flag position (at s pf pl) (at s cf cl)
+accepted s t flag position pf pl cf cl v a n len bytes q d e f g b l h =
+    let i₀ : flag ≡ eqb (v % 2) 1 = cc in
+    let i₁ : position ≡ a = cc in
+    let i₂ : pf ≡ 10 = cc in
+    let i₃ : pl ≡ n = cc in
+    let i₄ : cf ≡ 10 + n + 1 + 4 = cc in
+    let i₅ : cl ≡ len = cc in
+    rw (q, i₀, i₁, i₂, i₃, i₄, i₅) (sent t v a n len (rw q at bytes) (rw q at d) (rw q at e) (rw q at f) (rw q at g) b (rw q at l))
+
+pub read-is-message : Read-is-Message
+read-is-message s flag position pf pl cf cl bytes e =
+    by-letter s
+    (λ t q x. let f = begin-fields (message flag position pf pl cf cl) never s 1 (sym x ∙ e) in let y : _≡_ {A = ℕ} 0 1 = cc (f .6) in absurd (omega arith))
+    (λ t q x. let f = commit-fields (message flag position pf pl cf cl) never s 1 (sym x ∙ e) in let y : _≡_ {A = ℕ} 0 1 = cc (f .8) in absurd (omega arith))
+    (λ t q x.
+    let f = message-fields (message flag position pf pl cf cl) never s 1 (sym x ∙ e) in
+    accepted s t flag position pf pl cf cl (f .0) (f .1) (f .2) (f .3) bytes q (f .4) (f .5) (f .6) (f .7) (f .8) (f .9) (f .10))
+    (λ x. let y : _≡_ {A = ℕ} 0 1 = cc in absurd (omega arith))
+  where
+    never : (n : ℕ) → refused n ≡ message flag position pf pl cf cl → ⊥
+    never n p = let y : _≡_ {A = ℕ} 0 1 = cc in omega arith

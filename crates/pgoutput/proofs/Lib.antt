@@ -1,0 +1,5 @@
+pub mod Laws
+pub mod LayoutFields
+pub mod LayoutBegin
+pub mod LayoutCommit
+pub mod LayoutMessage

@@ -1,0 +1,133 @@
+// The boundaries in the data of an XLogData.
+ghost use mathlib.Core.Path.{_≡_};
+ghost use Rattle.pgoutput.specs.Boundary.{boundaryOf, saidBy, beginAt, commitAt, messageAt};
+use error::Refusal;
+use lsn::Lsn;
+use wire::field::I64Field;
+use wire::field::U8Field;
+use wire::field::U32Field;
+use wire::field::U64Field;
+use wire::find::Found;
+
+// Prefix and content are parts of the data.
+pub enum Boundary {
+    Begin {
+        final_lsn: Lsn,
+        commit_time: i64,
+        xid: u32,
+    },
+    Commit {
+        lsn: Lsn,
+        end_lsn: Lsn,
+        commit_time: i64,
+    },
+    Message {
+        transactional: bool,
+        lsn: Lsn,
+        prefix_from: usize,
+        prefix_len: usize,
+        content_from: usize,
+        content_len: usize,
+    },
+    NotBoundary,
+    Refused(Refusal),
+}
+
+// Begin, its fields from `at` on. A field that is not cut ends within the bytes, so the next place is no sum that wraps.
+fn begin_at(bytes: &[u8], at: usize) -> Boundary
+    ensures { λ r. ⌜ saidBy r ≡ beginAt (now (bytes .entry)) at ⌝ }
+{
+    let U64Field::Value(lsn) = wire::field::read_u64(bytes, at) else {
+        return Boundary::Refused(Refusal::TruncatedI64);
+    };
+    let I64Field::Value(commit_time) = wire::field::read_i64(bytes, at + 8) else {
+        return Boundary::Refused(Refusal::TruncatedI64);
+    };
+    let U32Field::Value(xid) = wire::field::read_u32(bytes, at + 16) else {
+        return Boundary::Refused(Refusal::TruncatedI32);
+    };
+    Boundary::Begin {
+        final_lsn: Lsn(lsn),
+        commit_time,
+        xid,
+    }
+}
+
+// Commit, its fields from `at` on. Its flags are unused.
+fn commit_at(bytes: &[u8], at: usize) -> Boundary
+    ensures { λ r. ⌜ saidBy r ≡ commitAt (now (bytes .entry)) at ⌝ }
+{
+    let U8Field::Value(_) = wire::field::read_u8(bytes, at) else {
+        return Boundary::Refused(Refusal::TruncatedI8);
+    };
+    let U64Field::Value(lsn) = wire::field::read_u64(bytes, at + 1) else {
+        return Boundary::Refused(Refusal::TruncatedI64);
+    };
+    let U64Field::Value(end) = wire::field::read_u64(bytes, at + 9) else {
+        return Boundary::Refused(Refusal::TruncatedI64);
+    };
+    let I64Field::Value(commit_time) = wire::field::read_i64(bytes, at + 17) else {
+        return Boundary::Refused(Refusal::TruncatedI64);
+    };
+    Boundary::Commit {
+        lsn: Lsn(lsn),
+        end_lsn: Lsn(end),
+        commit_time,
+    }
+}
+
+// Message, its fields from `at` on.
+fn message_at(bytes: &[u8], at: usize) -> Boundary
+    ensures { λ r. ⌜ saidBy r ≡ messageAt (now (bytes .entry)) at ⌝ }
+{
+    let U8Field::Value(flags) = wire::field::read_u8(bytes, at) else {
+        return Boundary::Refused(Refusal::TruncatedI8);
+    };
+    let U64Field::Value(lsn) = wire::field::read_u64(bytes, at + 1) else {
+        return Boundary::Refused(Refusal::TruncatedI64);
+    };
+    let from = at + 9;
+    let Found::At(len) = wire::find::find_zero(&bytes[from..]) else {
+        return Boundary::Refused(Refusal::UnterminatedPrefix);
+    };
+    let count = from + len + 1;
+    let U32Field::Value(n) = wire::field::read_u32(bytes, count) else {
+        return Boundary::Refused(Refusal::TruncatedI32);
+    };
+    // a signed length, of which this is the negative half
+    if 2147483648 <= n {
+        return Boundary::Refused(Refusal::ContentTooShort);
+    }
+    let content = count + 4;
+    if bytes.len() - content < n as usize {
+        return Boundary::Refused(Refusal::ContentTooShort);
+    }
+    Boundary::Message {
+        transactional: flags % 2 == 1,
+        lsn: Lsn(lsn),
+        prefix_from: from,
+        prefix_len: len,
+        content_from: content,
+        content_len: n as usize,
+    }
+}
+
+// What the data's first message says, if it is a boundary.
+pub fn parse_pgoutput_boundary(bytes: &[u8]) -> Boundary
+    ensures { λ r. ⌜ saidBy r ≡ boundaryOf (now (bytes .entry)) ⌝ }
+{
+    if bytes.len() == 0 {
+        return Boundary::NotBoundary;
+    }
+    let letter = bytes[0];
+    if letter == b'B' {
+        return begin_at(bytes, 1);
+    }
+    if letter == b'C' {
+        return commit_at(bytes, 1);
+    }
+    if letter == b'M' {
+        return message_at(bytes, 1);
+    }
+    Boundary::NotBoundary
+}

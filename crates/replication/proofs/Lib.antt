@@ -1,0 +1,3 @@
+pub mod Laws
+pub mod LayoutXLogData
+pub mod LayoutKeepAlive
