@@ -1,0 +1,4 @@
+pub mod Happened
+pub mod Plain
+pub mod Calls
+pub mod RunCases

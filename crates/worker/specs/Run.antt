@@ -1,0 +1,107 @@
+-- A run and the single changes of it. Document 01, "Events and confirmations".
+use Prim.Native.Nat.{ℕ, _/_}
+use mathlib.Core.Bool.{Bool, true, false}
+use Rattle.framing.specs.declared.MessageReader.{MessageReader}
+use Rattle.framing.specs.Read.{fresh}
+use Rattle.lsn.specs.declared.Lsn.{Lsn}
+use Rattle.metrics.specs.declared.Metrics.{Metrics}
+use Rattle.metrics.specs.Metrics.{none}
+use Rattle.moment.specs.declared.Moment.{Moment}
+use Rattle.progress.specs.declared.ProgressCell.{ProgressCell}
+use Rattle.progress.specs.Progress.{cell, noMoment}
+use Rattle.worker.specs.declared.Settings.{Settings}
+use Rattle.worker.specs.declared.State.{State}
+use Rattle.worker.specs.declared.Clock.{Clock}
+use Rattle.worker.specs.declared.LastStatus.{LastStatus}
+use Rattle.worker.specs.declared.Whole.{Whole}
+use Rattle.worker.specs.declared.Offer.{Offer}
+use Rattle.worker.specs.declared.Event.{Event}
+use Rattle.worker.specs.declared.Event.the-variants.{Nothing}
+use Rattle.worker.specs.declared.Run.{Run}
+
+abbrev pub lsn : ℕ → Lsn
+lsn v = record { 0 = v }
+
+abbrev pub clock : Moment → Moment → Moment → Clock
+clock last wait stall = record { last = last; «wait_began» = wait; «stall_began» = stall }
+
+abbrev pub lastStatus : Bool → Lsn → Moment → LastStatus
+lastStatus sent position at = record { sent = sent; position = position; at = at }
+
+abbrev pub wholeOf : ℕ → ℕ → Bool → Whole
+wholeOf tag len wait = record { tag = tag; len = len; «in_wait» = wait }
+
+abbrev pub offer : Event → Bool → Bool → Lsn → Offer
+offer event stalled stops reached = record { event = event; stalled = stalled; stops = stops; reached = reached }
+
+abbrev pub run : Settings → State → MessageReader → Clock → ProgressCell → LastStatus → ℕ → Bool → Whole → Offer → Metrics → Run
+run settings state reader clock progress status drained pending whole offer metrics =
+    record {
+      settings = settings;
+      state = state;
+      reader = reader;
+      clock = clock;
+      progress = progress;
+      status = status;
+      drained = drained;
+      pending = pending;
+      whole = whole;
+      offer = offer;
+      metrics = metrics;
+    }
+
+-- a run before its first step: "the start, from which confirmations begin"
+unfoldable pub freshRun : Settings → State → Lsn → Run
+freshRun s state start =
+    run s state fresh (clock noMoment noMoment noMoment) (cell start false noMoment (s .timing)) (lastStatus false (lsn 0) noMoment) 0 false
+    (wholeOf 0 0 false) (offer Nothing false false (lsn 0)) none
+
+-- ---- one part changed
+
+abbrev pub withState : State → Run → Run
+withState x r = run (r .settings) x (r .reader) (r .clock) (r .progress) (r .status) (r .drained) (r .pending) (r .whole) (r .offer) (r .metrics)
+
+abbrev pub withReader : MessageReader → Run → Run
+withReader x r = run (r .settings) (r .state) x (r .clock) (r .progress) (r .status) (r .drained) (r .pending) (r .whole) (r .offer) (r .metrics)
+
+abbrev pub withClock : Clock → Run → Run
+withClock x r = run (r .settings) (r .state) (r .reader) x (r .progress) (r .status) (r .drained) (r .pending) (r .whole) (r .offer) (r .metrics)
+
+abbrev pub withProgress : ProgressCell → Run → Run
+withProgress x r = run (r .settings) (r .state) (r .reader) (r .clock) x (r .status) (r .drained) (r .pending) (r .whole) (r .offer) (r .metrics)
+
+abbrev pub withLastStatus : LastStatus → Run → Run
+withLastStatus x r = run (r .settings) (r .state) (r .reader) (r .clock) (r .progress) x (r .drained) (r .pending) (r .whole) (r .offer) (r .metrics)
+
+abbrev pub withDrained : ℕ → Run → Run
+withDrained x r = run (r .settings) (r .state) (r .reader) (r .clock) (r .progress) (r .status) x (r .pending) (r .whole) (r .offer) (r .metrics)
+
+abbrev pub withPending : Bool → Run → Run
+withPending x r = run (r .settings) (r .state) (r .reader) (r .clock) (r .progress) (r .status) (r .drained) x (r .whole) (r .offer) (r .metrics)
+
+abbrev pub withWhole : Whole → Run → Run
+withWhole x r = run (r .settings) (r .state) (r .reader) (r .clock) (r .progress) (r .status) (r .drained) (r .pending) x (r .offer) (r .metrics)
+
+abbrev pub withOffer : Offer → Run → Run
+withOffer x r = run (r .settings) (r .state) (r .reader) (r .clock) (r .progress) (r .status) (r .drained) (r .pending) (r .whole) x (r .metrics)
+
+abbrev pub withMetrics : Metrics → Run → Run
+withMetrics x r = run (r .settings) (r .state) (r .reader) (r .clock) (r .progress) (r .status) (r .drained) (r .pending) (r .whole) (r .offer) x
+
+-- ---- moments
+
+-- a step was accepted at a moment, from then on "the last accepted"
+abbrev pub accepted : Moment → Run → Run
+accepted m r = withClock (clock m (r .clock .«wait_began») (r .clock .«stall_began»)) r
+
+-- the wait begins now
+abbrev pub waitBegun : Run → Run
+waitBegun r = withClock (clock (r .clock .last) (r .clock .last) (r .clock .«stall_began»)) r
+
+-- the stall begins now
+abbrev pub stallBegun : Run → Run
+stallBegun r = withClock (clock (r .clock .last) (r .clock .«wait_began») (r .clock .last)) r
+
+-- whole microseconds of nanoseconds
+abbrev pub micros : ℕ → ℕ
+micros nanos = nanos / 1000

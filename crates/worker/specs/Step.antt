@@ -1,0 +1,324 @@
+-- One step: document 01's step table, row by row and test by test, and the tests 2 to 5 before it.
+use Prim.Native.Nat.{ℕ, _+_}
+use mathlib.Core.Bool.{Bool, true, false, not}
+use mathlib.Core.List.{List, []}
+use mathlib.Core.Option.{Option, some, none}
+use lib.ListN.{length, take}
+use lib.IntN.{ℤ}
+use lib.Dec.{ltb, leb, eqb}
+use Rattle.wire.specs.Bytes.{pick, at, put}
+use Rattle.framing.specs.declared.MessageReader.{MessageReader}
+use Rattle.framing.specs.Read.{Result, limitOf, readOf}
+use Rattle.framing.specs.Read as R
+use Rattle.framing.specs.Tag.{isError, isCopyBothResponse, isCopyData}
+use Rattle.frontend.specs.Frontend.{statusUpdate, copyDone}
+use Rattle.lsn.specs.declared.Lsn.{Lsn}
+use Rattle.lsn.specs.Position.{isBelow}
+use Rattle.metrics.specs.Metrics.{more, withEvent, withStatus, withReply, withStall, withStallEnd, withEnd}
+use Rattle.moment.specs.declared.Moment.{Moment}
+use Rattle.moment.specs.Moment.{isBefore, inRange, sinceOf}
+use Rattle.pgoutput.specs.Boundary.{boundaryOf}
+use Rattle.pgoutput.specs.Boundary as B
+use Rattle.progress.specs.Progress.{isNone, lookedOf, reportedOf}
+use Rattle.replication.specs.CopyData.{copyDataOf}
+use Rattle.replication.specs.CopyData as C
+use Rattle.worker.specs.declared.State.{State}
+use Rattle.worker.specs.declared.State.the-variants.{Opening, Turn, Drain, Reading, Waiting, Handling, Offering, Ended}
+use Rattle.worker.specs.declared.Queue.{Queue}
+use Rattle.worker.specs.declared.Queue.the-variants.{Free, Full, Closed}
+use Rattle.worker.specs.declared.Event.{Event}
+use Rattle.worker.specs.declared.Event.the-variants.{Nothing, KeepAlive, Begin, Commit, Message, XLogData, StoppedAt}
+use Rattle.worker.specs.declared.Input.{Input}
+use Rattle.worker.specs.declared.Run.{Run}
+use Rattle.worker.specs.Run.{lsn, lastStatus, wholeOf, offer, withState, withReader, withProgress, withLastStatus, withDrained, withPending, withWhole, withOffer, withMetrics, accepted, waitBegun, stallBegun, micros}
+
+-- what a step answers and leaves: the run, document 01's number (0 for none), the taken count, the event handed on, how many bytes were
+-- written, how long a confirmed position waited where that is told, the payload buffer and the output
+pub record Outcome : Type 0 where
+  pub run : Run
+  pub refusal : ℕ
+  pub taken : ℕ
+  pub event : Event
+  pub written : ℕ
+  pub waited : Option ℕ
+  pub payload : List ℕ
+  pub out : List ℕ
+
+-- what a step is lent: unread bytes, payload buffer, output
+pub record Lent : Type 0 where
+  pub unread : List ℕ
+  pub payload : List ℕ
+  pub out : List ℕ
+
+-- ---- the ends of a step
+
+-- nothing but the run changes
+abbrev pub moved : Run → Lent → Outcome
+moved r l = record { run = r; refusal = 0; taken = 0; event = Nothing; written = 0; waited = none; payload = l .payload; out = l .out }
+
+-- refused with a number
+abbrev pub refusedWith : ℕ → Run → Lent → Outcome
+refusedWith n r l = record { run = r; refusal = n; taken = 0; event = Nothing; written = 0; waited = none; payload = l .payload; out = l .out }
+
+-- "6 to 19 end a run"
+abbrev pub endedWith : ℕ → Run → Lent → Outcome
+endedWith n r l = refusedWith n (withState Ended r) l
+
+-- a CopyDone, and the run's end
+abbrev pub doneWith : Event → Run → Lent → Outcome
+doneWith e r l =
+    record { run = withState Ended r; refusal = 0; taken = 0; event = e; written = 5; waited = none; payload = l .payload; out = put (l .out) 0 copyDone }
+
+-- so many bytes were taken, and this is the payload buffer
+abbrev pub having : ℕ → List ℕ → Outcome → Outcome
+having k p o =
+    record { run = o .run; refusal = o .refusal; taken = k; event = o .event; written = o .written; waited = o .waited; payload = p; out = o .out }
+
+-- ---- status
+
+-- "status interval passed"
+abbrev pub intervalPassed : Run → Bool
+intervalPassed r = leb (r .settings .«status_interval») (sinceOf (r .clock .last) (r .status .at))
+
+-- "the first or whose position is above the last sent"; nothing sent, or position above last sent
+abbrev pub isAbove : Run → Bool
+isAbove r = pick (r .status .sent) (isBelow (r .status .position) (r .progress .applied)) true
+
+-- such a status takes the pending moment where timing is on
+abbrev pub takesPending : Run → Bool
+takesPending r = pick (r .progress .timed) (isAbove r) false
+
+-- how long the pending moment has waited
+abbrev pub waitedBy : Run → Option ℕ
+waitedBy r =
+    pick (takesPending r)
+    (pick (isNone (r .progress .«pending_since»)) none (some (sinceOf (r .clock .last) (r .progress .«pending_since»))))
+    none
+
+-- the run after a status
+abbrev pub confirmed : Run → Run
+confirmed r =
+    withMetrics (withStatus (r .metrics) (r .progress .applied))
+    (withLastStatus (lastStatus true (r .progress .applied) (r .clock .last))
+    (withProgress (pick (takesPending r) (reportedOf (r .progress) (r .progress .applied) (r .clock .last) .cell) (r .progress)) r))
+
+-- a status with a reply byte; it confirms the position as it is now
+unfoldable pub statusOf : Bool → State → Run → Input → Lent → Outcome
+statusOf reply to r i l =
+    record {
+      run = withState to (confirmed r);
+      refusal = 0;
+      taken = 0;
+      event = Nothing;
+      written = 39;
+      waited = waitedBy r;
+      payload = l .payload;
+      out = put (l .out) 0 (statusUpdate (r .progress .applied .0) (i .«client_time») reply);
+    }
+
+-- ---- Opening: "`W`: turn; `E`: 19; others skipped"
+
+abbrev pub openingBy : R.Said → Run → Lent → Outcome
+openingBy R.more r l = moved r l
+openingBy (R.whole tag n) r l =
+    pick (isCopyBothResponse tag) (moved (withState Turn r) l)
+    (pick (isError tag) (endedWith 19 (withWhole (wholeOf tag n false) r) l)
+    (moved r l))
+openingBy (R.refused n) r l = endedWith n r l
+
+-- a read of what the message still lacks
+abbrev pub readBy : Run → Input → Lent → Result
+readBy r i l = readOf (r .settings .«max_message_size») (r .reader) (l .unread) (i .ended) (l .payload)
+
+unfoldable pub openingOf : Run → Input → Lent → Outcome
+openingOf r i l = let x : Result = readBy r i l in having (x .2) (x .3) (openingBy (x .0) (withReader (x .1) r) l)
+
+-- ---- Turn: "no status yet, or status interval passed: status; then drain"
+
+abbrev pub statusDue : Run → Bool
+statusDue r = pick (r .status .sent) (intervalPassed r) true
+
+unfoldable pub turnOf : Run → Input → Lent → Outcome
+turnOf r i l =
+    let none-drained : Run = withDrained 0 r in
+    pick (statusDue r) (statusOf false Drain none-drained i l)
+    (moved (withState Drain none-drained) l)
+
+-- ---- Drain: "under 256 messages and 5 bytes unread: read; some drained: stop gives CopyDone and end, else turn; none drained: clear signal,
+-- fix "pending" (nothing sent, or position above last sent), wait"
+
+abbrev pub waits : Run → Run
+waits r = withState Waiting (waitBegun (withPending (isAbove r) (withProgress (lookedOf (r .progress) .cell) r)))
+
+unfoldable pub drainOf : Run → Input → Lent → Outcome
+drainOf r i l =
+    pick (pick (ltb (r .drained) 256) (leb 5 (length (l .unread))) false) (moved (withState Reading r) l)
+    (pick (eqb (r .drained) 0) (moved (waits r) l)
+    (pick (i .stop) (doneWith Nothing r l)
+    (moved (withState Turn r) l)))
+
+-- ---- Reading: "message whole: handle; else stay, whatever the clock"
+
+abbrev pub readingBy : R.Said → Run → Lent → Outcome
+readingBy R.more r l = moved r l
+readingBy (R.whole tag n) r l = moved (withState Handling (withWhole (wholeOf tag n false) (withDrained (more (r .drained) 1) r))) l
+readingBy (R.refused n) r l = endedWith n r l
+
+unfoldable pub readingOf : Run → Input → Lent → Outcome
+readingOf r i l = let x : Result = readBy r i l in having (x .2) (x .3) (readingBy (x .0) (withReader (x .1) r) l)
+
+-- ---- Waiting: "stop: CopyDone, end; pending and interval passed: status, turn; not pending and signalled: turn; bytes or input ended: read,
+-- and a whole message is handled, then turn; idle interval since the wait began: status, turn; else stay with what was read"
+
+abbrev pub idleOf : Run → Input → Lent → Outcome
+idleOf r i l =
+    pick (leb (r .settings .«idle_wakeup_interval») (sinceOf (r .clock .last) (r .clock .«wait_began»))) (statusOf false Turn r i l)
+    (moved r l)
+
+abbrev pub waitingBy : R.Said → Run → Input → Lent → Outcome
+waitingBy R.more r i l = idleOf r i l
+waitingBy (R.whole tag n) r i l = moved (withState Handling (withWhole (wholeOf tag n true) r)) l
+waitingBy (R.refused n) r i l = endedWith n r l
+
+abbrev pub waitingRead : Run → Input → Lent → Outcome
+waitingRead r i l = let x : Result = readBy r i l in having (x .2) (x .3) (waitingBy (x .0) (withReader (x .1) r) i l)
+
+abbrev pub isReadable : Input → Lent → Bool
+isReadable i l = pick (eqb (length (l .unread)) 0) (i .ended) true
+
+unfoldable pub waitingOf : Run → Input → Lent → Outcome
+waitingOf r i l =
+    pick (i .stop) (doneWith Nothing r l)
+    (pick (pick (r .pending) (intervalPassed r) false) (statusOf false Turn r i l)
+    (pick (pick (r .pending) false (r .progress .signalled)) (moved (withState Turn r) l)
+    (pick (isReadable i l) (waitingRead r i l)
+    (idleOf r i l))))
+
+-- ---- Handling: "`E`: 19; not `d`: skipped; `k` asking a reply: status with reply byte 1, then its event"
+
+-- back "to drain, or to turn after a wait"
+abbrev pub back : Run → Run
+back r = withState (pick (r .whole .«in_wait») Turn Drain) r
+
+-- an event is offered, behind which StoppedAt follows or not
+abbrev pub offers : Event → Bool → Lsn → Run → Run
+offers e stops reached r = withState Offering (withOffer (offer e false stops reached) r)
+
+-- "at or above it"
+abbrev pub reaches : Run → Lsn → Bool
+reaches r p = pick (r .settings .«has_stop») (not (isBelow p (r .settings .«stop_at_lsn»))) false
+
+-- an event that reaches a position
+abbrev pub offersAt : Event → Lsn → Run → Lent → Outcome
+offersAt e p r l = moved (offers e (reaches r p) p r) l
+
+-- "Keepalives never stop"
+abbrev pub keepAliveOf : ℕ → ℤ → Bool → Run → Input → Lent → Outcome
+keepAliveOf end time reply r i l =
+    let offered : Run = offers (KeepAlive (lsn end) time reply) false (lsn 0) r in
+    pick reply (statusOf true Offering (withMetrics (withReply (offered .metrics)) offered) i l) (moved offered l)
+
+-- "`B` reaches its final position, `C` its end, `M` and other data wal_end". The data begin at a place of the payload buffer
+abbrev pub boundaryBy : B.Said → ℕ → ℕ → ℤ → ℕ → ℕ → Run → Lent → Outcome
+boundaryBy (B.begin final time xid) start end wal-time from len r l = offersAt (Begin (lsn final) time xid) (lsn final) r l
+boundaryBy (B.commit position commit-end time) start end wal-time from len r l =
+    offersAt (Commit (lsn position) (lsn commit-end) time) (lsn commit-end) r l
+boundaryBy (B.message flag position pf pl cf cl) start end wal-time from len r l =
+    offersAt (Message flag (lsn position) (from + pf) pl (from + cf) cl) (lsn end) r l
+boundaryBy B.no-boundary start end wal-time from len r l = offersAt (XLogData (lsn start) (lsn end) wal-time from len) (lsn end) r l
+boundaryBy (B.refused n) start end wal-time from len r l = endedWith n r l
+
+abbrev pub copyDataBy : C.Said → Run → Input → Lent → Outcome
+copyDataBy (C.k end time reply) r i l = keepAliveOf end time reply (withMetrics (withEnd (r .metrics) (lsn end)) r) i l
+copyDataBy (C.w start end time from len) r i l =
+    boundaryBy (boundaryOf (at (l .payload) from len)) start end time from len (withMetrics (withEnd (r .metrics) (lsn end)) r) l
+copyDataBy (C.refused n) r i l = endedWith n r l
+
+unfoldable pub handlingOf : Run → Input → Lent → Outcome
+handlingOf r i l =
+    pick (isError (r .whole .tag)) (endedWith 19 r l)
+    (pick (isCopyData (r .whole .tag)) (copyDataBy (copyDataOf (take (r .whole .len) (l .payload))) r i l)
+    (moved (back r) l))
+
+-- ---- Offering: "first try: free hands on, closed drops, full begins a stall and goes on in the same step; then stop: CopyDone, end, event
+-- dropped; free or closed: stall ends; interval passed: status; else stay"
+
+abbrev pub isStoppedAt : Event → Bool
+isStoppedAt Nothing = false
+isStoppedAt (KeepAlive end time reply) = false
+isStoppedAt (Begin final time xid) = false
+isStoppedAt (Commit position end time) = false
+isStoppedAt (Message flag position pf pl cf cl) = false
+isStoppedAt (XLogData start end time from len) = false
+isStoppedAt (StoppedAt reached) = true
+
+-- an event was handed on (or Nothing: dropped); "the event, then StoppedAt, then CopyDone"
+abbrev pub nextOf : Event → Run → Lent → Outcome
+nextOf e r l =
+    pick (isStoppedAt (r .offer .event)) (doneWith e r l)
+    (let to : Run = pick (r .offer .stops) (offers (StoppedAt (r .offer .reached)) false (lsn 0) r) (back r) in
+    record { run = to; refusal = 0; taken = 0; event = e; written = 0; waited = none; payload = l .payload; out = l .out })
+
+abbrev pub handsOn : Run → Lent → Outcome
+handsOn r l = nextOf (r .offer .event) (withMetrics (withEvent (r .metrics)) r) l
+
+abbrev pub drops : Run → Lent → Outcome
+drops r l = nextOf Nothing r l
+
+abbrev pub stallEnded : Run → Run
+stallEnded r = withMetrics (withStallEnd (r .metrics) (micros (sinceOf (r .clock .last) (r .clock .«stall_began»)))) r
+
+abbrev pub stalls : Run → Run
+stalls r =
+    withMetrics (withStall (r .metrics)) (stallBegun (withOffer (offer (r .offer .event) true (r .offer .stops) (r .offer .reached)) r))
+
+abbrev pub stalledBy : Queue → Run → Input → Lent → Outcome
+stalledBy Free r i l = handsOn (stallEnded r) l
+stalledBy Closed r i l = drops (stallEnded r) l
+stalledBy Full r i l = pick (intervalPassed r) (statusOf false Offering r i l) (moved r l)
+
+unfoldable pub stalledOf : Run → Input → Lent → Outcome
+stalledOf r i l = pick (i .stop) (doneWith Nothing r l) (stalledBy (i .queue) r i l)
+
+abbrev pub firstBy : Queue → Run → Input → Lent → Outcome
+firstBy Free r i l = handsOn r l
+firstBy Closed r i l = drops r l
+firstBy Full r i l = stalledOf (stalls r) i l
+
+unfoldable pub offeringOf : Run → Input → Lent → Outcome
+offeringOf r i l = pick (r .offer .stalled) (stalledOf r i l) (firstBy (i .queue) r i l)
+
+-- ---- one step
+
+unfoldable pub stateOf : State → Run → Input → Lent → Outcome
+stateOf Opening r i l = openingOf r i l
+stateOf Turn r i l = turnOf r i l
+stateOf Drain r i l = drainOf r i l
+stateOf Reading r i l = readingOf r i l
+stateOf Waiting r i l = waitingOf r i l
+stateOf Handling r i l = handlingOf r i l
+stateOf Offering r i l = offeringOf r i l
+stateOf Ended r i l = refusedWith 2 r l
+
+abbrev pub isEnded : State → Bool
+isEnded Opening = false
+isEnded Turn = false
+isEnded Drain = false
+isEnded Reading = false
+isEnded Waiting = false
+isEnded Handling = false
+isEnded Offering = false
+isEnded Ended = true
+
+-- 5: "moment outside its range or before the last accepted"
+abbrev pub badMoment : Run → Moment → Bool
+badMoment r m = pick (inRange m) (isBefore m (r .clock .last)) true
+
+-- 2 to 5 change nothing; then the state's row
+unfoldable pub stepOf : Run → Input → Lent → Outcome
+stepOf r i l =
+    pick (isEnded (r .state)) (refusedWith 2 r l)
+    (pick (ltb (length (l .payload)) (limitOf (r .settings .«max_message_size»))) (refusedWith 3 r l)
+    (pick (ltb (length (l .out)) 39) (refusedWith 4 r l)
+    (pick (badMoment r (i .moment)) (refusedWith 5 r l)
+    (stateOf (r .state) (accepted (i .moment) r) i l))))

@@ -1,0 +1,125 @@
+// A run: what it holds, what a step is given, what it answers. The rules are in specs/.
+use framing::MessageReader;
+use lsn::Lsn;
+use metrics::Metrics;
+use moment::Moment;
+use progress::ProgressCell;
+
+// The settings of a run; intervals in nanoseconds.
+pub struct Settings {
+    pub status_interval: u64,
+    pub idle_wakeup_interval: u64,
+    pub max_message_size: usize,
+    pub has_stop: bool,
+    pub stop_at_lsn: Lsn,
+    pub timing: bool,
+    pub binary: bool,
+}
+
+pub enum State {
+    Opening,
+    Turn,
+    Drain,
+    Reading,
+    Waiting,
+    Handling,
+    Offering,
+    Ended,
+}
+
+// The queue to the consumer, as a step finds it.
+pub enum Queue {
+    Free,
+    Full,
+    Closed,
+}
+
+// Parts begin at a place of the payload buffer.
+pub enum Event {
+    Nothing,
+    KeepAlive {
+        wal_end: Lsn,
+        server_time: i64,
+        reply_requested: bool,
+    },
+    Begin {
+        final_lsn: Lsn,
+        commit_time: i64,
+        xid: u32,
+    },
+    Commit {
+        lsn: Lsn,
+        end_lsn: Lsn,
+        commit_time: i64,
+    },
+    Message {
+        transactional: bool,
+        lsn: Lsn,
+        prefix_from: usize,
+        prefix_len: usize,
+        content_from: usize,
+        content_len: usize,
+    },
+    XLogData {
+        wal_start: Lsn,
+        wal_end: Lsn,
+        server_time: i64,
+        from: usize,
+        len: usize,
+    },
+    StoppedAt {
+        reached: Lsn,
+    },
+}
+
+// What a step is given beside the lent bytes.
+pub struct Input {
+    pub moment: Moment,
+    pub client_time: i64,
+    pub stop: bool,
+    pub queue: Queue,
+    pub ended: bool,
+}
+
+// Moments: of the last accepted step, of the wait's beginning, of the stall's.
+pub struct Clock {
+    pub last: Moment,
+    pub wait_began: Moment,
+    pub stall_began: Moment,
+}
+
+// The last status: whether there was one, the position it confirmed, its moment.
+pub struct LastStatus {
+    pub sent: bool,
+    pub position: Lsn,
+    pub at: Moment,
+}
+
+// The last whole message: its tag, its payload's length, and whether it was read in a wait.
+pub struct Whole {
+    pub tag: u8,
+    pub len: usize,
+    pub in_wait: bool,
+}
+
+// The event that is offered, whether its stall has begun, and whether StoppedAt follows it.
+pub struct Offer {
+    pub event: Event,
+    pub stalled: bool,
+    pub stops: bool,
+    pub reached: Lsn,
+}
+
+pub struct Run {
+    pub settings: Settings,
+    pub state: State,
+    pub reader: MessageReader,
+    pub clock: Clock,
+    pub progress: ProgressCell,
+    pub status: LastStatus,
+    pub drained: u64,
+    pub pending: bool,
+    pub whole: Whole,
+    pub offer: Offer,
+    pub metrics: Metrics,
+}
