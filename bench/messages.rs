@@ -97,20 +97,22 @@ fn plain(bytes: &[u8], payload: &mut [u8]) -> (u64, usize) {
     (sum, count)
 }
 
-/// About 64 MB of CopyData messages of `size` bytes each: Begin, Commit, Message and other data in turn.
+/// About 64 MB of CopyData messages of `size` bytes each, as far as they can be so short: Begin, Commit, Message and other data in turn; of 30
+/// bytes, XLogData without data.
 fn stream(size: usize) -> Vec<u8> {
     let mut bytes = Vec::with_capacity(64 << 20);
     let mut i = 0u64;
     while bytes.len() < 64 << 20 {
         let mut data = match i % 4 {
+            _ if size == 30 => Vec::new(),
             0 => vec![b'B'],
             1 => vec![b'I'],
             2 => [&b"M\x01"[..], &i.to_be_bytes(), b"wording\0", &8u32.to_be_bytes(), b"01234567"].concat(),
             _ => vec![b'C', 0],
         };
-        data.extend(std::iter::repeat(i as u8).take(size.saturating_sub(30 + data.len()).max(if i % 2 == 0 { 20 } else { 0 })));
-        if i % 4 == 3 && data.len() < 26 {
-            data.resize(26, 1);
+        let least = [21, 0, 0, 26][(i % 4) as usize];
+        if size > 30 {
+            data.resize((size - 30).max(data.len()).max(least), i as u8);
         }
         bytes.push(b'd');
         bytes.extend((4 + 25 + data.len() as u32).to_be_bytes());
@@ -134,7 +136,7 @@ fn best(mut run: impl FnMut()) -> f64 {
 
 fn main() {
     println!("{:>8} {:>9} {:>12} {:>9} {:>9} {:>9} {:>7} {:>9}", "bytes", "messages", "ours msg/s", "ours MB/s", "Rust MB/s", "memcpy", "ratio", "ours ns");
-    for size in [30usize, 60, 100, 300, 600, 1024, 8192] {
+    for size in [30usize, 50, 100, 300, 600, 1024, 8192] {
         let bytes = stream(size);
         let mut payload = vec![0u8; LIMIT];
         let a = rattle(&bytes, &mut payload);
