@@ -1,20 +1,19 @@
 -- Laws of the definitions in specs/: a byte, a name, a piece of the value more.
-use mathlib.Core.Path.{_≡_, refl, sym, _∙_}
+use mathlib.Core.Path.{_≡_, refl}
 use mathlib.Core.List.{List, [], _∷_, _++_}
 use Prim.Native.Nat.{ℕ, zero, suc, _+_, _≤_, _<_}
 use native.Mathlib.Nat.{not-suc-le-zero}
 use native.Mathlib.Numerals.{add-one}
 use native.Mathlib.Omega.{arith}
-use lib.ListN.{length, drop, getD, set, length-append, length-set, drop-of-length-le}
+use lib.ListN.{length, drop, getD, length-append, drop-of-length-le}
 use lib.Seq.{drop-cons}
 use lib.Dec.{eqb}
 use mathlib.Core.Bool.{false}
 use borrow.Author.Tests.{eq-eqb, ne-eqb}
 use denote.Ref.{RefT}
-use Rattle.wire.specs.Bytes.{put}
-use Rattle.wire.proofs.Laws.{put-next, put-none, put-one, length-put}
-use Rattle.config.specs.OptionValue.{quoted, doubled, following, optionValue, total}
-use Rattle.config.specs.Code.{none, nameAt, commaAt, listed, Filled}
+use Rattle.config.specs.OptionValue.{quoted, doubled, following, optionValue}
+use Rattle.error.specs.Inputs.{none, nameAt}
+use Rattle.config.specs.Code.{commaAt, listed}
 
 pub quote : (c : ℕ) → c ≡ 39 → quoted c ≡ c ∷ c ∷ []
 quote c e = simp (eq-eqb c 39 e) (rw e)
@@ -39,14 +38,6 @@ pub doubled-end : (s : List ℕ) (i : ℕ) → length s ≤ i → doubled (drop 
 unfolding doubled
 doubled-end s i h = rw (drop-of-length-le s h)
 
-pub total-next : (names : List (RefT (List ℕ))) (i : ℕ) → i < length names → total (drop i names) ≡ length (nameAt names i) + total (drop (i + 1) names)
-unfolding total
-total-next names i h = rw (add-one, drop-cons names i none h)
-
-pub total-end : (names : List (RefT (List ℕ))) (i : ℕ) → length names ≤ i → total (drop i names) ≡ 0
-unfolding total
-total-end names i h = rw (drop-of-length-le names h)
-
 later : (i : ℕ) → eqb (suc i) 0 ≡ false
 later i = ne-eqb (suc i) 0 (λ e. omega arith)
 
@@ -69,42 +60,3 @@ unfolding listed optionValue following
 listed-end [] zero h = refl
 listed-end (n ∷ ns) zero h = absurd (not-suc-le-zero h)
 listed-end names (suc i) h = rw (drop-of-length-le names h, later)
-
--- ---- a text written piece by piece
-
-pub filled-none : (d : List ℕ) (i : ℕ) → Filled d i [] i d
-filled-none d i = record { behind = omega arith; text = sym (put-none d i) }
-
-pub filled-one : (d : List ℕ) (i b : ℕ) → i < length d → Filled d i (b ∷ []) (i + 1) (set d i b)
-filled-one d i b h = record { behind = refl; text = put-one d i b h }
-
-pub filled-two : (d : List ℕ) (i b : ℕ) → i + 1 < length d → Filled d i (b ∷ b ∷ []) (i + 2) (set (set d i b) (i + 1) b)
-filled-two d i b h =
-    let l : length (set d i b) ≡ length d = length-set d i b in
-    record {
-      behind = refl;
-      text = put-one (set d i b) (i + 1) b (omega arith) ∙ rw (put-one d i b (omega arith)) (put-next d (b ∷ []) (b ∷ []) i 1 refl (omega arith));
-    }
-
--- d₀ is to have whole at place i; it has become d, and rest is still to be written at place r
-pub record Filling (d₀ : List ℕ) (i : ℕ) (whole : List ℕ) (d : List ℕ) (r : ℕ) (rest : List ℕ) : Type 0 where
-  pub left : r + length rest ≡ i + length whole
-  pub text : put d r rest ≡ put d₀ i whole
-  pub same : length d ≡ length d₀
-
-pub filling-start : (d : List ℕ) (i : ℕ) (whole : List ℕ) → Filling d i whole d i whole
-filling-start d i whole = record { left = refl; text = refl; same = refl }
-
-pub filling-next : {d₀ : List ℕ} {i : ℕ} {whole d : List ℕ} {r : ℕ} {piece rest e : List ℕ} {q : ℕ}
-    → i + length whole ≤ length d₀ → Filling d₀ i whole d r (piece ++ rest) → Filled d r piece q e → Filling d₀ i whole e q rest
-filling-next {d₀} {i} {whole} {d} {r} {piece} {rest} {e} {q} h f w =
-    let l : length (piece ++ rest) ≡ length piece + length rest = length-append piece rest in
-    let k : r + length piece ≤ length d = omega arith in
-    record {
-      left = omega arith;
-      text = rw (w .text, w .behind) (put-next d piece rest r (length piece) refl k ∙ f .text);
-      same = rw (w .text) (length-put d piece r k ∙ f .same);
-    }
-
-pub filling-end : {d₀ : List ℕ} {i : ℕ} {whole d : List ℕ} {r : ℕ} → Filling d₀ i whole d r [] → Filled d₀ i whole r d
-filling-end {d₀} {i} {whole} {d} {r} f = record { behind = omega arith; text = sym (put-none d r) ∙ f .text }

@@ -1,7 +1,6 @@
 -- The value of an option that lists names: document 01, "`to_option_value` doubles each single quote and joins names with commas".
-use Prim.Native.Nat.{ℕ, _+_}
+use Prim.Native.Nat.{ℕ}
 use mathlib.Core.List.{List, [], _∷_, _++_}
-use lib.ListN.{length}
 use lib.Dec.{eqb}
 use denote.Ref.{RefT, now}
 use Rattle.wire.specs.Bytes.{pick}
@@ -24,8 +23,3 @@ following (n ∷ ns) = 44 ∷ (doubled (now n) ++ following ns)
 unfoldable pub optionValue : List (RefT (List ℕ)) → List ℕ
 optionValue [] = []
 optionValue (n ∷ ns) = doubled (now n) ++ following ns
-
--- the bytes of all names together
-unfoldable pub total : List (RefT (List ℕ)) → ℕ
-total [] = 0
-total (n ∷ ns) = length (now n) + total ns

@@ -3,29 +3,13 @@ ghost use mathlib.Core.Path.{_≡_};
 ghost use Prim.Native.Nat.{_+_, _≤_};
 ghost use lib.ListN.{length};
 ghost use Rattle.wire.specs.Bytes.{placed};
+ghost use Rattle.error.specs.Inputs.{total};
 ghost use Rattle.error.specs.Writer.{writing, outcome, counted};
-ghost use Rattle.config.specs.Code.{commaAt, Filled};
-ghost use Rattle.config.specs.OptionValue.{quoted, doubled, optionValue, total};
+ghost use Rattle.config.specs.Code.{commaAt};
+ghost use Rattle.config.specs.OptionValue.{quoted, doubled, optionValue};
 use error::Counted;
 use error::Refusal;
 use error::Written;
-
-// The bytes of all names together, where they are at most room.
-pub fn names_len(names: &[&[u8]], room: usize) -> Counted
-    ensures { λ r. ⌜ r ≡ counted room (total (now (names .entry))) ⌝ }
-{
-    let mut sum: usize = 0;
-    let mut i: usize = 0;
-    while i < names.len() {
-        let s = names[i];
-        if room - sum < s.len() {
-            return Counted::Over;
-        }
-        sum += s.len();
-        i += 1;
-    }
-    Counted::Fits(sum)
-}
 
 // How many bytes a byte of a name takes.
 fn width(c: u8) -> usize
@@ -81,7 +65,7 @@ pub fn count(names: &[&[u8]], room: usize) -> Counted
 // The place behind a byte of a name.
 fn put_byte(out: &mut [u8], at: usize, c: u8) -> usize
     requires { ⌜ at + length (quoted c) ≤ length (now out) ⌝ }
-    ensures { λ r. ⌜ Filled (now (out .entry)) at (quoted c) r (now (out .exit)) ⌝ }
+    ensures { λ r. ⌜ (r, now (out .exit)) ≡ placed (now (out .entry)) at (quoted c) ⌝ }
 {
     if c == b'\'' {
         out[at] = c;
@@ -94,7 +78,7 @@ fn put_byte(out: &mut [u8], at: usize, c: u8) -> usize
 
 fn fill_name(out: &mut [u8], at: usize, s: &[u8]) -> usize
     requires { ⌜ at + length (doubled (now s)) ≤ length (now out) ⌝ }
-    ensures { λ r. ⌜ Filled (now (out .entry)) at (doubled (now (s .entry))) r (now (out .exit)) ⌝ }
+    ensures { λ r. ⌜ (r, now (out .exit)) ≡ placed (now (out .entry)) at (doubled (now (s .entry))) ⌝ }
 {
     let mut to = at;
     let mut i: usize = 0;
@@ -108,7 +92,7 @@ fn fill_name(out: &mut [u8], at: usize, s: &[u8]) -> usize
 // The place behind what stands before the i-th name.
 fn put_comma(out: &mut [u8], at: usize, i: usize) -> usize
     requires { ⌜ at + length (commaAt i) ≤ length (now out) ⌝ }
-    ensures { λ r. ⌜ Filled (now (out .entry)) at (commaAt i) r (now (out .exit)) ⌝ }
+    ensures { λ r. ⌜ (r, now (out .exit)) ≡ placed (now (out .entry)) at (commaAt i) ⌝ }
 {
     if i == 0 {
         return at;
@@ -119,7 +103,7 @@ fn put_comma(out: &mut [u8], at: usize, i: usize) -> usize
 
 fn fill(out: &mut [u8], at: usize, names: &[&[u8]]) -> usize
     requires { ⌜ at + length (optionValue (now names)) ≤ length (now out) ⌝ }
-    ensures { λ r. ⌜ Filled (now (out .entry)) at (optionValue (now (names .entry))) r (now (out .exit)) ⌝ }
+    ensures { λ r. ⌜ (r, now (out .exit)) ≡ placed (now (out .entry)) at (optionValue (now (names .entry))) ⌝ }
 {
     let mut to = at;
     let mut i: usize = 0;
@@ -148,7 +132,7 @@ pub fn place(out: &mut [u8], to: usize, names: &[&[u8]]) -> usize
 pub fn to_option_value(names: &[&[u8]], out: &mut [u8]) -> Written
     ensures { λ r. ⌜ (outcome r, now (out .exit)) ≡ writing (total (now (names .entry))) (optionValue (now (names .entry))) (now (out .entry)) ⌝ }
 {
-    let Counted::Fits(_) = names_len(names, 1048576) else {
+    let Counted::Fits(_) = error::inputs_len(names, 1048576) else {
         return Written::Refused(Refusal::InputTooLong);
     };
     let Counted::Fits(_) = count(names, out.len()) else {

@@ -1,13 +1,18 @@
--- The three ways out of a writer.
+-- The three ways out of a writer, lengths within a room, and names counted one by one.
 use mathlib.Core.Path.{_≡_, refl}
 use mathlib.Core.List.{List}
-use Prim.Native.Nat.{ℕ, _≤_, _<_}
+use Prim.Native.Nat.{ℕ, _+_, _≤_, _<_}
+use native.Mathlib.Numerals.{add-one}
 use native.Mathlib.Omega.{arith}
-use lib.ListN.{length}
+use lib.ListN.{length, drop, drop-of-length-le}
+use lib.Seq.{drop-cons}
 use lib.Dec.{leb}
 use mathlib.Core.Bool.{Bool, true, false}
 use borrow.Author.Tests.{lt-ltb, le-ltb, le-leb, lt-leb, leb-true, leb-false}
-use Rattle.wire.specs.Bytes.{pick, put}
+use denote.Ref.{RefT}
+use Rattle.wire.specs.Bytes.{pick, put, placed}
+use Rattle.wire.proofs.Laws.{placed-fits}
+use Rattle.error.specs.Inputs.{total, none, nameAt}
 use Rattle.error.specs.Writer.{writing, counted}
 use Rattle.error.specs.declared.Counted.the-variants.{Fits, Over}
 
@@ -24,6 +29,11 @@ unfolding writing
 wrote inputs text out q n h e k p =
     let f : length text ≤ length out = omega arith in
     rw (← e, p) (simp (le-ltb _ _ h, le-ltb _ _ f))
+
+-- the same of a text that was placed
+pub wrote-placed : (inputs : ℕ) (text out : List ℕ) {q : List ℕ} {n r : ℕ} → inputs ≤ 1048576 → length text ≡ n → n ≤ length out → (r, q) ≡ placed out 0 text
+    → ((0, n), q) ≡ writing inputs text out
+wrote-placed inputs text out {q} {n} h e k p = wrote inputs text out q n h e k (placed-fits out 0 text (omega arith) p .1)
 
 -- ---- a length within a room
 
@@ -54,3 +64,13 @@ counted-over room n e = by (leb n room) refl e
     by : (t : Bool) → leb n room ≡ t → pick t (Fits n) Over ≡ Over → room < n
     by true q p = let z : _≡_ {A = ℕ} 0 1 = cc in absurd (omega arith)
     by false q p = leb-false n room q
+
+-- ---- the bytes of the names from the i-th on
+
+pub total-next : (names : List (RefT (List ℕ))) (i : ℕ) → i < length names → total (drop i names) ≡ length (nameAt names i) + total (drop (i + 1) names)
+unfolding total
+total-next names i h = rw (add-one, drop-cons names i none h)
+
+pub total-end : (names : List (RefT (List ℕ))) (i : ℕ) → length names ≤ i → total (drop i names) ≡ 0
+unfolding total
+total-end names i h = rw (drop-of-length-le names h)

@@ -1,5 +1,7 @@
-// The refusals of document 01, and the Rust's kinds of error over them.
+// The refusals of document 01, the Rust's kinds of error over them, and the count of lent names that refusal 25 limits.
 ghost use mathlib.Core.Path.{_≡_};
+ghost use Rattle.error.specs.Inputs.{total};
+ghost use Rattle.error.specs.Writer.{counted};
 ghost use Rattle.error.specs.Refusal.{numberOf, kindOf, codeOf, isKind};
 ghost use Rattle.error.specs.declared.Kind.{Kind};
 
@@ -161,4 +163,21 @@ fn code(k: Kind) -> u8
         Kind::MessageTooLarge => 4,
         Kind::ParseLsn => 5,
     }
+}
+
+// The bytes of all names together, where they are at most room.
+pub fn inputs_len(names: &[&[u8]], room: usize) -> Counted
+    ensures { λ r. ⌜ r ≡ counted room (total (now (names .entry))) ⌝ }
+{
+    let mut sum: usize = 0;
+    let mut i: usize = 0;
+    while i < names.len() {
+        let s = names[i];
+        if room - sum < s.len() {
+            return Counted::Over;
+        }
+        sum += s.len();
+        i += 1;
+    }
+    Counted::Fits(sum)
 }

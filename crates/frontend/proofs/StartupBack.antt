@@ -1,32 +1,26 @@
 -- A startup message that was written is read back: its length field counts all of it, and each String ends at its zero byte.
-use mathlib.Core.Path.{_≡_, refl, ap, _∙_}
+use mathlib.Core.Path.{_≡_, refl, _∙_}
 use mathlib.Core.List.{List, [], _∷_, _++_, append-assoc}
 use mathlib.Core.Option.{some}
-use Prim.Native.Nat.{ℕ, zero, suc, _+_, _*_, _≤_, _<_}
+use Prim.Native.Nat.{ℕ, zero, suc, _+_, _≤_, _<_}
 use native.Mathlib.Nat.{not-suc-le-zero}
-use native.Mathlib.Numerals.{one-add}
 use native.Mathlib.Omega.{arith}
 use lib.ListN.{length, drop, length-append}
-use lib.Seq.{take-at, drop-at, take-append-seam, drop-append-seam, drop-append-add}
-use lib.IntN.{ℤ, pos, negsuc}
+use lib.Seq.{drop-at, take-append-seam, drop-append-seam, drop-append-add}
+use lib.IntN.{ℤ}
 use lib.Signed.{mag}
 use denote.Ref.{RefT, now}
-use borrow.Author.Tests.{le-ltb, lt-leb, le-leb, ne-eqb}
+use borrow.Author.Tests.{le-ltb, lt-leb}
 use Rattle.wire.specs.Bytes.{at, beBytes}
-use Rattle.wire.specs.Field.{fieldAt, unsigned, signedOf}
-use Rattle.wire.specs.Find.{indexOf}
-use Rattle.wire.specs.declared.find.Found.the-variants.{At}
+use Rattle.wire.specs.Field.{fieldAt, unsigned}
+use Rattle.wire.specs.Find.{indexOf, NoZero}
 use Rattle.wire.proofs.Laws.{length-beBytes}
+use Rattle.wire.proofs.FieldLaws.{field-read, signed-unsigned, unsigned-below}
+use Rattle.wire.proofs.FindLaws.{zero-at}
 use Rattle.frontend.specs.Frontend.{pairs, startup}
-use Rattle.frontend.specs.Startup.{stringOf, pairsFrom, pairsOf, startupOf, paired, NoZero, Sendable}
-use Rattle.wire.proofs.FieldLaws.{be-beBytes, signed-unsigned}
+use Rattle.frontend.specs.Startup.{stringOf, pairsFrom, pairsOf, startupOf, paired, Sendable}
 
 -- ---- strings
-
-zero-at : (v t : List ℕ) → NoZero v → indexOf 0 (v ++ (0 ∷ t)) ≡ At (length v)
-unfolding indexOf
-zero-at [] t n = refl
-zero-at (b ∷ v) t n = simp (ne-eqb b 0 (n .0), zero-at v t (n .1), one-add)
 
 pub string-back : (v t : List ℕ) → NoZero v → stringOf (v ++ (0 ∷ t)) ≡ some (v, t)
 unfolding stringOf
@@ -62,24 +56,6 @@ pub pairs-back : (texts : List (RefT (List ℕ))) → Sendable texts → pairsOf
 unfolding pairsOf
 pairs-back texts s = pairs-from (length (pairs texts)) texts (fewer texts) s
 
--- ---- fields
-
-below : (half : ℕ) (z : ℤ) → mag z < half → unsigned half z < half * 2
-unfolding unsigned
-below half (pos k) h = omega arith
-below half (negsuc k) h = omega arith
-
--- a field of four bytes behind i others
-field-at : (a t : List ℕ) (i v : ℕ) → length a ≡ i → v < 4294967296 → fieldAt 4 (a ++ (beBytes 4 v ++ t)) i ≡ some v
-unfolding fieldAt
-field-at a t i v e h =
-    let b : List ℕ = beBytes 4 v in
-    let l : length b ≡ 4 = length-beBytes 4 v in
-    let n : length (a ++ (b ++ t)) ≡ i + 4 + length t = simp length-append (omega arith) in
-    let p : i + 4 ≤ length (a ++ (b ++ t)) = omega arith in
-    let s : at (a ++ (b ++ t)) i 4 ≡ b = rw (drop-at a (b ++ t) i e) (take-at b t 4 l) in
-    rw (s, be-beBytes 4 v h) (simp (le-leb _ _ p))
-
 -- ---- the message
 
 module _ (version : ℤ) (texts : List (RefT (List ℕ))) where
@@ -89,22 +65,15 @@ module _ (version : ℤ) (texts : List (RefT (List ℕ))) where
   length-back rest h =
       let b : List ℕ = beBytes 4 (unsigned 2147483648 version) ++ pairs texts in
       let n : length (startup version texts) ≡ length b + 4 = length-append (beBytes 4 (length b + 4)) b ∙ omega (arith, length-beBytes 4 (length b + 4)) in
-      rw (append-assoc (beBytes 4 (length b + 4)) b rest, n) (field-at [] (b ++ rest) 0 (length b + 4) refl (omega arith))
+      rw (append-assoc (beBytes 4 (length b + 4)) b rest, n) (field-read 4 (beBytes 4 (length b + 4) ++ (b ++ rest)) 0 (length b + 4) (b ++ rest) (omega arith) (omega arith) refl .0)
 
-  version-back : mag version < 2147483648 → signedOf 2147483648 (fieldAt 4 (startup version texts) 4) ≡ some version
+  -- behind it stand the version and the texts
+  fields-back : mag version < 2147483648 → (fieldAt 4 (startup version texts) 4 ≡ some (unsigned 2147483648 version)) × (drop 8 (startup version texts) ≡ pairs texts)
   unfolding startup
-  version-back h =
-      let b : List ℕ = beBytes 4 (unsigned 2147483648 version) ++ pairs texts in
-      let f = field-at (beBytes 4 (length b + 4)) (pairs texts) 4 (unsigned 2147483648 version) (length-beBytes 4 (length b + 4)) (below 2147483648 version h) in
-      rw f (ap some (signed-unsigned 2147483648 version h))
-
-  texts-behind : drop 8 (startup version texts) ≡ pairs texts
-  unfolding startup
-  texts-behind =
-      let v : List ℕ = beBytes 4 (unsigned 2147483648 version) in
-      let l : List ℕ = beBytes 4 (length (v ++ pairs texts) + 4) in
-      let n : length (l ++ v) ≡ 8 = simp (length-append, length-beBytes) in
-      rw (← append-assoc l v (pairs texts)) (drop-at (l ++ v) (pairs texts) 8 n)
+  fields-back h =
+      let v : ℕ = unsigned 2147483648 version in
+      let b : List ℕ = beBytes 4 v ++ pairs texts in
+      field-read 4 (startup version texts) 4 v (pairs texts) (omega arith) (unsigned-below 2147483648 version h) (drop-at (beBytes 4 (length b + 4)) b 4 (length-beBytes 4 (length b + 4)))
 
   -- a startup message of texts without zero bytes and of names that are not empty is read back, with the bytes behind it
   pub startup-back : (rest : List ℕ) → mag version < 2147483648 → Sendable texts → length (startup version texts) < 2147483648
@@ -113,6 +82,7 @@ module _ (version : ℤ) (texts : List (RefT (List ℕ))) where
   startup-back rest h s k =
       let m : List ℕ = startup version texts in
       let n : length m ≤ length (m ++ rest) = omega (arith, length-append m rest) in
+      let f = fields-back h in
       rw (length-back rest (omega arith))
       (simp (lt-leb 2147483648 (length m) k, le-ltb (length (m ++ rest)) (length m) n)
-      (rw (take-append-seam m rest, drop-append-seam m rest, version-back h, texts-behind, pairs-back texts s)))
+      (rw (take-append-seam m rest, drop-append-seam m rest, f .0, f .1, signed-unsigned 2147483648 version h, pairs-back texts s)))

@@ -1,7 +1,6 @@
 -- The messages as the code goes through them: a header, and texts one behind the other.
 use Prim.Native.Nat.{ℕ, _+_}
 use mathlib.Core.List.{List, [], _∷_, _++_}
-use lib.ListN.{getD}
 use denote.Ref.{RefT, now}
 use Rattle.wire.specs.Bytes.{beBytes}
 
@@ -13,11 +12,3 @@ header tag n = tag ∷ beBytes 4 (n + 4)
 unfoldable pub strings : List (RefT (List ℕ)) → List ℕ
 strings [] = []
 strings (t ∷ ts) = now t ++ (0 ∷ strings ts)
-
--- past the end: no bytes
-abbrev pub none : RefT (List ℕ)
-none = record { ptr = (0, 0); name = 0; now = [] }
-
--- the bytes of the i-th text
-abbrev pub textAt : List (RefT (List ℕ)) → ℕ → List ℕ
-textAt texts i = now (getD texts i none)

@@ -55,8 +55,3 @@ unfoldable pub startup : ℤ → List (RefT (List ℕ)) → List ℕ
 startup version texts =
     let body : List ℕ = beBytes 4 (unsigned 2147483648 version) ++ pairs texts in
     beBytes 4 (length body + 4) ++ body
-
--- the bytes of all texts together
-unfoldable pub total : List (RefT (List ℕ)) → ℕ
-total [] = 0
-total (t ∷ ts) = length (now t) + total ts

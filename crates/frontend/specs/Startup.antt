@@ -10,7 +10,7 @@ use lib.Dec.{leb, ltb}
 use denote.Ref.{RefT, now}
 use Rattle.wire.specs.Bytes.{pick}
 use Rattle.wire.specs.Field.{fieldAt, signedOf}
-use Rattle.wire.specs.Find.{indexOf}
+use Rattle.wire.specs.Find.{indexOf, NoZero}
 use Rattle.wire.specs.declared.find.Found.{Found}
 use Rattle.wire.specs.declared.find.Found.the-variants.{At, Nothing}
 
@@ -70,11 +70,6 @@ abbrev pub paired : List (RefT (List ℕ)) → List (List ℕ × List ℕ)
 paired [] = []
 paired (name ∷ []) = (now name, []) ∷ []
 paired (name ∷ value ∷ rest) = (now name, now value) ∷ paired rest
-
--- no byte is zero
-abbrev pub NoZero : List ℕ → Type 0
-NoZero [] = Unit
-NoZero (b ∷ s) = (b ≡ 0 → ⊥) × NoZero s
 
 -- no text has a zero byte, and no name is empty
 abbrev pub Sendable : List (RefT (List ℕ)) → Type 0

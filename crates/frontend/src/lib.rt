@@ -4,9 +4,10 @@ ghost use Prim.Native.Nat.{_+_, _≤_};
 ghost use lib.ListN.{length};
 ghost use Rattle.wire.specs.Bytes.{placed};
 ghost use Rattle.stream.specs.Message.{framed};
-ghost use Rattle.error.specs.Writer.{writing, outcome, counted};
+ghost use Rattle.error.specs.Inputs.{total};
+ghost use Rattle.error.specs.Writer.{writing, outcome};
 ghost use Rattle.frontend.specs.Code.{header, strings};
-ghost use Rattle.frontend.specs.Frontend.{query, copyData, copyDone, terminate, statusBody, statusUpdate, startup, total};
+ghost use Rattle.frontend.specs.Frontend.{query, copyData, copyDone, terminate, statusBody, statusUpdate, startup};
 use error::Counted;
 use error::Refusal;
 use error::Written;
@@ -112,23 +113,6 @@ pub fn write_status_update(position: Lsn, client_time: i64, reply: bool, out: &m
     Written::Wrote(39)
 }
 
-// The bytes of all texts together, where they are at most room.
-fn texts_len(texts: &[&[u8]], room: usize) -> Counted
-    ensures { λ r. ⌜ r ≡ counted room (total (now (texts .entry))) ⌝ }
-{
-    let mut sum: usize = 0;
-    let mut i: usize = 0;
-    while i < texts.len() {
-        let s = texts[i];
-        if room - sum < s.len() {
-            return Counted::Over;
-        }
-        sum += s.len();
-        i += 1;
-    }
-    Counted::Fits(sum)
-}
-
 // The place behind the texts, each with a zero byte behind it.
 fn place_strings(out: &mut [u8], at: usize, texts: &[&[u8]]) -> usize
     requires { ⌜ at + length (strings (now texts)) ≤ length (now out) ⌝ }
@@ -149,7 +133,7 @@ fn place_strings(out: &mut [u8], at: usize, texts: &[&[u8]]) -> usize
 pub fn write_startup(version: i32, texts: &[&[u8]], out: &mut [u8]) -> Written
     ensures { λ r. ⌜ (outcome r, now (out .exit)) ≡ writing (total (now (texts .entry))) (startup version (now (texts .entry))) (now (out .entry)) ⌝ }
 {
-    let Counted::Fits(sum) = texts_len(texts, 1048576) else {
+    let Counted::Fits(sum) = error::inputs_len(texts, 1048576) else {
         return Written::Refused(Refusal::InputTooLong);
     };
     let odd = texts.len() % 2;

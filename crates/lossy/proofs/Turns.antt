@@ -1,13 +1,12 @@
 -- A turn of the loops: a part that was found, and the lossy text behind it.
-use mathlib.Core.Path.{_≡_, refl, sym, ap, _∙_}
+use mathlib.Core.Path.{_≡_, refl, ap, _∙_}
 use mathlib.Core.Bool.{Bool, true, false}
 use mathlib.Core.List.{List, _∷_, _++_}
 use Prim.Native.Nat.{ℕ, suc, _+_, _≤_, _<_}
 use native.Mathlib.Omega.{arith}
 use lib.ListN.{length, take, drop, getD, length-append, length-drop}
 use lib.Seq.{drop-cons, drop-drop, length-take-le}
-use Rattle.wire.specs.Bytes.{pick, put, placed}
-use Rattle.wire.proofs.Laws.{put-next, placed-at, length-put}
+use Rattle.wire.specs.Bytes.{pick}
 use Rattle.lossy.specs.WellFormed.{table, rowOf}
 use Rattle.lossy.specs.Lossy.{Part, well, ill, partBy, bytesOf, shown, lossyOf}
 use Rattle.lossy.specs.Code.{cutOf, PartAt}
@@ -37,17 +36,3 @@ module _ (s : List ℕ) (i : ℕ) (p : Cut) (h : i < length s) (a : PartAt s i p
 
   pub length-turn : (n : ℕ) → n ≡ pick (p .well) (p .len) 3 → length (lossyOf (drop i s)) ≡ n + length (lossyOf (drop (i + p .len) s))
   length-turn n e = rw (lossy-turn, length-append, shown-length p (drop i s) rest, e)
-
-  pub fill-turn : (d q : List ℕ) (to r : ℕ) → to + length (lossyOf (drop i s)) ≤ length d → (r, q) ≡ placed d to (shown (cutOf p (drop i s)))
-      → (put q r (lossyOf (drop (i + p .len) s)) ≡ put d to (lossyOf (drop i s)))
-      × (r + length (lossyOf (drop (i + p .len) s)) ≡ to + length (lossyOf (drop i s)))
-      × (length q ≡ length d)
-  fill-turn d q to r f e =
-      let u : List ℕ = shown (cutOf p (drop i s)) in
-      let v : List ℕ = lossyOf (drop (i + p .len) s) in
-      let l : length (lossyOf (drop i s)) ≡ length u + length v = rw lossy-turn (length-append u v) in
-      let g : to + length u ≤ length d = omega arith in
-      let w : _≡_ {A = ℕ × List ℕ} (r, q) (to + length u, put d to u) = e ∙ sym (placed-at d to (length u) u (put d to u) refl g refl) in
-      let x : r ≡ to + length u = ap (λ (y : ℕ × List ℕ). y .0) w in
-      let y : q ≡ put d to u = ap (λ (y : ℕ × List ℕ). y .1) w in
-      (rw (y, x, lossy-turn) (put-next d u v to (length u) refl g), rw (l, x) (omega arith), rw y (length-put d u to g))

@@ -1,6 +1,6 @@
 -- Laws of hexadecimal texts, for the loops that read and write them.
 use mathlib.Core.Path.{_≡_, refl, sym, ap, _∙_}
-use mathlib.Core.List.{List, [], _∷_, _++_, append-assoc}
+use mathlib.Core.List.{List, [], _∷_}
 use mathlib.Core.Option.{Option, some, none}
 use Prim.Native.Nat.{ℕ, _+_, _*_, _/_, _%_, _^_, _≤_, _<_}
 use native.Mathlib.Numerals.{add-one}
@@ -8,9 +8,10 @@ use native.Mathlib.Omega.{arith}
 use lib.ListN.{length, take, drop, getD, length-append, length-drop, drop-of-length-le}
 use lib.Seq.{drop-cons, take-all}
 use borrow.Author.Tests.{lt-ltb, le-ltb, eq-eqb, ne-eqb}
-use Rattle.wire.specs.Bytes.{put, placed}
+use Rattle.wire.specs.Bytes.{placed}
 use Rattle.text.specs.Numeral.{hexText}
-use Rattle.wire.proofs.Laws.{put-none, placed-then, found-below}
+use Rattle.wire.proofs.FindLaws.{found-below}
+use Rattle.wire.proofs.Pieces.{filling-start, filling-next, filling-last}
 use Rattle.wire.specs.Find.{indexOf}
 use Rattle.wire.specs.declared.find.Found.{Found}
 use Rattle.wire.specs.declared.find.Found.the-variants.{At, Nothing}
@@ -121,16 +122,9 @@ unfolding displayOf
 length-display v = simp length-append (omega arith)
 
 -- the three writes of Display
-pub displayed : (d d₁ d₂ d₃ : List ℕ) (v r₁ r₂ r₃ : ℕ) → length (displayOf v) ≤ length d
-    → (r₁, d₁) ≡ placed d 0 (hexText (v / 2 ^ 32)) → (r₂, d₂) ≡ placed d₁ r₁ (47 ∷ []) → (r₃, d₃) ≡ placed d₂ r₂ (hexText (v % 2 ^ 32)) → d₃ ≡ put d 0 (displayOf v)
+pub displayed : (d : List ℕ) (v : ℕ) {d₁ d₂ d₃ : List ℕ} {r₁ r₂ r₃ : ℕ} → length (displayOf v) ≤ length d
+    → (r₁, d₁) ≡ placed d 0 (hexText (v / 2 ^ 32)) → (r₂, d₂) ≡ placed d₁ r₁ (47 ∷ []) → (r₃, d₃) ≡ placed d₂ r₂ (hexText (v % 2 ^ 32)) → (r₃, d₃) ≡ placed d 0 (displayOf v)
 unfolding displayOf
-displayed d d₁ d₂ d₃ v r₁ r₂ r₃ h p q r =
-    let hi : List ℕ = hexText (v / 2 ^ 32) in
-    let lo : List ℕ = hexText (v % 2 ^ 32) in
-    let n = length-display v in
-    let m : length (hi ++ (47 ∷ [])) ≡ length hi + 1 = length-append hi (47 ∷ []) in
-    let k : length ((hi ++ (47 ∷ [])) ++ lo) ≡ length hi + 1 + length lo = length-append (hi ++ (47 ∷ [])) lo ∙ omega arith in
-    let a = placed-then d d [] hi 0 0 r₁ d₁ (sym (put-none d 0)) refl (omega arith) p in
-    let b = placed-then d d₁ hi (47 ∷ []) 0 r₁ r₂ d₂ (a .1) (a .0) (omega arith) q in
-    let e = placed-then d d₂ (hi ++ (47 ∷ [])) lo 0 r₂ r₃ d₃ (b .1) (b .0) (omega arith) r in
-    e .1 ∙ ap (put d 0) (append-assoc hi (47 ∷ []) lo)
+displayed d v h p q r =
+    let k : 0 + length (displayOf v) ≤ length d = omega arith in
+    filling-last k (filling-next k (47 ∷ []) (filling-next k (hexText (v / 2 ^ 32)) (filling-start refl) p) q) r

@@ -3,53 +3,19 @@ use mathlib.Core.Path.{_≡_, refl, sym, ap, _∙_}
 use mathlib.Core.List.{List, [], _∷_, _++_, map, append-assoc}
 use mathlib.Core.Logic.{inl, inr, ⊎-elim}
 use Prim.Native.Nat.{ℕ, zero, suc, _+_, _-_, _≤_, _<_}
-use native.Mathlib.Numerals.{add-one, one-add}
 use native.Mathlib.Omega.{arith}
-use lib.ListN.{length, take, drop, getD, length-drop, drop-of-length-le}
+use lib.ListN.{length, drop, getD, length-drop, drop-of-length-le}
 use lib.Seq.{drop-drop, getD-drop, take-append-seam, drop-append-add}
 use lib.Dec.{eqb, ltb}
-use borrow.Author.Tests.{eqb-true, eqb-false, ne-eqb, ltb-true, ltb-false}
+use borrow.Author.Tests.{eqb-true, eqb-false, ltb-true, ltb-false}
 use Rattle.wire.specs.Bytes.{at}
-use Rattle.wire.specs.Find.{indexOf}
+use Rattle.wire.specs.Find.{indexOf, NoZero}
 use Rattle.wire.specs.declared.find.Found.{Found}
 use Rattle.wire.specs.declared.find.Found.the-variants.{At, Nothing}
 use Rattle.wire.proofs.Laws.{by-test}
-use Rattle.messages.specs.FieldLayout.{encode, NoZero, Sendable, Ended, Laid, said, readOf, Read-is-laid, Laid-is-read, Sent-is-read}
-use Rattle.messages.proofs.Laws.{found-behind, nothing-behind, at-place, unread, unread-start, unread-end, unread-zero, unread-cut, unread-field}
-
--- ---- the search for the zero byte behind a value
-
-no-zero : (s : List ℕ) → NoZero s → indexOf 0 s ≡ Nothing
-unfolding indexOf
-no-zero [] n = refl
-no-zero (b ∷ s) n = simp (ne-eqb b 0 (n .0), no-zero s (n .1))
-
-value-end : (v t : List ℕ) → NoZero v → indexOf 0 (v ++ (0 ∷ t)) ≡ At (length v)
-unfolding indexOf
-value-end [] t n = refl
-value-end (b ∷ v) t n = simp (ne-eqb b 0 (n .0), value-end v t (n .1), one-add)
-
--- a search that fails, and one that finds
-all-passed : (s : List ℕ) → indexOf 0 s ≡ Nothing → NoZero s
-unfolding indexOf
-all-passed [] e = tt
-all-passed (b ∷ s) e =
-    by-test (eqb b 0)
-    (λ t. let z : _≡_ {A = ℕ} 0 1 = cc in absurd (omega arith))
-    (λ t. (eqb-false b 0 t, all-passed s (nothing-behind (indexOf 0 s) (rw t at e))))
-
-found-at : (s : List ℕ) (k : ℕ) → indexOf 0 s ≡ At k → NoZero (take k s) × (s ≡ take k s ++ (0 ∷ drop (k + 1) s))
-unfolding indexOf
-found-at [] k e = let z : _≡_ {A = ℕ} 0 1 = cc in absurd (omega arith)
-found-at (b ∷ s) k e =
-    by-test (eqb b 0)
-    (λ t.
-    let h : k ≡ 0 = cc in
-    rw (h, eqb-true b 0 t) (tt, refl))
-    (λ t.
-    let w = found-behind (indexOf 0 s) k (rw t at e) in
-    let r = found-at s (w .0) (w .1) in
-    rw (add-one, w .2) ((eqb-false b 0 t, r .0), ap (λ (l : List ℕ). b ∷ l) (rw add-one at (r .1))))
+use Rattle.wire.proofs.FindLaws.{no-zero, zero-at, all-passed, found-at}
+use Rattle.messages.specs.FieldLayout.{encode, Sendable, Ended, Laid, said, readOf, Read-is-laid, Laid-is-read, Sent-is-read}
+use Rattle.messages.proofs.Laws.{at-place, unread, unread-start, unread-end, unread-zero, unread-cut, unread-field}
 
 -- ---- from the walk to the layout
 
@@ -128,7 +94,7 @@ walk-read (f ∷ fs) s i rest n m e =
     let t : List ℕ = encode fs ++ rest in
     let w = there s i (f .0) ((v ++ (0 ∷ encode fs)) ++ rest) e in
     let q : drop (i + 1) s ≡ v ++ (0 ∷ t) = w .2 ∙ simp append-assoc in
-    let k : indexOf 0 (drop (i + 1) s) ≡ At (length v) = rw q (value-end v t (n .1)) in
+    let k : indexOf 0 (drop (i + 1) s) ≡ At (length v) = rw q (zero-at v t (n .1)) in
     let p : i + 1 + (length v + 1) ≡ i + 1 + length v + 1 = omega arith in
     let r : drop (i + 1 + length v + 1) s ≡ t = sym (rw p at (drop-drop (length v + 1) (i + 1) s)) ∙ rw (q, drop-append-add) in
     let g : getD s i 0 ≡ f .0 = w .1 in

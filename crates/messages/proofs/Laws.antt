@@ -6,8 +6,8 @@ use Prim.Native.Nat.{ℕ, zero, suc, _+_, _-_, _≤_, _<_}
 use native.Mathlib.Nat.{not-suc-le-zero, le-of-suc-le-suc}
 use native.Mathlib.Numerals.{add-one, one-add}
 use native.Mathlib.Omega.{arith}
-use lib.ListN.{length, take, drop, getD, length-drop, length-set}
-use lib.Seq.{drop-cons, drop-drop, take-all}
+use lib.ListN.{length, drop, getD, length-drop, length-set}
+use lib.Seq.{drop-cons, drop-drop}
 use lib.Dec.{eqb}
 use borrow.Author.Tests.{eq-eqb, ne-eqb, eqb-true, eqb-false}
 use Rattle.wire.specs.Bytes.{pick}
@@ -15,18 +15,9 @@ use Rattle.wire.specs.Find.{indexOf, behind}
 use Rattle.wire.specs.declared.find.Found.{Found}
 use Rattle.wire.specs.declared.find.Found.the-variants.{At, Nothing}
 use Rattle.wire.proofs.Laws.{by-test}
+use Rattle.wire.proofs.FindLaws.{nothing-behind}
 use Rattle.messages.specs.declared.Field.{Field}
 use Rattle.messages.specs.Fields.{Entry, kept, entriesFrom, entriesOf, absent, lastOf, entered, letters, fieldsOf, replaced}
-
--- ---- the place of a byte
-
-pub found-behind : (f : Found) (k : ℕ) → behind 1 f ≡ At k → (j : ℕ) × (f ≡ At j) × (k ≡ suc j)
-found-behind (At j) k e = let h : 1 + j ≡ k = cc in (j, refl, sym h ∙ one-add j)
-found-behind Nothing k e = let z : _≡_ {A = ℕ} 0 1 = cc in absurd (omega arith)
-
-pub nothing-behind : (f : Found) → behind 1 f ≡ Nothing → f ≡ Nothing
-nothing-behind (At j) e = let z : _≡_ {A = ℕ} 0 1 = cc in absurd (omega arith)
-nothing-behind Nothing e = refl
 
 -- ---- the entries
 
@@ -186,6 +177,3 @@ turn s fs gs i len h n e l inv p =
     let entry : Entry = record { letter = getD s i 0; from = i + 1; len = len } in
     let q : after letters fs (entry ∷ unread s (i + 1 + len + 1)) ≡ fieldsOf s = rw (unread-field s i len h n e) at inv in
     rw p (length-replaced (indexOf (getD s i 0) letters) (entered entry) fs ∙ l, sym (after-next letters fs entry (unread s (i + 1 + len + 1)) letters-distinct l) ∙ q)
-
-pub tail-whole : (s : List ℕ) (a : ℕ) → take (length s - a) (drop a s) ≡ drop a s
-tail-whole s a = take-all (length s - a) (drop a s) (simp length-drop (omega arith))

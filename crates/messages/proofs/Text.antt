@@ -1,7 +1,7 @@
--- The text of an error: pieces written one behind the other, and the text by what is given.
+-- The text of an error: its length, and the text by what is given.
 use mathlib.Core.Path.{_≡_, refl}
 use mathlib.Core.Bool.{Bool}
-use mathlib.Core.List.{List, _++_, append-assoc}
+use mathlib.Core.List.{List}
 use Prim.Native.Nat.{ℕ, _+_, _≤_}
 use native.Mathlib.Omega.{arith}
 use lib.ListN.{length, getD, length-append}
@@ -11,15 +11,11 @@ use Rattle.lossy.specs.Lossy.{lossyOf, partsOf, shownAll}
 use Rattle.lossy.specs.WellFormed.{table, rowOf, matched}
 use Rattle.messages.specs.declared.Field.{Field}
 use Rattle.messages.specs.Fields.{absent, named}
-use Rattle.messages.specs.ErrorText.{opened, closed, plain, unknown, coded, textBy, errorText}
+use Rattle.messages.specs.ErrorText.{plain, unknown, coded, textBy, errorText}
 
 pub length-coded : (a b : List ℕ) → length (coded a b) ≡ length a + 12 + length b
 unfolding coded
 length-coded a b = simp length-append (omega arith)
-
-pub coded-pieces : (a b : List ℕ) → coded a b ≡ ((a ++ opened) ++ b) ++ closed
-unfolding coded
-coded-pieces a b = simp append-assoc
 
 pub plain-lossy : lossyOf plain ≡ plain
 unfolding lossyOf partsOf shownAll rowOf table matched

@@ -5,17 +5,13 @@ use mathlib.Core.List.{List, [], _∷_, _++_, map}
 use mathlib.Core.Logic.{_⊎_}
 use Prim.Native.Nat.{ℕ}
 use Rattle.wire.specs.Bytes.{at}
+use Rattle.wire.specs.Find.{NoZero}
 use Rattle.messages.specs.Fields.{Entry, entriesOf}
 
 -- letters and values as they are sent
 unfoldable pub encode : List (ℕ × List ℕ) → List ℕ
 encode [] = []
 encode (f ∷ fs) = f .0 ∷ (f .1 ++ (0 ∷ encode fs))
-
--- no byte of a value is zero
-abbrev pub NoZero : List ℕ → Type 0
-NoZero [] = Unit
-NoZero (b ∷ s) = (b ≡ 0 → ⊥) × NoZero s
 
 -- no letter is zero, nor a byte of a value
 abbrev pub Sendable : List (ℕ × List ℕ) → Type 0

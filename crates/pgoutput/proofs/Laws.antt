@@ -4,15 +4,14 @@ use mathlib.Core.List.{List, [], _∷_}
 use mathlib.Core.Option.{some, none}
 use Prim.Native.Nat.{ℕ, _+_, _-_, _%_, _≤_, _<_}
 use native.Mathlib.Omega.{arith}
-use lib.ListN.{length, take, drop, getD, length-drop}
-use lib.Seq.{take-all}
+use lib.ListN.{length, drop, getD, length-drop}
 use lib.Dec.{eqb}
 use borrow.Author.Tests.{lt-leb, le-ltb, eq-eqb, ne-eqb}
 use lib.IntN.{ℤ}
 use Rattle.wire.specs.Field.{fieldAt, signedOf}
 use Rattle.wire.specs.Find.{indexOf}
 use Rattle.wire.specs.declared.find.Found.the-variants.{At}
-use Rattle.wire.proofs.Laws.{found-below}
+use Rattle.wire.proofs.FindLaws.{found-below}
 use Rattle.wire.proofs.FieldLaws.{field-within, signed-some, signed-none}
 use Rattle.pgoutput.specs.Boundary.{Said, begin, commit, message, no-boundary, refused, time64, beginAt, commitAt, messageAt, boundaryOf}
 
@@ -59,10 +58,6 @@ module _ (s : List ℕ) (i : ℕ) where
       → fieldAt 4 s (i + 9 + n + 1) ≡ some len → len < 2147483648 → len ≤ length s - (i + 9 + n + 1 + 4)
       → messageAt s i ≡ message (eqb (v % 2) 1) a (i + 9) n (i + 9 + n + 1 + 4) len
   message-values v a n len e f g h l m = simp (e, f, g, h, lt-leb _ _ l, le-ltb _ _ m)
-
--- a part that goes on to the end
-pub tail-whole : (s : List ℕ) (a : ℕ) → take (length s - a) (drop a s) ≡ drop a s
-tail-whole s a = take-all (length s - a) (drop a s) (simp length-drop (omega arith))
 
 -- the zero byte behind a prefix stands within the bytes
 pub prefix-within : (s : List ℕ) (i n : ℕ) → indexOf 0 (drop i s) ≡ At n → i + n < length s

@@ -2,50 +2,23 @@
 use mathlib.Core.Path.{_≡_, refl, sym, ap, _∙_}
 use mathlib.Core.Bool.{Bool, true}
 use mathlib.Core.Option.{some}
-use mathlib.Core.List.{List, [], _∷_, _++_, append-assoc}
-use Prim.Native.Nat.{ℕ, suc, _+_, _-_, _%_, _≤_, _<_, _^_}
-use native.Mathlib.Numerals.{add-one, one-add}
+use mathlib.Core.List.{List, _∷_, _++_, append-assoc}
+use Prim.Native.Nat.{ℕ, _+_, _-_, _%_, _≤_, _<_, _^_}
 use native.Mathlib.Omega.{arith}
-use lib.ListN.{length, take, drop, length-append, length-drop, take-append-drop}
+use lib.ListN.{length, drop, length-append, length-drop, take-append-drop}
 use lib.Seq.{drop-drop, drop-append-add, take-append-seam, length-take-le}
 use lib.Dec.{eqb}
 use lib.Pow.{areBytes}
-use borrow.Author.Tests.{eqb-true, eqb-false, ne-eqb}
 use Rattle.wire.specs.Bytes.{at, beBytes}
 use Rattle.wire.specs.Field.{fieldAt}
-use Rattle.wire.specs.Find.{indexOf, behind}
-use Rattle.wire.specs.declared.find.Found.{Found}
-use Rattle.wire.specs.declared.find.Found.the-variants.{At, Nothing}
-use Rattle.wire.proofs.Laws.{by-test}
+use Rattle.wire.specs.Find.{indexOf, NoZero}
+use Rattle.wire.specs.declared.find.Found.the-variants.{At}
+use Rattle.wire.proofs.FindLaws.{zero-at, found-at}
 use Rattle.wire.proofs.FieldLaws.{beBytes-one, field-read, field-there}
 use Rattle.pgoutput.specs.Boundary.{message, refused, messageAt, boundaryOf, messageBytes}
-use Rattle.pgoutput.specs.BoundaryLayout.{NoZero, Message-is-read, SentMessage, Read-is-Message}
+use Rattle.pgoutput.specs.BoundaryLayout.{Message-is-read, SentMessage, Read-is-Message}
 use Rattle.pgoutput.proofs.Laws.{message-values, prefix-within}
 use Rattle.pgoutput.proofs.LayoutFields.{by-letter, begin-fields, commit-fields, message-fields}
-
--- ---- the zero byte behind a prefix
-
-ended : (v t : List ℕ) → NoZero v → indexOf 0 (v ++ (0 ∷ t)) ≡ At (length v)
-unfolding indexOf
-ended [] t n = refl
-ended (b ∷ v) t n = simp (ne-eqb b 0 (n .0), ended v t (n .1), one-add)
-
-found-behind : (f : Found) (k : ℕ) → behind 1 f ≡ At k → (j : ℕ) × (f ≡ At j) × (k ≡ suc j)
-found-behind (At j) k e = let h : 1 + j ≡ k = cc in (j, refl, sym h ∙ one-add j)
-found-behind Nothing k e = let z : _≡_ {A = ℕ} 0 1 = cc in absurd (omega arith)
-
-found-at : (s : List ℕ) (k : ℕ) → indexOf 0 s ≡ At k → NoZero (take k s) × (s ≡ take k s ++ (0 ∷ drop (k + 1) s))
-unfolding indexOf
-found-at [] k e = let z : _≡_ {A = ℕ} 0 1 = cc in absurd (omega arith)
-found-at (b ∷ s) k e =
-    by-test (eqb b 0)
-    (λ t.
-    let h : k ≡ 0 = cc in
-    rw (h, eqb-true b 0 t) (tt, refl))
-    (λ t.
-    let w = found-behind (indexOf 0 s) k (rw t at e) in
-    let r = found-at s (w .0) (w .1) in
-    rw (add-one, w .2) ((eqb-false b 0 t, r .0), ap (λ (l : List ℕ). b ∷ l) (rw add-one at (r .1))))
 
 -- what stands behind a prefix of n bytes from place 10 and its zero byte
 behind-prefix : (s : List ℕ) (n : ℕ) → drop (n + 1) (drop 10 s) ≡ drop (10 + n + 1) s
@@ -62,7 +35,7 @@ laid s v a prefix content rest hv ha hp hc e =
     let m : List ℕ = beBytes 4 (length content) ++ (content ++ rest) in
     let o = field-read 1 s 1 v (beBytes 8 a ++ (prefix ++ (0 ∷ m))) (omega arith) hv (rw (beBytes-one v hv) e) in
     let p = field-read 8 s 2 a (prefix ++ (0 ∷ m)) (omega arith) ha (o .1) in
-    let f : indexOf 0 (drop 10 s) ≡ At n = rw (p .1) (ended prefix m hp) in
+    let f : indexOf 0 (drop 10 s) ≡ At n = rw (p .1) (zero-at prefix m hp) in
     let d : drop (10 + n + 1) s ≡ m = sym (behind-prefix s n) ∙ rw (p .1, drop-append-add) in
     let c = field-read 4 s (10 + n + 1) (length content) (content ++ rest) (omega arith) (omega arith) d in
     let l : length s - (10 + n + 1 + 4) ≡ length content + length rest = sym (length-drop (10 + n + 1 + 4) s) ∙ ap length (c .1) ∙ length-append content rest in

@@ -2,7 +2,7 @@
 -- Positions are below 2 ^ 64, a time is a signed number of 64 bits, data are bytes.
 use mathlib.Core.Path.{_≡_}
 use mathlib.Core.Bool.{Bool, true}
-use mathlib.Core.List.{List, [], _∷_, _++_}
+use mathlib.Core.List.{List, _++_}
 use Prim.Native.Nat.{ℕ, _+_, _%_, _<_, _^_}
 use lib.ListN.{length}
 use lib.IntN.{ℤ}
@@ -10,6 +10,7 @@ use lib.Signed.{mag}
 use lib.Dec.{eqb}
 use lib.Pow.{areBytes}
 use Rattle.wire.specs.Bytes.{at}
+use Rattle.wire.specs.Find.{NoZero}
 use Rattle.pgoutput.specs.Boundary.{begin, commit, message, boundaryOf, beginBytes, commitBytes, messageBytes}
 
 -- ---- Begin
@@ -55,11 +56,6 @@ abbrev pub Read-is-Commit : Type 0
 Read-is-Commit = (s : List ℕ) (position end : ℕ) (time : ℤ) → areBytes s ≡ true → boundaryOf s ≡ commit position end time → SentCommit s position end time
 
 -- ---- Message, of whose flags bit 0 is told
-
--- no byte of a prefix is zero
-abbrev pub NoZero : List ℕ → Type 0
-NoZero [] = Unit
-NoZero (b ∷ s) = (b ≡ 0 → ⊥) × NoZero s
 
 -- the data are read as the message, and the parts that are named are its prefix and its content
 pub record ReadMessage (s : List ℕ) (flag : Bool) (position : ℕ) (prefix content : List ℕ) : Type 0 where

@@ -6,7 +6,7 @@ use Prim.Native.Nat.{ℕ, zero, suc, _+_, _*_, _-_, _/_, _%_, _^_, _≤_, _<_}
 use native.Mathlib.Nat.{pow-zero, pow-suc, div-lt-iff-lt-mul, div-lt-self, div-le-self, mod-lt}
 use native.Mathlib.Numerals.{add-one}
 use native.Mathlib.Omega.{arith}
-use lib.ListN.{length, drop, getD, set, length-append, length-set, drop-of-length-le}
+use lib.ListN.{length, drop, getD, set, length-append, drop-of-length-le}
 use lib.Seq.{drop-cons}
 use lib.Dec.{ltb, leb·zero}
 use lib.IntN.{ℤ, pos, negsuc, natAbs, _-ℤ_}
@@ -14,7 +14,7 @@ use lib.Signed.{leZ}
 use borrow.Author.Tests.{lt-ltb, le-ltb}
 use Rattle.wire.specs.Bytes.{put}
 use Rattle.wire.proofs.Signed.{above}
-use Rattle.wire.proofs.Laws.{put-set, put-one, put-next, put-none, by-test}
+use Rattle.wire.proofs.Laws.{put-set, put-one, put-two, put-next, put-none, by-test}
 use Rattle.text.specs.Numeral.{glyphOf, numeral, decimalText, signedText, lowerOf, hexBytes}
 
 -- one digit less
@@ -94,14 +94,6 @@ pub length-hexBytes : (s : List ℕ) → length (hexBytes s) ≡ length s * 2
 unfolding hexBytes
 length-hexBytes [] = refl
 length-hexBytes (b ∷ s) = let h : length (hexBytes s) ≡ length s * 2 = length-hexBytes s in omega arith
-
--- two bytes stored are a list of two written
-put-two : (d : List ℕ) (i a b : ℕ) → i + 1 < length d → set (set d i a) (i + 1) b ≡ put d i (a ∷ b ∷ [])
-put-two d i a b h =
-    let l : i + 1 < length (set d i a) = simp length-set (omega arith) in
-    let k : i < length d = omega arith in
-    let m : i + 1 ≤ length d = omega arith in
-    put-one (set d i a) (i + 1) b l ∙ rw (put-one d i a k) (put-next d (a ∷ []) (b ∷ []) i 1 refl m)
 
 -- a turn of the loop that writes bytes
 pub bytes-turn : (d d₀ s : List ℕ) (at i : ℕ) (to : ℕ) (t : List ℕ) → i < length s → at + 1 < length d → put d at (hexBytes (drop i s)) ≡ put d₀ to t

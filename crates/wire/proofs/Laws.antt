@@ -5,12 +5,12 @@ use Prim.Native.Nat.{ℕ, zero, suc, _+_, _*_, _-_, _/_, _%_, _^_, _≤_, _<_, m
 use native.Mathlib.Nat.{le-of-suc-le-suc, not-suc-le-zero, add-zero, pow-suc, lt-of-lt-of-le, pow-le-pow-right}
 use native.Mathlib.Numerals.{add-one}
 use native.Mathlib.Omega.{arith}
-use lib.ListN.{length, take, drop, getD, set, length-append, length-take, length-drop, take-append-drop, drop-of-length-le}
+use lib.ListN.{length, take, drop, getD, set, length-append, length-take, length-drop, length-set, take-append-drop, drop-of-length-le}
 use lib.Seq.{take-suc, getD-drop, drop-drop, take-all, take-set-le, take-length, drop-cons, set-split, take-at, drop-append-add}
 use lib.Dec.{eqb}
 use mathlib.Core.Bool.{Bool, true, false}
 use borrow.Author.Tests.{eq-eqb, ne-eqb, le-leb, lt-leb}
-use Rattle.wire.specs.Bytes.{be, beFrom, beBytes, at, pick, put, placed, copied}
+use Rattle.wire.specs.Bytes.{be, beFrom, beBytes, at, put, placed, copied}
 use Rattle.wire.specs.Find.{indexOf, behind}
 use Rattle.wire.specs.declared.find.Found.{Found}
 use Rattle.wire.specs.declared.find.Found.the-variants.{At, Nothing}
@@ -111,6 +111,10 @@ lent-tail d ys src a k h e =
     let z : 0 + length src ≡ length src = omega arith in
     rw (e, take-all k (drop a d) l, drop-of-length-le (drop a d) l, append-nil, z, drop-drop)
 
+-- a part that goes on to the end
+pub tail-whole : (s : List ℕ) (a : ℕ) → take (length s - a) (drop a s) ≡ drop a s
+tail-whole s a = take-all (length s - a) (drop a s) (simp length-drop (omega arith))
+
 -- two writes, the second where the first ends
 pub put-next : (d a b : List ℕ) (i n : ℕ) → length a ≡ n → i + n ≤ length d → put (put d i a) (i + n) b ≡ put d i (a ++ b)
 unfolding put
@@ -163,6 +167,12 @@ placed-at d to n src q e h p =
     let f : to + length src ≤ length d = omega arith in
     rw (← e, p) (simp (le-leb _ _ f))
 
+pub placed-fits : (d : List ℕ) (to : ℕ) (src : List ℕ) {r : ℕ} {q : List ℕ} → to + length src ≤ length d → (r, q) ≡ placed d to src → (r ≡ to + length src) × (q ≡ put d to src)
+unfolding placed
+placed-fits d to src {r} {q} h p =
+    let w : _≡_ {A = ℕ × List ℕ} (r, q) (to + length src, put d to src) = simp (le-leb _ _ h) at p in
+    (ap (λ (x : ℕ × List ℕ). x .0) w, ap (λ (x : ℕ × List ℕ). x .1) w)
+
 pub below-pow : (n : ℕ) → 0 < 256 ^ n
 below-pow zero = omega arith
 below-pow (suc n) = let h : 0 < 256 ^ n = below-pow n in rw pow-suc (omega arith)
@@ -176,31 +186,13 @@ pub put-one : (d : List ℕ) (i b : ℕ) → i < length d → set d i b ≡ put 
 unfolding put
 put-one d i b h = set-split d i b h ∙ rw (← add-one i)
 
--- what is found stands in the list
-pub found-below : (b : ℕ) (s : List ℕ) (i : ℕ) → indexOf b s ≡ At i → i < length s
-unfolding indexOf
-found-below b [] i e = let z : _≡_ {A = ℕ} 0 1 = cc in absurd (omega arith)
-found-below b (x ∷ xs) i e = by (eqb x b) (indexOf b xs) (λ j. found-below b xs j) e
-  where
-    by : (t : Bool) (f : Found) → ((j : ℕ) → f ≡ At j → j < length xs) → pick t (At 0) (behind 1 f) ≡ At i → i < suc (length xs)
-    by true f q p = let z : 0 ≡ i = cc in omega arith
-    by false (At j) q p =
-        let l : j < length xs = q j refl in
-        let z : 1 + j ≡ i = cc in
-        omega arith
-    by false Nothing q p = let z : _≡_ {A = ℕ} 0 1 = cc in absurd (omega arith)
-
--- a write behind another, where both fit
-pub placed-then : (d d' a b : List ℕ) (to i r : ℕ) (q : List ℕ) → d' ≡ put d to a → i ≡ to + length a → to + length (a ++ b) ≤ length d → (r, q) ≡ placed d' i b
-    → (r ≡ to + length (a ++ b)) × (q ≡ put d to (a ++ b))
-unfolding placed
-placed-then d d' a b to i r q e f h p =
-    let g : length (a ++ b) ≡ length a + length b = length-append a b in
-    let l : length d' ≡ length d = rw e (length-put d a to (omega arith)) in
-    let m : i + length b ≤ length d' = omega arith in
-    let w : _≡_ {A = ℕ × List ℕ} (r, q) (i + length b, put d' i b) = simp (le-leb _ _ m) at p in
-    let s : put d' i b ≡ put d to (a ++ b) = rw (e, f) (put-next d a b to (length a) refl (omega arith)) in
-    (ap (λ (x : ℕ × List ℕ). x .0) w ∙ omega arith, ap (λ (x : ℕ × List ℕ). x .1) w ∙ s)
+-- two bytes stored are a list of two written
+pub put-two : (d : List ℕ) (i a b : ℕ) → i + 1 < length d → set (set d i a) (i + 1) b ≡ put d i (a ∷ b ∷ [])
+put-two d i a b h =
+    let l : i + 1 < length (set d i a) = simp length-set (omega arith) in
+    let k : i < length d = omega arith in
+    let m : i + 1 ≤ length d = omega arith in
+    put-one (set d i a) (i + 1) b l ∙ rw (put-one d i a k) (put-next d (a ∷ []) (b ∷ []) i 1 refl m)
 
 -- by a test's outcome
 pub by-test : {X : Type 0} (b : Bool) → (b ≡ true → X) → (b ≡ false → X) → X

@@ -1,3 +1,5 @@
 pub mod Laws
 pub mod Signed
 pub mod FieldLaws
+pub mod FindLaws
+pub mod Pieces

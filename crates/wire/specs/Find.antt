@@ -1,5 +1,6 @@
 -- The first place of a byte.
-use Prim.Native.Nat.{ℕ, suc, _+_}
+use mathlib.Core.Path.{_≡_}
+use Prim.Native.Nat.{ℕ, _+_}
 use mathlib.Core.List.{List, [], _∷_}
 use lib.Dec.{eqb}
 use Rattle.wire.specs.Bytes.{pick}
@@ -15,3 +16,8 @@ behind n Nothing = Nothing
 unfoldable pub indexOf : ℕ → List ℕ → Found
 indexOf b [] = Nothing
 indexOf b (x ∷ xs) = pick (eqb x b) (At 0) (behind 1 (indexOf b xs))
+
+-- no byte is zero
+abbrev pub NoZero : List ℕ → Type 0
+NoZero [] = Unit
+NoZero (b ∷ s) = (b ≡ 0 → ⊥) × NoZero s

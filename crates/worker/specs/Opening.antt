@@ -6,7 +6,8 @@ use lib.ListN.{length}
 use lib.Dec.{ltb}
 use denote.Ref.{RefT}
 use Rattle.wire.specs.Bytes.{pick}
-use Rattle.config.specs.OptionValue.{optionValue, total}
+use Rattle.config.specs.OptionValue.{optionValue}
+use Rattle.error.specs.Inputs.{total}
 use Rattle.error.specs.Writer.{writing}
 use Rattle.frontend.specs.Frontend.{query}
 use Rattle.lsn.specs.declared.Lsn.{Lsn}

@@ -1,6 +1,7 @@
 -- The names counted and those to come are as long as the value.
 use Rattle.config.specs.OptionValue.{doubled, optionValue}
-use Rattle.config.specs.Code.{nameAt, listed}
+use Rattle.error.specs.Inputs.{nameAt}
+use Rattle.config.specs.Code.{listed}
 use Rattle.error.proofs.Laws.{fits, over, counted-fits, counted-over}
 use Rattle.config.proofs.Laws.{listed-start, listed-length, listed-end}
 use Prim.Native.Nat.{_≤_, _+_, _-_}

@@ -1,8 +1,11 @@
 -- The names written and those to come are the value.
-use Rattle.config.specs.OptionValue.{optionValue}
-use Rattle.config.specs.Code.{listed}
-use Rattle.config.proofs.Laws.{Filling, filling-start, filling-next, filling-end, listed-start, listed-next, listed-length, listed-end}
+use Rattle.config.specs.OptionValue.{doubled, optionValue}
+use Rattle.config.specs.Code.{commaAt, listed}
+use Rattle.config.proofs.Laws.{listed-start, listed-next, listed-end}
+use Rattle.wire.proofs.Pieces.{Filling, filling-start, filling-room, filling-next, filling-end}
+use Rattle.error.specs.Inputs.{nameAt}
 use Prim.Native.Nat.{_≤_, _-_}
+use mathlib.Core.Path.{sym}
 use native.Mathlib.Omega.{arith}
 use lib.ListN.{length}
 use borrow.Author.Needs.{needs}
@@ -16,14 +19,13 @@ abbrev μ-loop : tie.MeasureT-loop
 μ-loop out₀ at names to₀ i₀ out to i = length names - i
 
 loop-holds : tie.Need-loop-holds Inv-loop μ-loop
-loop-holds c =
-    let a = c .before .args in
-    (omega arith, rw (listed-start (a .names .now)) (filling-start (a .out .now) (a .at) (optionValue (a .names .now))))
+loop-holds c = (omega arith, filling-start (sym (listed-start (c .before .args .names .now))))
 
 put-comma-requires : tie.Need-put-comma-requires Inv-loop μ-loop
 put-comma-requires c κs =
     let l = c .before .before in
-    omega (arith, listed-length (l .before .before .args .names .now) (l .loop .i) (omega arith))
+    let s = l .before .before in
+    filling-room (s .pre) (commaAt (l .loop .i)) _ (rw (listed-next (s .args .names .now) (l .loop .i) (omega arith)) at (l .loop .inv .1))
 
 mul-s : tie.Need-mul-s Inv-loop μ-loop
 mul-s c = search needs
@@ -34,7 +36,9 @@ shared-slice-copy-out-s c = omega arith
 fill-name-requires : tie.Need-fill-name-requires Inv-loop μ-loop
 fill-name-requires c κs =
     let l = c .before .before .before .before .before .before .before in
-    omega (arith, listed-length (l .before .before .args .names .now) (l .loop .i) (omega arith), c .before .before .before .before .put-comma .ensures, c .before .before .before .before .put-comma .kept .0)
+    let s = l .before .before in
+    let f = rw (listed-next (s .args .names .now) (l .loop .i) (omega arith)) at (l .loop .inv .1) in
+    filling-room (s .pre) (doubled (nameAt (s .args .names .now) (l .loop .i))) _ (filling-next (s .pre) (commaAt (l .loop .i)) f (c .before .before .before .before .put-comma .ensures))
 
 add-i : tie.Need-add-i Inv-loop μ-loop
 add-i c = omega arith
@@ -47,7 +51,7 @@ loop-again c =
     let l = c .before .before .before .before .before .before .before .before .before .before in
     let s = l .before .before in
     let f = rw (listed-next (s .args .names .now) (l .loop .i) (omega arith)) at (l .loop .inv .1) in
-    (omega arith, filling-next (s .pre) (filling-next (s .pre) f (c .before .before .before .before .before .before .before .put-comma .ensures)) (c .before .before .fill-name .ensures))
+    (omega arith, filling-next (s .pre) _ (filling-next (s .pre) (commaAt (l .loop .i)) f (c .before .before .before .before .before .before .before .put-comma .ensures)) (c .before .before .fill-name .ensures))
 
 same-length : tie.Need-same-length Inv-loop μ-loop
 same-length c = c .before .loop .inv .1 .same
@@ -55,7 +59,7 @@ same-length c = c .before .loop .inv .1 .same
 returns : tie.Need-returns Inv-loop μ-loop
 returns c =
     let l = c .before in
-    filling-end (rw (listed-end (l .before .before .args .names .now) (l .loop .i) (omega arith)) at (l .loop .inv .1))
+    filling-end (l .before .before .pre) (rw (listed-end (l .before .before .args .names .now) (l .loop .i) (omega arith)) at (l .loop .inv .1))
 
 pub fill-spec : {M : Type 1} → statement M
 fill-spec =

@@ -1,9 +1,11 @@
 -- The bytes written and those to come are the name with its quotes doubled.
-use Rattle.config.specs.OptionValue.{doubled}
-use Rattle.config.proofs.Laws.{Filling, filling-start, filling-next, filling-end, doubled-next, doubled-length, doubled-end}
+use Rattle.config.specs.OptionValue.{quoted, doubled}
+use Rattle.config.proofs.Laws.{doubled-next, doubled-end}
+use Rattle.wire.proofs.Pieces.{Filling, filling-start, filling-room, filling-next, filling-end}
 use Prim.Native.Nat.{_≤_, _-_}
+use mathlib.Core.Path.{refl}
 use native.Mathlib.Omega.{arith}
-use lib.ListN.{length, drop}
+use lib.ListN.{length, drop, getD}
 use Rattle.config.proofs.fill_name.Statement.{statement}
 use Rattle.config.proofs.fill_name.Tie as tie
 
@@ -14,7 +16,7 @@ abbrev μ-loop : tie.MeasureT-loop
 μ-loop out₀ at s to₀ i₀ out to i = length s - i
 
 loop-holds : tie.Need-loop-holds Inv-loop μ-loop
-loop-holds c = let a = c .before .before .args in (omega arith, filling-start (a .out .now) (a .at) (doubled (a .s .now)))
+loop-holds c = (omega arith, filling-start refl)
 
 shared-slice-read-put-byte : tie.Need-shared-slice-read-put-byte Inv-loop μ-loop
 shared-slice-read-put-byte c = omega arith
@@ -22,7 +24,8 @@ shared-slice-read-put-byte c = omega arith
 put-byte-requires : tie.Need-put-byte-requires Inv-loop μ-loop
 put-byte-requires c κs =
     let l = c .before .before .before in
-    omega (arith, doubled-length (l .before .before .before .args .s .now) (l .loop .i) (omega arith))
+    let s = l .before .before .before in
+    filling-room (s .pre) (quoted (getD (s .args .s .now) (l .loop .i) 0)) _ (rw (doubled-next (s .args .s .now) (l .loop .i) (omega arith)) at (l .loop .inv .1))
 
 add-i : tie.Need-add-i Inv-loop μ-loop
 add-i c = omega arith
@@ -34,7 +37,7 @@ loop-again : tie.Need-loop-again Inv-loop μ-loop
 loop-again c =
     let l = c .before .before .before .before .before .before in
     let a = l .before .before .before .args in
-    (omega arith, filling-next (l .before .before .before .pre) (rw (doubled-next (a .s .now) (l .loop .i) (omega arith)) at (l .loop .inv .1)) (c .before .before .put-byte .ensures))
+    (omega arith, filling-next (l .before .before .before .pre) _ (rw (doubled-next (a .s .now) (l .loop .i) (omega arith)) at (l .loop .inv .1)) (c .before .before .put-byte .ensures))
 
 same-length : tie.Need-same-length Inv-loop μ-loop
 same-length c = c .before .loop .inv .1 .same
@@ -42,7 +45,7 @@ same-length c = c .before .loop .inv .1 .same
 returns : tie.Need-returns Inv-loop μ-loop
 returns c =
     let l = c .before in
-    filling-end (rw (doubled-end (l .before .before .before .args .s .now) (l .loop .i) (omega arith)) at (l .loop .inv .1))
+    filling-end (l .before .before .before .pre) (rw (doubled-end (l .before .before .before .args .s .now) (l .loop .i) (omega arith)) at (l .loop .inv .1))
 
 pub fill-name-spec : {M : Type 1} → statement M
 fill-name-spec =

@@ -1,8 +1,8 @@
 -- Where the value is counted into what is left of the output, it is filled in there.
 use Rattle.config.specs.OptionValue.{optionValue}
-use Rattle.wire.proofs.Laws.{placed-at, unplaced}
+use Rattle.wire.proofs.Laws.{unplaced}
 use Rattle.error.proofs.Laws.{counted-fits, counted-over}
-use mathlib.Core.Path.{refl, sym, _∙_}
+use mathlib.Core.Path.{sym, _∙_}
 use native.Mathlib.Omega.{arith}
 use borrow.Author.Needs.{needs}
 use Rattle.config.proofs.place.Statement.{statement}
@@ -40,11 +40,7 @@ same-length : tie.Need-same-length
 same-length c = search needs
 
 returns-3 : tie.Need-returns-3
-returns-3 c =
-    let a = c .before .before .before .before .before .before .before .before .before .args in
-    let f = counted-fits _ _ _ (sym (c .before .before .before .before .before .before .count .ensures) ∙ c .before .before .before .before .enum-told .given .1) in
-    let w = c .before .before .fill .ensures in
-    rw (w .behind) (placed-at (a .out .now) (a .to) _ (optionValue (a .names .now)) _ refl (omega arith) (w .text))
+returns-3 c = c .before .before .fill .ensures
 
 pub place-spec : {M : Type 1} → statement M
 place-spec =

@@ -1,6 +1,9 @@
 -- A single quote is stored twice.
-use Rattle.config.proofs.Laws.{quote, plain, filled-one, filled-two}
-use mathlib.Core.Path.{ap}
+use Rattle.config.proofs.Laws.{quote, plain}
+use Rattle.wire.proofs.Laws.{put-one, put-two, placed-at}
+use Prim.Native.Nat.{_+_, _≤_}
+use mathlib.Core.Path.{refl, ap}
+use mathlib.Core.List.{[], _∷_}
 use native.Mathlib.Omega.{arith}
 use lib.ListN.{length, length-set}
 use borrow.Author.Needs.{needs}
@@ -26,7 +29,8 @@ returns : tie.Need-returns
 returns c =
     let a = c .before .args in
     let q = quote (a .c) (c .if1 .taken) in
-    rw q (filled-two (a .out .now) (a .at) (a .c) (omega (arith, ap length q)))
+    let h : a .at + 2 ≤ length (a .out .now) = omega (arith, ap length q) in
+    rw q (placed-at (a .out .now) (a .at) 2 (a .c ∷ a .c ∷ []) _ refl h (put-two (a .out .now) (a .at) (a .c) (a .c) (omega arith)))
 
 slice-write-out-3 : tie.Need-slice-write-out-3
 slice-write-out-3 c = omega (arith, ap length (plain (c .before .args .c) (c .if1 .left)))
@@ -41,7 +45,8 @@ returns-2 : tie.Need-returns-2
 returns-2 c =
     let a = c .before .args in
     let q = plain (a .c) (c .if1 .left) in
-    rw q (filled-one (a .out .now) (a .at) (a .c) (omega (arith, ap length q)))
+    let h : a .at + 1 ≤ length (a .out .now) = omega (arith, ap length q) in
+    rw q (placed-at (a .out .now) (a .at) 1 (a .c ∷ []) _ refl h (put-one (a .out .now) (a .at) (a .c) (omega arith)))
 
 pub put-byte-spec : {M : Type 1} → statement M
 put-byte-spec =

@@ -1,14 +1,16 @@
 -- The names are counted, then the value, and where both are within their limits it is filled in.
-use Rattle.config.specs.OptionValue.{optionValue, total}
-use Rattle.error.proofs.Laws.{too-long, no-room, wrote, counted-fits, counted-over}
+use Rattle.config.specs.OptionValue.{optionValue}
+use Rattle.wire.proofs.Laws.{placed-fits}
+use Rattle.error.specs.Inputs.{total}
+use Rattle.error.proofs.Laws.{too-long, no-room, wrote-placed, counted-fits, counted-over}
 use mathlib.Core.Path.{sym, _∙_}
 use native.Mathlib.Omega.{arith}
 use borrow.Author.Needs.{needs}
 use Rattle.config.proofs.to_option_value.Statement.{statement}
 use Rattle.config.proofs.to_option_value.Tie as tie
 
-names-len-requires : tie.Need-names-len-requires
-names-len-requires c κs = search needs
+inputs-len-requires : tie.Need-inputs-len-requires
+inputs-len-requires c κs = search needs
 
 enum-told : tie.Need-enum-told
 enum-told c = search needs
@@ -19,7 +21,7 @@ enum-told-2 c = search needs
 returns : tie.Need-returns
 returns c =
     let a = c .before .before .before .before .args in
-    let f = counted-over _ _ (sym (c .before .before .names-len .ensures) ∙ c .enum-told2 .given .1) in
+    let f = counted-over _ _ (sym (c .before .before .inputs-len .ensures) ∙ c .enum-told2 .given .1) in
     too-long (total (a .names .now)) (optionValue (a .names .now)) (a .out .now) f
 
 count-requires : tie.Need-count-requires
@@ -34,7 +36,7 @@ enum-told-4 c = search needs
 returns-2 : tie.Need-returns-2
 returns-2 c =
     let a = c .before .before .before .before .before .before .before .args in
-    let t = counted-fits _ _ _ (sym (c .before .before .before .before .before .names-len .ensures) ∙ c .before .before .before .enum-told .given .1) in
+    let t = counted-fits _ _ _ (sym (c .before .before .before .before .before .inputs-len .ensures) ∙ c .before .before .before .enum-told .given .1) in
     let f = counted-over _ _ (sym (c .before .before .count .ensures) ∙ c .enum-told4 .given .1) in
     no-room (total (a .names .now)) (optionValue (a .names .now)) (a .out .now) (omega arith) f
 
@@ -49,16 +51,17 @@ same-length c = search needs
 returns-3 : tie.Need-returns-3
 returns-3 c =
     let a = c .before .before .before .before .before .before .before .before .before .before .before .args in
-    let t = counted-fits _ _ _ (sym (c .before .before .before .before .before .before .before .before .before .names-len .ensures) ∙ c .before .before .before .before .before .before .before .enum-told .given .1) in
+    let t = counted-fits _ _ _ (sym (c .before .before .before .before .before .before .before .before .before .inputs-len .ensures) ∙ c .before .before .before .before .before .before .before .enum-told .given .1) in
     let f = counted-fits _ _ _ (sym (c .before .before .before .before .before .before .count .ensures) ∙ c .before .before .before .before .enum-told3 .given .1) in
     let w = c .before .before .fill in
-    wrote (total (a .names .now)) (optionValue (a .names .now)) (a .out .now) (w .last .0) (w .result) (omega arith) (omega (arith, w .ensures .behind)) (omega (arith, w .ensures .behind)) (w .ensures .text)
+    let n = placed-fits (a .out .now) 0 (optionValue (a .names .now)) (omega arith) (w .ensures) .0 in
+    wrote-placed (total (a .names .now)) (optionValue (a .names .now)) (a .out .now) (omega arith) (omega arith) (omega arith) (w .ensures)
 
 pub to-option-value-spec : {M : Type 1} → statement M
 to-option-value-spec =
     tie.close
     (tie.spec
-    names-len-requires
+    inputs-len-requires
     enum-told
     enum-told-2
     returns

@@ -1,12 +1,10 @@
 -- The body at the front of the output.
 use mir.Syntax.{w64}
 use mir.ValLaws.{toZ-ofZ}
-use Rattle.frontend.proofs.Laws.{stands-first, written, length-status}
-use Rattle.error.proofs.Laws.{no-room}
+use Rattle.frontend.proofs.Laws.{length-status}
+use Rattle.error.proofs.Laws.{no-room, wrote-placed}
 use Rattle.frontend.specs.Frontend.{statusBody}
-use Prim.Native.Nat.{_≤_}
 use native.Mathlib.Omega.{arith}
-use lib.ListN.{length}
 use borrow.Author.Needs.{needs}
 use Rattle.frontend.proofs.encode_standby_status_update.Statement.{statement}
 use Rattle.frontend.proofs.encode_standby_status_update.Tie as tie
@@ -25,9 +23,9 @@ returns-2 c =
     let i = c .before .before .before .before in
     let s = i .before .before in
     let a = s .args in
-    let h : 34 ≤ length (a .out .now) = omega (arith, i .if1 .left) in
     let l = length-status (a .position .0) (a .client-time) (a .reply) in
-    written (omega arith) h (stands-first l (omega arith) (rw (toZ-ofZ w64 (a .client-time) (s .fits .client-time)) at (c .before .before .place-status .ensures)))
+    wrote-placed 0 (statusBody (a .position .0) (a .client-time) (a .reply)) (a .out .now) (omega arith) l (omega (arith, i .if1 .left))
+    (rw (toZ-ofZ w64 (a .client-time) (s .fits .client-time)) at (c .before .before .place-status .ensures))
 
 pub encode-standby-status-update-spec : {M : Type 1} → statement M
 encode-standby-status-update-spec =

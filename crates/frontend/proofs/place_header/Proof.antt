@@ -1,11 +1,8 @@
 -- The tag, and the length field behind it.
-use mathlib.Core.List.{[], _∷_}
-use Rattle.frontend.proofs.Laws.{stands-first, stands-next, stands-placed, one-byte}
-use Rattle.wire.proofs.Laws.{length-beBytes}
-use Rattle.wire.specs.Bytes.{beBytes}
+use Rattle.wire.proofs.Pieces.{filling-start, filling-next, filling-last}
+use Rattle.frontend.proofs.Laws.{header-pieces, length-header}
 use Rattle.frontend.specs.Code.{header}
-use Prim.Native.Nat.{ℕ, _+_}
-use mathlib.Core.Path.{refl}
+use Prim.Native.Nat.{_+_, _≤_}
 use native.Mathlib.Omega.{arith}
 use lib.ListN.{length}
 use borrow.Author.Needs.{needs}
@@ -25,15 +22,12 @@ same-length : tie.Need-same-length
 same-length c = search needs
 
 returns : tie.Need-returns
-unfolding header
 returns c =
     let b = c .before .before .before .before .before .before in
     let s = b .before .before .before in
     let a = s .args in
-    let n : ℕ = a .n + 4 in
-    let w = stands-first {a = a .tag ∷ []} refl (omega (arith, s .pre)) (rw (one-byte (a .tag) (omega arith)) at (b .write-u8 .ensures)) in
-    let w′ = stands-next (beBytes 4 n) 4 w (length-beBytes 4 n) (omega (arith, s .pre)) (c .before .before .write-be .ensures) in
-    stands-placed (omega (arith, s .pre)) w′
+    let h : 0 + length (header (a .tag) (a .n)) ≤ length (a .out .now) = omega (arith, s .pre, length-header (a .tag) (a .n)) in
+    filling-last h (filling-next h _ (filling-start (header-pieces (a .tag) (a .n) (omega arith))) (b .write-u8 .ensures)) (c .before .before .write-be .ensures)
 
 pub place-header-spec : {M : Type 1} → statement M
 place-header-spec =

@@ -1,14 +1,11 @@
 -- The letter, the position three times, the time and the flag, one behind the other.
 use mir.Syntax.{w64}
 use mir.ValLaws.{toZ-ofZ}
-use Rattle.frontend.proofs.Laws.{flag-byte, stands-first, stands-next, stands-placed, one-byte, status-pieces}
-use Rattle.wire.proofs.Laws.{length-beBytes}
+use Rattle.frontend.proofs.Laws.{status-pieces, length-status}
+use Rattle.wire.proofs.Pieces.{filling-start, filling-next, filling-last}
 use Rattle.wire.specs.Bytes.{beBytes}
-use Rattle.wire.specs.Field.{unsigned}
-use Rattle.frontend.specs.Frontend.{flag}
-use Prim.Native.Nat.{ℕ, _≤_, _+_}
-use mathlib.Core.Path.{_≡_, refl}
-use mathlib.Core.List.{List, [], _∷_}
+use Rattle.frontend.specs.Frontend.{statusBody}
+use Prim.Native.Nat.{_≤_, _+_}
 use native.Mathlib.Omega.{arith}
 use lib.ListN.{length}
 use borrow.Author.Needs.{needs}
@@ -49,17 +46,14 @@ returns c =
     let c₀ = c₁ .before .before .before .before in
     let s = c₀ .before .before .before in
     let a = s .args in
-    let p : List ℕ = beBytes 8 (a .position) in
-    let l : length p ≡ 8 = length-beBytes 8 (a .position) in
-    let t : ℕ = unsigned 9223372036854775808 (a .client-time) in
-    let h : a .to + 34 ≤ length (a .out .now) = s .pre in
-    let w₀ = stands-first {a = 114 ∷ []} refl (omega arith) (rw (one-byte 114 (omega arith)) at (c₀ .write-u8 .ensures)) in
-    let w₁ = stands-next p 8 w₀ l (omega arith) (c₁ .write-u64 .ensures) in
-    let w₂ = stands-next p 8 w₁ l (omega arith) (c₂ .write-u642 .ensures) in
-    let w₃ = stands-next p 8 w₂ l (omega arith) (c₃ .write-u643 .ensures) in
-    let w₄ = stands-next (beBytes 8 t) 8 w₃ (length-beBytes 8 t) (omega arith) (rw (toZ-ofZ w64 (a .client-time) (s .fits .client-time)) at (c₄ .write-i64 .ensures)) in
-    let w₅ = stands-next (flag (a .reply) ∷ []) 1 w₄ refl (omega arith) (rw (flag-byte (a .reply)) at (c₅ .write-u82 .ensures)) in
-    rw (status-pieces (a .position) (a .client-time) (a .reply)) (stands-placed h w₅)
+    let l = length-status (a .position) (a .client-time) (a .reply) in
+    let h : a .to + length (statusBody (a .position) (a .client-time) (a .reply)) ≤ length (a .out .now) = omega (arith, s .pre) in
+    let w₀ = filling-next h (beBytes 1 114) (filling-start (status-pieces (a .position) (a .client-time) (a .reply))) (c₀ .write-u8 .ensures) in
+    let w₁ = filling-next h _ w₀ (c₁ .write-u64 .ensures) in
+    let w₂ = filling-next h _ w₁ (c₂ .write-u642 .ensures) in
+    let w₃ = filling-next h _ w₂ (c₃ .write-u643 .ensures) in
+    let w₄ = filling-next h _ w₃ (rw (toZ-ofZ w64 (a .client-time) (s .fits .client-time)) at (c₄ .write-i64 .ensures)) in
+    filling-last h w₄ (c₅ .write-u82 .ensures)
 
 pub place-status-spec : {M : Type 1} → statement M
 place-status-spec =

@@ -1,26 +1,25 @@
--- The texts before the i-th stand in the output, each with its zero byte.
-use Rattle.frontend.proofs.Laws.{placed-none, length-more, stands-first, stands-next, stands-placed, one-byte, strings-more, strings-part}
-use Rattle.wire.specs.Bytes.{placed}
-use Rattle.frontend.specs.Code.{strings, textAt}
-use Prim.Native.Nat.{_≤_, _+_, _-_}
-use mathlib.Core.Path.{_≡_, refl}
-use mathlib.Core.List.{[], _∷_}
+-- The texts written and those to come, each with its zero byte, are all texts.
+use Rattle.frontend.proofs.Laws.{strings-next, strings-end}
+use Rattle.wire.specs.Bytes.{beBytes}
+use Rattle.wire.proofs.Pieces.{Filling, filling-start, filling-next, filling-end}
+use Rattle.error.specs.Inputs.{nameAt}
+use Rattle.frontend.specs.Code.{strings}
+use Prim.Native.Nat.{_≤_, _-_}
+use mathlib.Core.Path.{refl}
 use native.Mathlib.Omega.{arith}
-use lib.Seq.{take-all}
-use lib.ListN.{length, take}
+use lib.ListN.{length, drop}
 use borrow.Author.Needs.{needs}
 use Rattle.frontend.proofs.place_strings.Statement.{statement}
 use Rattle.frontend.proofs.place_strings.Tie as tie
 
 abbrev Inv-loop : tie.InvT-loop
-Inv-loop out₀ at texts to₀ i₀ out to i = (i ≤ length texts) × ((to, out) ≡ placed out₀ at (strings (take i texts))) × (length out ≡ length out₀)
+Inv-loop out₀ at texts to₀ i₀ out to i = (i ≤ length texts) × Filling out₀ at (strings texts) out to (strings (drop i texts))
 
 abbrev μ-loop : tie.MeasureT-loop
 μ-loop out₀ at texts to₀ i₀ out to i = length texts - i
 
 loop-holds : tie.Need-loop-holds Inv-loop μ-loop
-unfolding strings
-loop-holds c = (omega arith, placed-none (c .before .args .out .now) (c .before .args .at) (omega arith), refl)
+loop-holds c = (omega arith, filling-start refl)
 
 mul-s : tie.Need-mul-s Inv-loop μ-loop
 mul-s c = search needs
@@ -45,21 +44,19 @@ loop-again c =
     let p = c .before .before .before .before .before .before in
     let l = p .before .before .before .before in
     let s = l .before .before in
-    let a = s .args in
-    let t = a .texts .now in
-    let i = l .loop .i in
-    let m = length-more t i (omega arith) in
-    let f : a .at + (length (strings (take i t)) + length (textAt t i) + 1) ≤ length (a .out .now) = omega (arith, s .pre, strings-part t (i + 1)) in
-    let w = stands-first {a = strings (take i t)} refl (omega arith) (l .loop .inv .1) in
-    let w′ = stands-next (textAt t i) (length (textAt t i)) w refl (omega arith) (p .place .ensures) in
-    let w″ = stands-next (0 ∷ []) 1 w′ refl f (rw (one-byte 0 (omega arith)) at (c .before .before .write-u8 .ensures)) in
-    (omega arith, rw (strings-more t i (omega arith)) (stands-placed f w″), omega (arith, p .place .kept .0, c .before .before .write-u8 .kept .0))
+    let t = s .args .texts .now in
+    let f = rw (strings-next t (l .loop .i) (omega arith)) at (l .loop .inv .1) in
+    let w = filling-next (s .pre) (nameAt t (l .loop .i)) f (p .place .ensures) in
+    (omega arith, filling-next (s .pre) (beBytes 1 0) w (c .before .before .write-u8 .ensures))
 
 same-length : tie.Need-same-length Inv-loop μ-loop
-same-length c = c .before .loop .inv .2
+same-length c = c .before .loop .inv .1 .same
 
 returns : tie.Need-returns Inv-loop μ-loop
-returns c = let l = c .before in rw (take-all (l .loop .i) (c .before .before .before .args .texts .now) (omega arith)) at (l .loop .inv .1)
+returns c =
+    let l = c .before in
+    let s = l .before .before in
+    filling-end (s .pre) (rw (strings-end (s .args .texts .now) (l .loop .i) (omega arith)) at (l .loop .inv .1))
 
 pub place-strings-spec : {M : Type 1} → statement M
 place-strings-spec =

@@ -1,10 +1,11 @@
 -- The header, and the payload behind it.
-use Rattle.frontend.proofs.Laws.{framed-header, stands-first, stands-next, written, length-header, length-framed}
-use Rattle.error.proofs.Laws.{too-long, no-room}
+use Rattle.frontend.proofs.Laws.{framed-header, length-framed}
+use Rattle.wire.proofs.Pieces.{filling-start, filling-next, filling-last}
+use Rattle.error.proofs.Laws.{too-long, no-room, wrote-placed}
 use Rattle.stream.specs.Message.{framed}
 use Rattle.frontend.specs.Code.{header}
 use Prim.Native.Nat.{_≤_, _+_}
-use mathlib.Core.Path.{_≡_, refl}
+use mathlib.Core.Path.{_≡_}
 use native.Mathlib.Omega.{arith}
 use lib.ListN.{length}
 use borrow.Author.Needs.{needs}
@@ -37,11 +38,10 @@ returns-3 c =
     let i = h .before .before in
     let a = i .before .before .before .before .args in
     let p = a .payload .now in
-    let n : 5 + length p ≡ length p + 5 = omega arith in
-    let f : length p + 5 ≤ length (a .out .now) = omega (arith, i .if2 .left) in
-    let w = stands-first (length-header (a .tag) (length p)) (omega arith) (h .place-header .ensures) in
-    let w′ = stands-next p (length p) w refl (omega arith) (c .before .before .place .ensures) in
-    rw (framed-header (a .tag) p) (written (omega (arith, i .before .if1 .left)) f (rw n at w′))
+    let l : length (framed (a .tag) p) ≡ length p + 5 = length-framed (a .tag) p in
+    let f : 0 + length (framed (a .tag) p) ≤ length (a .out .now) = omega (arith, i .if2 .left) in
+    let w = filling-next f _ (filling-start (framed-header (a .tag) p)) (h .place-header .ensures) in
+    wrote-placed (length p) (framed (a .tag) p) (a .out .now) (omega (arith, i .before .if1 .left)) l (omega arith) (filling-last f w (c .before .before .place .ensures))
 
 pub write-framed-spec : {M : Type 1} → statement M
 write-framed-spec =

@@ -1,11 +1,11 @@
 -- The header, the text, and the zero byte that ends it.
-use Rattle.frontend.proofs.Laws.{one-byte, stands-first, stands-next, written, length-header, query-pieces, length-query}
-use Rattle.error.proofs.Laws.{too-long, no-room}
+use Rattle.frontend.proofs.Laws.{query-pieces, length-query}
+use Rattle.wire.proofs.Pieces.{filling-start, filling-next, filling-last}
+use Rattle.error.proofs.Laws.{too-long, no-room, wrote-placed}
 use Rattle.frontend.specs.Frontend.{query}
 use Rattle.frontend.specs.Code.{header}
 use Prim.Native.Nat.{_≤_, _+_}
-use mathlib.Core.Path.{_≡_, refl}
-use mathlib.Core.List.{[], _∷_}
+use mathlib.Core.Path.{_≡_}
 use native.Mathlib.Omega.{arith}
 use lib.ListN.{length}
 use borrow.Author.Needs.{needs}
@@ -45,12 +45,11 @@ returns-3 c =
     let i = h .before .before in
     let a = i .before .before .before .before .args in
     let p = a .text .now in
-    let n : 5 + length p + 1 ≡ length p + 6 = omega arith in
-    let f : length p + 6 ≤ length (a .out .now) = omega (arith, i .if2 .left) in
-    let w = stands-first (length-header 81 (length p + 1)) (omega arith) (h .place-header .ensures) in
-    let w′ = stands-next p (length p) w refl (omega arith) (q .place .ensures) in
-    let w″ = stands-next (0 ∷ []) 1 w′ refl (omega arith) (rw (one-byte 0 (omega arith)) at (c .before .before .write-u8 .ensures)) in
-    rw (query-pieces p) (written (omega (arith, i .before .if1 .left)) f (rw n at w″))
+    let l : length (query p) ≡ length p + 6 = length-query p in
+    let f : 0 + length (query p) ≤ length (a .out .now) = omega (arith, i .if2 .left) in
+    let w = filling-next f (header 81 (length p + 1)) (filling-start (query-pieces p)) (h .place-header .ensures) in
+    let w′ = filling-last f (filling-next f p w (q .place .ensures)) (c .before .before .write-u8 .ensures) in
+    wrote-placed (length p) (query p) (a .out .now) (omega (arith, i .before .if1 .left)) l (omega arith) w′
 
 pub write-query-spec : {M : Type 1} → statement M
 write-query-spec =

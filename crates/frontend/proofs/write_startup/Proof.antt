@@ -1,22 +1,22 @@
 -- The texts are counted; where all has room, the length, the version, the texts and the end are written one behind the other.
 use mir.Syntax.{w32}
 use mir.ValLaws.{toZ-ofZ}
-use Rattle.frontend.proofs.Laws.{startup-front, startupLength, startup-pieces, length-startup, stands-next, written, length-strings}
-use Rattle.wire.proofs.Laws.{length-beBytes}
-use Rattle.wire.specs.Bytes.{beBytes}
-use Rattle.error.proofs.Laws.{too-long, no-room, counted-fits, counted-over}
-use Rattle.frontend.specs.Frontend.{startup, total}
+use Rattle.frontend.proofs.Laws.{startup-front, length-startup}
+use Rattle.wire.proofs.Pieces.{filling-room, filling-next, filling-last}
+use Rattle.error.specs.Inputs.{total}
+use Rattle.error.proofs.Laws.{too-long, no-room, wrote-placed, counted-fits, counted-over}
+use Rattle.frontend.specs.Frontend.{startup}
 use Rattle.frontend.specs.Code.{strings}
-use Prim.Native.Nat.{ℕ, _≤_, _+_, _%_}
-use mathlib.Core.Path.{_≡_, refl, sym, _∙_}
+use Prim.Native.Nat.{_≤_, _+_}
+use mathlib.Core.Path.{sym, _∙_}
 use native.Mathlib.Omega.{arith}
 use lib.ListN.{length}
 use borrow.Author.Needs.{needs}
 use Rattle.frontend.proofs.write_startup.Statement.{statement}
 use Rattle.frontend.proofs.write_startup.Tie as tie
 
-texts-len-requires : tie.Need-texts-len-requires
-texts-len-requires c κs = search needs
+inputs-len-requires : tie.Need-inputs-len-requires
+inputs-len-requires c κs = search needs
 
 enum-known-sum : tie.Need-enum-known-sum
 enum-known-sum c = search needs
@@ -27,22 +27,22 @@ enum-told c = search needs
 returns : tie.Need-returns
 returns c =
     let a = c .before .before .before .before .args in
-    let f = counted-over _ _ (sym (c .before .before .texts-len .ensures) ∙ c .enum-told .given .1) in
+    let f = counted-over _ _ (sym (c .before .before .inputs-len .ensures) ∙ c .enum-told .given .1) in
     too-long (total (a .texts .now)) (startup (a .version) (a .texts .now)) (a .out .now) f
 
 add-n : tie.Need-add-n
-add-n c = let f = counted-fits _ _ _ (sym (c .before .before .before .texts-len .ensures) ∙ c .before .sum .given .1) in omega arith
+add-n c = let f = counted-fits _ _ _ (sym (c .before .before .before .inputs-len .ensures) ∙ c .before .sum .given .1) in omega arith
 
 add-n-2 : tie.Need-add-n-2
-add-n-2 c = let f = counted-fits _ _ _ (sym (c .before .before .before .texts-len .ensures) ∙ c .before .sum .given .1) in omega arith
+add-n-2 c = let f = counted-fits _ _ _ (sym (c .before .before .before .inputs-len .ensures) ∙ c .before .sum .given .1) in omega arith
 
 add-n-3 : tie.Need-add-n-3
-add-n-3 c = let f = counted-fits _ _ _ (sym (c .before .before .before .texts-len .ensures) ∙ c .before .sum .given .1) in omega arith
+add-n-3 c = let f = counted-fits _ _ _ (sym (c .before .before .before .inputs-len .ensures) ∙ c .before .sum .given .1) in omega arith
 
 returns-2 : tie.Need-returns-2
 returns-2 c =
     let a = c .before .before .before .before .before .before .args in
-    let f = counted-fits _ _ _ (sym (c .before .before .before .before .texts-len .ensures) ∙ c .before .before .sum .given .1) in
+    let f = counted-fits _ _ _ (sym (c .before .before .before .before .inputs-len .ensures) ∙ c .before .before .sum .given .1) in
     no-room (total (a .texts .now)) (startup (a .version) (a .texts .now)) (a .out .now) (omega arith) (omega (arith, length-startup (a .version) (a .texts .now)))
 
 write-be-requires : tie.Need-write-be-requires
@@ -60,10 +60,11 @@ place-strings-requires c κs =
     let s = x .before .before in
     let a = s .args in
     let t = a .texts .now in
-    let f = counted-fits _ _ _ (sym (x .texts-len .ensures) ∙ u .before .before .sum .given .1) in
-    let h : startupLength t ≤ length (a .out .now) = omega (arith, u .if1 .left) in
-    let w = startup-front (a .version) t h (rw (← f .0) at (b .write-be .ensures)) (rw (toZ-ofZ w32 (a .version) (s .fits .version)) at (i .write-i32 .ensures)) in
-    omega (arith, w .place, length-strings t, i .write-i32 .kept .0, b .write-be .kept .0)
+    let f = counted-fits _ _ _ (sym (x .inputs-len .ensures) ∙ u .before .before .sum .given .1) in
+    let l = length-startup (a .version) t in
+    let h : 0 + length (startup (a .version) t) ≤ length (a .out .now) = omega (arith, u .if1 .left) in
+    let w = startup-front (a .version) t (a .out .now) h (rw (← f .0) at (b .write-be .ensures)) (rw (toZ-ofZ w32 (a .version) (s .fits .version)) at (i .write-i32 .ensures)) in
+    filling-room h (strings t) _ w
 
 add-write-be : tie.Need-add-write-be
 add-write-be c = search needs
@@ -84,21 +85,18 @@ returns-3 c =
     let s = x .before .before in
     let a = s .args in
     let t = a .texts .now in
-    let f = counted-fits _ _ _ (sym (x .texts-len .ensures) ∙ u .before .before .sum .given .1) in
-    let h : startupLength t ≤ length (a .out .now) = omega (arith, u .if1 .left) in
-    let w = startup-front (a .version) t h (rw (← f .0) at (b .write-be .ensures)) (rw (toZ-ofZ w32 (a .version) (s .fits .version)) at (i .write-i32 .ensures)) in
-    let l : length (strings t) ≡ total t + length t = length-strings t in
-    let o : ℕ = length t % 2 in
-    let w′ = stands-next (strings t) (length (strings t)) w refl (omega arith) (p .place-strings .ensures) in
-    let w″ = stands-next (beBytes (o + 1) 0) (o + 1) w′ (length-beBytes (o + 1) 0) (omega arith) (c .before .before .write-be2 .ensures) in
-    let n : 8 + length (strings t) + (o + 1) ≡ startupLength t = omega arith in
-    rw (← f .0, startup-pieces (a .version) t) (written (omega arith) h (rw n at w″))
+    let f = counted-fits _ _ _ (sym (x .inputs-len .ensures) ∙ u .before .before .sum .given .1) in
+    let l = length-startup (a .version) t in
+    let h : 0 + length (startup (a .version) t) ≤ length (a .out .now) = omega (arith, u .if1 .left) in
+    let w = startup-front (a .version) t (a .out .now) h (rw (← f .0) at (b .write-be .ensures)) (rw (toZ-ofZ w32 (a .version) (s .fits .version)) at (i .write-i32 .ensures)) in
+    let w′ = filling-last h (filling-next h (strings t) w (p .place-strings .ensures)) (c .before .before .write-be2 .ensures) in
+    rw (← f .0) (wrote-placed (total t) (startup (a .version) t) (a .out .now) (omega arith) l (omega arith) w′)
 
 pub write-startup-spec : {M : Type 1} → statement M
 write-startup-spec =
     tie.close
     (tie.spec
-    texts-len-requires
+    inputs-len-requires
     enum-known-sum
     enum-told
     returns

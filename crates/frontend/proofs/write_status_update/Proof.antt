@@ -1,14 +1,16 @@
 -- The header, and the body behind it.
 use mir.Syntax.{w64}
 use mir.ValLaws.{toZ-ofZ}
-use Rattle.frontend.proofs.Laws.{stands-first, stands-next, written, length-header, framed-header, length-framed, length-status}
-use Rattle.error.proofs.Laws.{no-room}
+use Rattle.frontend.proofs.Laws.{length-header, framed-header, length-framed, length-status}
+use Rattle.wire.proofs.Laws.{placed-fits}
+use Rattle.wire.proofs.Pieces.{filling-start, filling-next, filling-last}
+use Rattle.error.proofs.Laws.{no-room, wrote-placed}
 use Rattle.stream.specs.Message.{framed}
 use Rattle.frontend.specs.Frontend.{copyData, statusBody, statusUpdate}
 use Rattle.frontend.specs.Code.{header}
-use Prim.Native.Nat.{ℕ, _≤_}
+use Prim.Native.Nat.{ℕ, _+_, _≤_}
 use mathlib.Core.Path.{_≡_, _∙_}
-use mathlib.Core.List.{List, _++_}
+use mathlib.Core.List.{List}
 use native.Mathlib.Omega.{arith}
 use lib.ListN.{length}
 use borrow.Author.Needs.{needs}
@@ -27,8 +29,9 @@ place-header-requires c κs = search needs
 
 place-status-requires : tie.Need-place-status-requires
 place-status-requires c κs =
-    let s = stands-first (length-header 100 34) (omega arith) (c .before .before .before .place-header .ensures) in
-    omega (arith, s .place, c .before .before .before .place-header .kept .0, c .before .before .before .before .before .if1 .left)
+    let h = c .before .before .before .place-header in
+    let p = placed-fits _ 0 (header 100 34) (omega (arith, length-header 100 34)) (h .ensures) in
+    omega (arith, p .0, length-header 100 34, h .kept .0, c .before .before .before .before .before .if1 .left)
 
 same-length : tie.Need-same-length
 same-length c = search needs
@@ -42,11 +45,11 @@ returns-2 c =
     let a = s .args in
     let b : List ℕ = statusBody (a .position .0) (a .client-time) (a .reply) in
     let l : length b ≡ 34 = length-status (a .position .0) (a .client-time) (a .reply) in
-    let h : 39 ≤ length (a .out .now) = omega (arith, i .if1 .left) in
-    let w = stands-first (length-header 100 34) (omega arith) (p .place-header .ensures) in
-    let w′ = stands-next b 34 w l (omega arith) (rw (toZ-ofZ w64 (a .client-time) (s .fits .client-time)) at (c .before .before .place-status .ensures)) in
-    let e : framed 100 b ≡ header 100 34 ++ b = framed-header 100 b ∙ rw l in
-    rw e (written (omega arith) h w′)
+    let n : length (framed 100 b) ≡ 39 = length-framed 100 b ∙ omega arith in
+    let h : 0 + length (framed 100 b) ≤ length (a .out .now) = omega (arith, i .if1 .left) in
+    let w = filling-next h (header 100 34) {rest = b} (filling-start (framed-header 100 b ∙ rw l)) (p .place-header .ensures) in
+    wrote-placed 0 (framed 100 b) (a .out .now) (omega arith) n (omega arith)
+    (filling-last h w (rw (toZ-ofZ w64 (a .client-time) (s .fits .client-time)) at (c .before .before .place-status .ensures)))
 
 pub write-status-update-spec : {M : Type 1} → statement M
 write-status-update-spec =

@@ -1,10 +1,10 @@
 -- What is left of the lossy text, put where the loop stands, gives what is asked.
-use Rattle.wire.specs.Bytes.{put}
 use Rattle.wire.proofs.Laws.{put-none}
+use Rattle.wire.proofs.Pieces.{Filling, filling-start, filling-next}
 use Rattle.lossy.specs.Lossy.{lossyOf}
 use Rattle.lossy.proofs.Laws.{lossy-end}
-use Rattle.lossy.proofs.Turns.{fill-turn}
-use Prim.Native.Nat.{_≤_, _+_, _-_}
+use Rattle.lossy.proofs.Turns.{lossy-turn}
+use Prim.Native.Nat.{_≤_, _-_}
 use mathlib.Core.Path.{_≡_, refl, sym, _∙_}
 use mathlib.Core.List.{[]}
 use native.Mathlib.Omega.{arith}
@@ -14,16 +14,13 @@ use Rattle.lossy.proofs.fill.Tie as tie
 
 abbrev Inv-loop : tie.InvT-loop
 Inv-loop out₀ to text at₀ i₀ out at i =
-    (i ≤ length text)
-    × (put out at (lossyOf (drop i text)) ≡ put out₀ to (lossyOf text))
-    × (at + length (lossyOf (drop i text)) ≡ to + length (lossyOf text))
-    × (length out ≡ length out₀)
+    (i ≤ length text) × Filling out₀ to (lossyOf text) out at (lossyOf (drop i text))
 
 abbrev μ-loop : tie.MeasureT-loop
 μ-loop out₀ to text at₀ i₀ out at i = length text - i
 
 loop-holds : tie.Need-loop-holds Inv-loop μ-loop
-loop-holds c = (omega arith, refl, refl, refl)
+loop-holds c = (omega arith, filling-start refl)
 
 part-at-requires : tie.Need-part-at-requires Inv-loop μ-loop
 part-at-requires c κs = omega arith
@@ -42,19 +39,18 @@ loop-again c =
     let l = c .before .before .before .before .before .before .before in
     let a = l .before .before .before .args in
     let w = c .before .before .before .before .before .part-at in
-    let v = c .before .before .before .place-part in
-    let t = fill-turn (a .text .now) (l .loop .i) (w .result) (omega arith) (w .ensures) (l .loop .out) (v .last .0) (l .loop .at) (v .result) (omega arith) (v .ensures) in
-    (omega (arith, w .ensures .ends), t .0 ∙ l .loop .inv .1, t .1 ∙ l .loop .inv .2, t .2 ∙ l .loop .inv .3)
+    let t = lossy-turn (a .text .now) (l .loop .i) (w .result) (omega arith) (w .ensures) in
+    (omega (arith, w .ensures .ends), filling-next (l .before .before .before .pre) _ (rw t at (l .loop .inv .1)) (c .before .before .before .place-part .ensures))
 
 same-length : tie.Need-same-length Inv-loop μ-loop
-same-length c = c .before .loop .inv .3
+same-length c = c .before .loop .inv .1 .same
 
 returns : tie.Need-returns Inv-loop μ-loop
 returns c =
     let l = c .before in
-    let a = l .before .before .before .args in
-    let e : lossyOf (drop (l .loop .i) (a .text .now)) ≡ [] = lossy-end (a .text .now) (l .loop .i) (omega arith) in
-    sym (put-none (l .loop .out) (l .loop .at)) ∙ (rw e at (l .loop .inv .1))
+    let s = l .before .before .before in
+    let e : lossyOf (drop (l .loop .i) (s .args .text .now)) ≡ [] = lossy-end (s .args .text .now) (l .loop .i) (omega arith) in
+    sym (put-none (l .loop .out) (l .loop .at)) ∙ rw e at (l .loop .inv .1 .text)
 
 pub fill-spec : {M : Type 1} → statement M
 fill-spec =

@@ -5,7 +5,7 @@ use native.Mathlib.Omega.{arith}
 use lib.ListN.{drop-of-length-le, length, drop, length-drop}
 use lib.Seq.{take-nil, take-all}
 use borrow.Author.Needs.{needs}
-use Rattle.messages.proofs.Laws.{tail-whole}
+use Rattle.wire.proofs.Laws.{tail-whole}
 use Rattle.messages.proofs.part.Statement.{statement}
 use Rattle.messages.proofs.part.Tie as tie
 

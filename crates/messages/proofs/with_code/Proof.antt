@@ -1,38 +1,32 @@
 -- The four pieces are placed one behind the other.
 use mathlib.Core.Bool.{false}
-use mathlib.Core.Path.{_≡_, refl, sym, ap, _∙_}
-use mathlib.Core.List.{List, [], _++_}
+use mathlib.Core.Path.{_≡_, refl, sym, _∙_}
+use mathlib.Core.List.{List}
 use Prim.Native.Nat.{ℕ, _≤_, _+_}
 use native.Mathlib.Omega.{arith}
 use lib.Dec.{leb}
-use lib.ListN.{length-append, length}
+use lib.ListN.{length}
 use borrow.Author.Tests.{leb-true, leb-false, not-true, not-false}
 use borrow.Author.Needs.{needs}
-use Rattle.wire.specs.Bytes.{put, placed}
-use Rattle.wire.proofs.Laws.{put-none, placed-then}
+use Rattle.wire.specs.Bytes.{placed}
+use Rattle.wire.proofs.Laws.{placed-fits}
+use Rattle.wire.proofs.Pieces.{filling-start, filling-next, filling-last}
 use Rattle.error.specs.Writer.{writing}
-use Rattle.error.proofs.Laws.{no-room, wrote}
+use Rattle.error.proofs.Laws.{no-room, wrote-placed}
 use Rattle.lossy.specs.Lossy.{lossyOf}
 use Rattle.messages.specs.ErrorText.{coded, opened, closed}
-use Rattle.messages.proofs.Text.{length-coded, coded-pieces}
 use Rattle.messages.proofs.with_code.Statement.{statement}
 use Rattle.messages.proofs.with_code.Tie as tie
 
 four-pieces : (d m k : List ℕ) {q1 q2 q3 q4 : List ℕ} {r1 r2 r3 r4 : ℕ} → length (coded m k) ≤ length d
     → (r1, q1) ≡ placed d 0 m → (r2, q2) ≡ placed q1 r1 opened → (r3, q3) ≡ placed q2 r2 k → (r4, q4) ≡ placed q3 r3 closed
     → ((0, r4), q4) ≡ writing 0 (coded m k) d
-four-pieces d m k {q1} {q2} {q3} {q4} {r1} {r2} {r3} {r4} f e1 e2 e3 e4 =
-    let l : length (coded m k) ≡ length m + 12 + length k = length-coded m k in
-    let h2 : 0 + length (m ++ opened) ≤ length d = rw length-append (omega arith) in
-    let h3 : 0 + length ((m ++ opened) ++ k) ≤ length d = simp length-append (omega arith) in
-    let h4 : 0 + length (((m ++ opened) ++ k) ++ closed) ≤ length d = simp length-append (omega arith) in
-    let w1 = placed-then d d [] m 0 0 r1 q1 (sym (put-none d 0)) refl (omega arith) e1 in
-    let w2 = placed-then d q1 m opened 0 r1 r2 q2 (w1 .1) (w1 .0) h2 e2 in
-    let w3 = placed-then d q2 (m ++ opened) k 0 r2 r3 q3 (w2 .1) (w2 .0) h3 e3 in
-    let w4 = placed-then d q3 ((m ++ opened) ++ k) closed 0 r3 r4 q4 (w3 .1) (w3 .0) h4 e4 in
-    let p = coded-pieces m k in
-    let g : length (coded m k) ≡ length (((m ++ opened) ++ k) ++ closed) = ap length p in
-    wrote 0 (coded m k) d q4 r4 (omega arith) (omega (arith, w4 .0)) (omega (arith, w4 .0)) (w4 .1 ∙ sym (ap (put d 0) p))
+unfolding coded
+four-pieces d m k f e1 e2 e3 e4 =
+    let h : 0 + length (coded m k) ≤ length d = omega arith in
+    let w = filling-last h (filling-next h k (filling-next h opened (filling-next h m (filling-start refl) e1) e2) e3) e4 in
+    let n = placed-fits d 0 (coded m k) h w .0 in
+    wrote-placed 0 (coded m k) d (omega arith) (omega arith) (omega arith) w
 
 has-room-requires : tie.Need-has-room-requires
 has-room-requires c κs = search needs

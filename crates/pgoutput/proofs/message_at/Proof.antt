@@ -2,7 +2,8 @@
 use mathlib.Core.Option.{some}
 use Rattle.wire.specs.Field.{fieldAt, u8Of, u32Of, u64Of}
 use Rattle.wire.proofs.FieldLaws.{field-within}
-use Rattle.pgoutput.proofs.Laws.{message-values, tail-whole, prefix-within}
+use Rattle.wire.proofs.Laws.{tail-whole}
+use Rattle.pgoutput.proofs.Laws.{message-values, prefix-within}
 use Rattle.wire.specs.Find.{indexOf}
 use Rattle.wire.specs.declared.find.Found.the-variants.{At}
 use Prim.Native.Nat.{_<_, _+_}

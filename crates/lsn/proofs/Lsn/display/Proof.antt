@@ -1,5 +1,5 @@
 -- Counted first, then the three pieces, one behind the other.
-use Rattle.error.proofs.Laws.{no-room, wrote}
+use Rattle.error.proofs.Laws.{no-room, wrote-placed}
 use Rattle.text.proofs.Laws.{numeral-length}
 use Rattle.lsn.specs.Position.{displayOf}
 use Rattle.lsn.proofs.Laws.{length-display, displayed}
@@ -47,8 +47,8 @@ returns-2 c =
     let e = length-display (s .self .0) in
     let n : length (displayOf (s .self .0)) ≡ c .before .before .before .before .before .before .before .before .before .before .before .before .before .before .before .hex-len .result + 1 + c .before .before .before .before .before .before .before .before .before .before .before .before .before .before .hex-len2 .result = omega arith in
     let m : length (displayOf (s .self .0)) ≤ length (s .out .now) = omega (arith, c .before .before .before .before .before .before .before .before .before .before .before .before .before .if1 .left) in
-    wrote 0 (displayOf (s .self .0)) (s .out .now) _ _ (omega arith) n (omega arith)
-    (displayed (s .out .now) _ _ _ (s .self .0) _ _ _ m (c .before .before .before .before .before .before .before .before .before .before .before .place-hex .ensures) (c .before .before .before .before .before .before .place .ensures) (c .before .before .place-hex2 .ensures))
+    wrote-placed 0 (displayOf (s .self .0)) (s .out .now) (omega arith) n (omega arith)
+    (displayed (s .out .now) (s .self .0) m (c .before .before .before .before .before .before .before .before .before .before .before .place-hex .ensures) (c .before .before .before .before .before .before .place .ensures) (c .before .before .place-hex2 .ensures))
 
 pub display-spec : {M : Type 1} → statement M
 display-spec =

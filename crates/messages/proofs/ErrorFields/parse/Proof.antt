@@ -6,9 +6,10 @@ use lib.ListN.{length, drop, length-drop}
 use borrow.Author.Needs.{needs}
 use Rattle.wire.specs.Find.{indexOf}
 use Rattle.wire.specs.declared.find.Found.the-variants.{At, Nothing}
-use Rattle.wire.proofs.Laws.{found-below}
+use Rattle.wire.proofs.Laws.{tail-whole}
+use Rattle.wire.proofs.FindLaws.{found-below}
 use Rattle.messages.specs.Fields.{letters, fieldsOf}
-use Rattle.messages.proofs.Laws.{unread, after, after-start, unread-zero, unread-cut, unread-end, ended, tail-whole, turn}
+use Rattle.messages.proofs.Laws.{unread, after, after-start, unread-zero, unread-cut, unread-end, ended, turn}
 use Rattle.messages.proofs.ErrorFields.parse.Statement.{statement}
 use Rattle.messages.proofs.ErrorFields.parse.Tie as tie
 

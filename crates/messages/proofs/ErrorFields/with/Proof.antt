@@ -3,7 +3,7 @@ use mathlib.Core.Path.{sym, _∙_}
 use Prim.Native.Nat.{_<_}
 use native.Mathlib.Omega.{arith}
 use borrow.Author.Needs.{needs}
-use Rattle.wire.proofs.Laws.{found-below}
+use Rattle.wire.proofs.FindLaws.{found-below}
 use Rattle.messages.specs.Fields.{letters}
 use Rattle.messages.proofs.ErrorFields.with.Statement.{statement}
 use Rattle.messages.proofs.ErrorFields.with.Tie as tie

@@ -1,14 +1,13 @@
 -- The names counted and those to come have all bytes together.
-use Rattle.config.specs.OptionValue.{total}
-use Rattle.error.proofs.Laws.{fits, over}
-use Rattle.config.proofs.Laws.{total-next, total-end}
+use Rattle.error.specs.Inputs.{total}
+use Rattle.error.proofs.Laws.{fits, over, total-next, total-end}
 use Prim.Native.Nat.{_≤_, _+_, _-_}
 use mathlib.Core.Path.{_≡_}
 use native.Mathlib.Omega.{arith}
 use lib.ListN.{length, drop}
 use borrow.Author.Needs.{needs}
-use Rattle.config.proofs.names_len.Statement.{statement}
-use Rattle.config.proofs.names_len.Tie as tie
+use Rattle.error.proofs.inputs_len.Statement.{statement}
+use Rattle.error.proofs.inputs_len.Tie as tie
 
 abbrev Inv-loop : tie.InvT-loop
 Inv-loop names room sum₀ i₀ sum i = (i ≤ length names) × (sum ≤ room) × (sum + total (drop i names) ≡ total names)
@@ -59,8 +58,8 @@ returns-2 c =
     let e : l .loop .sum ≡ total (a .names .now) = omega arith in
     rw e (fits (a .room) (total (a .names .now)) (omega arith))
 
-pub names-len-spec : {M : Type 1} → statement M
-names-len-spec =
+pub inputs-len-spec : {M : Type 1} → statement M
+inputs-len-spec =
     tie.close
     (tie.spec
     Inv-loop
