@@ -1,8 +1,8 @@
 -- Any list of calls on a fresh run: condition 3's "Take any list of steps and reports".
 use Prim.Native.Nat.{ℕ, _+_}
-use mathlib.Core.Bool.{Bool, true, false}
+use mathlib.Core.Bool.{Bool}
 use mathlib.Core.List.{List, [], _∷_, _++_}
-use mathlib.Core.Option.{Option, some, none}
+use mathlib.Core.Option.{some, none}
 use lib.ListN.{take, drop}
 use Rattle.wire.specs.Bytes.{pick}
 use Rattle.framing.specs.Read.{limitOf}
@@ -13,7 +13,7 @@ use Rattle.worker.specs.declared.Run.{Run}
 use Rattle.worker.specs.declared.Settings.{Settings}
 use Rattle.worker.specs.declared.State.the-variants.{Opening, Turn}
 use Rattle.worker.specs.Run.{freshRun}
-use Rattle.worker.specs.Step.{Outcome, Lent, stepOf}
+use Rattle.worker.specs.Step.{Outcome, stepOf}
 use Rattle.worker.specs.Opening.{reportOf}
 use Rattle.claims.specs.Happened.{Happened, happenedBy}
 use Rattle.claims.specs.Plain.{Told, Bounds}

@@ -2,3 +2,4 @@ pub mod Happened
 pub mod Plain
 pub mod Calls
 pub mod RunCases
+pub mod Confirms

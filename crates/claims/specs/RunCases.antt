@@ -14,13 +14,10 @@ use Rattle.frontend.specs.Frontend.{copyData, copyDone, statusBody, statusUpdat
 use Rattle.replication.specs.CopyData.{copyDataOf, xlogData, keepAlive}
 use Rattle.pgoutput.specs.Boundary.{boundaryOf, beginBytes, commitBytes}
 use Rattle.progress.specs.Progress.{raiseOf, lookedOf, reportedOf}
-use Rattle.worker.specs.declared.Input.{Input}
 use Rattle.worker.specs.declared.Settings.{Settings}
-use Rattle.worker.specs.declared.Queue.{Queue}
 use Rattle.worker.specs.declared.Queue.the-variants.{Free}
 use Rattle.worker.specs.Run.{lsn, freshRun}
 use Rattle.worker.specs.Step.{statusOf, openingOf, turnOf, drainOf, readingOf, waitingOf, handlingOf, stalledOf, offeringOf, stateOf, stepOf, isEnded}
-use Rattle.claims.specs.Happened.{Happened}
 use Rattle.claims.specs.Happened as H
 use Rattle.claims.specs.Plain.{Told, wholeOnes, behindOpening, given, spanOf, behindByte, acceptedOnes, offered, takenOf, plainOf}
 use Rattle.claims.specs.Calls.{Call, step, Played, playAll, played, boundsOf}

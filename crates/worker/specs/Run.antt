@@ -1,6 +1,6 @@
 -- A run and the single changes of it. Document 01, "Events and confirmations".
 use Prim.Native.Nat.{ℕ, _/_}
-use mathlib.Core.Bool.{Bool, true, false}
+use mathlib.Core.Bool.{Bool, false}
 use Rattle.framing.specs.declared.MessageReader.{MessageReader}
 use Rattle.framing.specs.Read.{fresh}
 use Rattle.lsn.specs.declared.Lsn.{Lsn}

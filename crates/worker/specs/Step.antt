@@ -1,13 +1,12 @@
 -- One step: document 01's step table, row by row and test by test, and the tests 2 to 5 before it.
 use Prim.Native.Nat.{ℕ, _+_}
 use mathlib.Core.Bool.{Bool, true, false, not}
-use mathlib.Core.List.{List, []}
+use mathlib.Core.List.{List}
 use mathlib.Core.Option.{Option, some, none}
 use lib.ListN.{length, take}
 use lib.IntN.{ℤ}
 use lib.Dec.{ltb, leb, eqb}
 use Rattle.wire.specs.Bytes.{pick, at, put}
-use Rattle.framing.specs.declared.MessageReader.{MessageReader}
 use Rattle.framing.specs.Read.{Result, limitOf, readOf}
 use Rattle.framing.specs.Read as R
 use Rattle.framing.specs.Tag.{isError, isCopyBothResponse, isCopyData}
@@ -252,12 +251,16 @@ isStoppedAt (Message flag position pf pl cf cl) = false
 isStoppedAt (XLogData start end time from len) = false
 isStoppedAt (StoppedAt reached) = true
 
--- an event was handed on (or Nothing: dropped); "the event, then StoppedAt, then CopyDone"
+-- behind an event: "the event, then StoppedAt, then CopyDone"
+abbrev pub behindEvent : Run → Run
+behindEvent r = pick (r .offer .stops) (offers (StoppedAt (r .offer .reached)) false (lsn 0) r) (back r)
+
+abbrev pub handing : Event → Run → Lent → Outcome
+handing e r l = record { run = r; refusal = 0; taken = 0; event = e; written = 0; waited = none; payload = l .payload; out = l .out }
+
+-- an event is handed on, or Nothing where it is dropped
 abbrev pub nextOf : Event → Run → Lent → Outcome
-nextOf e r l =
-    pick (isStoppedAt (r .offer .event)) (doneWith e r l)
-    (let to : Run = pick (r .offer .stops) (offers (StoppedAt (r .offer .reached)) false (lsn 0) r) (back r) in
-    record { run = to; refusal = 0; taken = 0; event = e; written = 0; waited = none; payload = l .payload; out = l .out })
+nextOf e r l = pick (isStoppedAt (r .offer .event)) (doneWith e r l) (handing e (behindEvent r) l)
 
 abbrev pub handsOn : Run → Lent → Outcome
 handsOn r l = nextOf (r .offer .event) (withMetrics (withEvent (r .metrics)) r) l
