@@ -56,6 +56,7 @@ playOne bytes s (step i n out) =
     stepped s i (stepOf (s .run) i (record { unread = take n (drop (s .taken) bytes); payload = s .payload; out = out }))
 playOne bytes s (report position moment) = reported s (reportOf (s .run) position moment)
 
+-- call behind call
 unfoldable pub playAll : List ℕ → Played → List Call → Played
 playAll bytes s [] = s
 playAll bytes s (c ∷ cs) = playAll bytes (playOne bytes s c) cs

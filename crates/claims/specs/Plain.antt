@@ -81,6 +81,7 @@ unfoldable pub behindOpening : List (ℕ × List ℕ) → List (ℕ × List ℕ)
 behindOpening [] = []
 behindOpening (m ∷ ms) = pick (isCopyBothResponse (m .0)) ms (pick (isError (m .0)) [] (behindOpening ms))
 
+-- what the messages give, one behind the other, until one ends the reading
 unfoldable pub given : Option ℕ → List (ℕ × List ℕ) → List Happened
 given stop [] = []
 given stop (m ∷ ms) = let g : Gives = messageGives stop (m .0) (m .1) in g .events ++ pick (g .ends) [] (given stop ms)
@@ -100,10 +101,11 @@ unfoldable pub behindByte : ℕ → List Told → List Told
 behindByte n [] = []
 behindByte n (t ∷ ts) = pick (leb n (t .taken)) ts (behindByte (n - t .taken) ts)
 
--- those "not refused with 2 to 5"
+-- "refused with 2 to 5"
 abbrev pub isRefusedEarly : ℕ → Bool
 isRefusedEarly n = pick (ltb n 2) false (leb n 5)
 
+-- the steps that are not
 unfoldable pub acceptedOnes : List Told → List Told
 acceptedOnes [] = []
 acceptedOnes (t ∷ ts) = pick (isRefusedEarly (t .refusal)) (acceptedOnes ts) (t ∷ acceptedOnes ts)
@@ -134,6 +136,7 @@ offered (e ∷ es) full (t ∷ ts) =
 
 -- ---- the reading
 
+-- the sum of the taken counts
 unfoldable pub takenOf : List Told → ℕ
 takenOf [] = 0
 takenOf (t ∷ ts) = t .taken + takenOf ts

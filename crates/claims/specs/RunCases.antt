@@ -119,6 +119,7 @@ pub record WrongTurns : Type 0 where
   pub header-kept : broken .events ≡ H.begin 1 (pos 0) 7 ∷ []
   pub wait-broken : broken .written ≡ statusUpdate 0 (pos 0) false ∷ [] ∷ statusUpdate 0 (pos 0) false ∷ statusUpdate 0 (pos 0) false ∷ replicate 4 []
 
+-- each by computing the definitions
 pub run-cases : RunCases
 unfolding be beFrom beBytes put fieldAt signed unsigned framed frontOf cutFrom cutOf payloadOf judgedOf headerOf readOf copyData copyDone statusBody statusUpdate copyDataOf xlogData keepAlive boundaryOf beginBytes raiseOf lookedOf reportedOf freshRun statusOf openingOf turnOf drainOf readingOf waitingOf handlingOf stalledOf offeringOf stateOf stepOf wholeOnes behindOpening given spanOf behindByte acceptedOnes offered takenOf plainOf playAll played steps refusals
 run-cases =
@@ -134,6 +135,7 @@ run-cases =
       begin-read-early = refl;
     }
 
+-- each by computing the definitions
 pub wrong-turns : WrongTurns
 unfolding be beFrom beBytes put fieldAt signed unsigned framed frontOf cutFrom cutOf payloadOf judgedOf headerOf readOf copyData copyDone statusBody statusUpdate copyDataOf xlogData keepAlive boundaryOf beginBytes commitBytes raiseOf lookedOf reportedOf freshRun statusOf openingOf turnOf drainOf readingOf waitingOf handlingOf stalledOf offeringOf stateOf stepOf wholeOnes behindOpening given spanOf behindByte acceptedOnes offered takenOf plainOf playAll played steps
 wrong-turns =

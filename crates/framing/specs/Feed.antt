@@ -97,6 +97,7 @@ feedOne setting bytes f o =
     let x : Result = readOf setting (f .1) (take (o .unread) (drop (f .2) bytes)) (o .ended) (f .3) in
     (f .0 ++ itemOf (x .0) (x .3), x .1, f .2 + x .2, x .3)
 
+-- offer behind offer
 unfoldable pub feedAll : ℕ → List ℕ → Fed → List Offer → Fed
 feedAll setting bytes f [] = f
 feedAll setting bytes f (o ∷ os) = feedAll setting bytes (feedOne setting bytes f o) os

@@ -30,6 +30,7 @@ abbrev pub stringBy : List ℕ → Found → Option (List ℕ × List ℕ)
 stringBy s Nothing = none
 stringBy s (At i) = some (take i s, drop (i + 1) s)
 
+-- .. where there is one
 unfoldable pub stringOf : List ℕ → Option (List ℕ × List ℕ)
 stringOf s = stringBy s (indexOf 0 s)
 

@@ -23,32 +23,36 @@ fn message(
 // Where a part begins, and how long it is.
 struct Part(usize, usize);
 
+fn begin(line: &mut [u8], final_lsn: Lsn, commit_time: i64, xid: u32) -> usize {
+    let a = lines::start(line, b'b', 0);
+    let b = wire::store::place(line, a, b" B");
+    let c = lines::position(line, b, final_lsn);
+    let d = lines::long(line, c, commit_time);
+    let e = lines::number(line, d, xid as u64);
+    lines::end(line, e)
+}
+
+fn commit(line: &mut [u8], p: Lsn, end: Lsn, commit_time: i64) -> usize {
+    let a = lines::start(line, b'b', 0);
+    let b = wire::store::place(line, a, b" C");
+    let c = lines::position(line, b, p);
+    let d = lines::position(line, c, end);
+    let e = lines::long(line, d, commit_time);
+    lines::end(line, e)
+}
+
 pub(crate) fn boundary(line: &mut [u8], input: &[u8]) -> usize {
     match pgoutput::parse_pgoutput_boundary(input) {
         Boundary::Begin {
             final_lsn,
             commit_time,
             xid,
-        } => {
-            let a = lines::start(line, b'b', 0);
-            let b = wire::store::place(line, a, b" B");
-            let c = lines::position(line, b, final_lsn);
-            let d = lines::long(line, c, commit_time);
-            let e = lines::number(line, d, xid as u64);
-            lines::end(line, e)
-        }
+        } => begin(line, final_lsn, commit_time, xid),
         Boundary::Commit {
             lsn,
             end_lsn,
             commit_time,
-        } => {
-            let a = lines::start(line, b'b', 0);
-            let b = wire::store::place(line, a, b" C");
-            let c = lines::position(line, b, lsn);
-            let d = lines::position(line, c, end_lsn);
-            let e = lines::long(line, d, commit_time);
-            lines::end(line, e)
-        }
+        } => commit(line, lsn, end_lsn, commit_time),
         Boundary::Message {
             transactional,
             lsn,

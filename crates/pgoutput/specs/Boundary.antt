@@ -92,10 +92,12 @@ saidBy (Refused r) = refused (numberOf r)
 unfoldable pub beginBytes : ℕ → ℤ → ℕ → List ℕ
 beginBytes final time xid = 66 ∷ (beBytes 8 final ++ (beBytes 8 (unsigned 9223372036854775808 time) ++ beBytes 4 xid))
 
+-- of a Commit: flags, LSN, end LSN, time
 unfoldable pub commitBytes : ℕ → ℕ → ℕ → ℤ → List ℕ
 commitBytes flags position end time =
     67 ∷ flags ∷ (beBytes 8 position ++ (beBytes 8 end ++ beBytes 8 (unsigned 9223372036854775808 time)))
 
+-- of a Message: flags, LSN, prefix and its zero byte, length of the content, content
 unfoldable pub messageBytes : ℕ → ℕ → List ℕ → List ℕ → List ℕ
 messageBytes flags position prefix content =
     77 ∷ flags ∷ (beBytes 8 position ++ (prefix ++ (0 ∷ (beBytes 4 (length content) ++ content))))

@@ -44,6 +44,7 @@ playFrom q error (m ∷ ms) =
     let s : SimpleQuery × Said × List ℕ = messageOf q (m .0) (m .1) error in
     playedBy (s .1) (m .1) (s .0) (s .2) (playFrom (s .0) (s .2) ms)
 
+-- the same from a new query on
 unfoldable pub playOf : List ℕ → List (ℕ × List ℕ) → Played
 playOf error ms = playFrom fresh error ms
 

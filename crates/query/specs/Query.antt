@@ -39,5 +39,6 @@ answerFrom e (m ∷ ms) =
     (pick (eqb (m .0) 90) (only (endingBy e))
     (answerFrom e ms)))
 
+-- from the first message on, no error yet
 unfoldable pub answerOf : List (ℕ × List ℕ) → Answer
 answerOf ms = answerFrom none ms

@@ -21,6 +21,7 @@ columnBy n i (some len) =
     (pick (ltb (n - (i + 4)) len) none
     (some (Part (i + 4) len, i + 4 + len)))
 
+-- the column whose length field stands at place i, and the place behind it
 unfoldable pub columnAt : List ℕ → ℕ → Option (Column × ℕ)
 columnAt s i = columnBy (length s) i (fieldAt 4 s i)
 

@@ -19,10 +19,12 @@ pub data Cell : Type 0 where
   null : ℕ → Cell
   value : List ℕ → Cell
 
+-- Int32 length, Byten value
 unfoldable pub cellBytes : Cell → List ℕ
 cellBytes (null n) = beBytes 4 n
 cellBytes (value v) = beBytes 4 (length v) ++ v
 
+-- one behind the other
 unfoldable pub cellsBytes : List Cell → List ℕ
 cellsBytes [] = []
 cellsBytes (c ∷ cs) = cellBytes c ++ cellsBytes cs
@@ -84,6 +86,7 @@ abbrev pub cellOf : Option (List ℕ) → Cell
 cellOf none = null 4294967295
 cellOf (some v) = value v
 
+-- Int16 count of columns, then the columns
 unfoldable pub rowBytes : List (Option (List ℕ)) → List ℕ
 rowBytes vs = beBytes 2 (length vs) ++ cellsBytes (map cellOf vs)
 

@@ -34,6 +34,7 @@ xlogOf s = pick (ltb (length s) 24) (refused 11) (w (int64 s 0) (int64 s 8) (tim
 abbrev pub keepAliveOf : List ℕ → Said
 keepAliveOf s = pick (ltb (length s) 17) (refused 12) (k (int64 s 0) (time64 s 8) (not (eqb (getD s 16 0) 0)))
 
+-- by the letter: `w`, `k`; 10 where there is none, 13 for another
 unfoldable pub copyDataOf : List ℕ → Said
 copyDataOf [] = refused 10
 copyDataOf (letter ∷ s) = pick (eqb letter 119) (xlogOf s) (pick (eqb letter 107) (keepAliveOf s) (refused 13))

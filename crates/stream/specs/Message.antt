@@ -34,5 +34,6 @@ frontBy limit s n =
     (pick (ltb (length s) (n + 1)) in-payload
     (whole (getD s 0 0) (n - 4)))))
 
+-- .. once the five bytes of the header are there
 unfoldable pub frontOf : ℕ → List ℕ → Front
 frontOf limit s = pick (ltb (length s) 5) in-header (frontBy limit s (lengthField s))

@@ -129,6 +129,7 @@ openingBy (R.refused n) r l = endedWith n r l
 abbrev pub readBy : Run → Input → Lent → Result
 readBy r i l = readOf (r .settings .«max_message_size») (r .reader) (l .unread) (i .ended) (l .payload)
 
+-- the message is tested in the step in which it is whole
 unfoldable pub openingOf : Run → Input → Lent → Outcome
 openingOf r i l = let x : Result = readBy r i l in having (x .2) (x .3) (openingBy (x .0) (withReader (x .1) r) l)
 
@@ -137,6 +138,7 @@ openingOf r i l = let x : Result = readBy r i l in having (x .2) (x .3) (opening
 abbrev pub statusDue : Run → Bool
 statusDue r = pick (r .status .sent) (intervalPassed r) true
 
+-- the count of drained messages begins anew
 unfoldable pub turnOf : Run → Input → Lent → Outcome
 turnOf r i l =
     let none-drained : Run = withDrained 0 r in
@@ -149,6 +151,7 @@ turnOf r i l =
 abbrev pub waits : Run → Run
 waits r = withState Waiting (waitBegun (withPending (isAbove r) (withProgress (lookedOf (r .progress) .cell) r)))
 
+-- stop is looked at only behind a drained message
 unfoldable pub drainOf : Run → Input → Lent → Outcome
 drainOf r i l =
     pick (pick (ltb (r .drained) 256) (leb 5 (length (l .unread))) false) (moved (withState Reading r) l)
@@ -163,6 +166,7 @@ readingBy R.more r l = moved r l
 readingBy (R.whole tag n) r l = moved (withState Handling (withWhole (wholeOf tag n false) (withDrained (more (r .drained) 1) r))) l
 readingBy (R.refused n) r l = endedWith n r l
 
+-- neither stop nor clock is looked at
 unfoldable pub readingOf : Run → Input → Lent → Outcome
 readingOf r i l = let x : Result = readBy r i l in having (x .2) (x .3) (readingBy (x .0) (withReader (x .1) r) l)
 
@@ -185,6 +189,7 @@ waitingRead r i l = let x : Result = readBy r i l in having (x .2) (x .3) (waiti
 abbrev pub isReadable : Input → Lent → Bool
 isReadable i l = pick (eqb (length (l .unread)) 0) (i .ended) true
 
+-- the tests in their order
 unfoldable pub waitingOf : Run → Input → Lent → Outcome
 waitingOf r i l =
     pick (i .stop) (doneWith Nothing r l)
@@ -233,6 +238,7 @@ copyDataBy (C.w start end time from len) r i l =
     boundaryBy (boundaryOf (at (l .payload) from len)) start end time from len (withMetrics (withEnd (r .metrics) (lsn end)) r) l
 copyDataBy (C.refused n) r i l = endedWith n r l
 
+-- no byte is taken
 unfoldable pub handlingOf : Run → Input → Lent → Outcome
 handlingOf r i l =
     pick (isError (r .whole .tag)) (endedWith 19 r l)
@@ -280,6 +286,7 @@ stalledBy Free r i l = handsOn (stallEnded r) l
 stalledBy Closed r i l = drops (stallEnded r) l
 stalledBy Full r i l = pick (intervalPassed r) (statusOf false Offering r i l) (moved r l)
 
+-- with its stall begun
 unfoldable pub stalledOf : Run → Input → Lent → Outcome
 stalledOf r i l = pick (i .stop) (doneWith Nothing r l) (stalledBy (i .queue) r i l)
 
@@ -288,11 +295,13 @@ firstBy Free r i l = handsOn r l
 firstBy Closed r i l = drops r l
 firstBy Full r i l = stalledOf (stalls r) i l
 
+-- an event whose stall has not begun is at its first try
 unfoldable pub offeringOf : Run → Input → Lent → Outcome
 offeringOf r i l = pick (r .offer .stalled) (stalledOf r i l) (firstBy (i .queue) r i l)
 
 -- ---- one step
 
+-- the row of a state
 unfoldable pub stateOf : State → Run → Input → Lent → Outcome
 stateOf Opening r i l = openingOf r i l
 stateOf Turn r i l = turnOf r i l
