@@ -3,3 +3,4 @@ pub mod Plain
 pub mod Calls
 pub mod RunCases
 pub mod Confirms
+pub mod Begins

@@ -1,0 +1,41 @@
+-- Two plain readings of the same server bytes: the events of one begin the other's, whatever their steps. And both begin what all bytes give.
+use mathlib.Core.Path.{_≡_}
+use mathlib.Core.Bool.{Bool, true, false}
+use mathlib.Core.List.{List, [], _∷_, _++_}
+use mathlib.Core.Logic.{_⊎_}
+use Prim.Native.Nat.{ℕ}
+use Rattle.stream.specs.Cut.{cutOf}
+use Rattle.worker.specs.declared.Queue.{Queue}
+use Rattle.worker.specs.declared.Queue.the-variants.{Free, Full, Closed}
+use Rattle.claims.specs.Happened.{Happened}
+use Rattle.claims.specs.Plain.{Bounds, Told, wholeOnes, eventsOf, plainOf}
+
+-- xs begins ys
+pub record Begins {A : Type 0} (xs ys : List A) : Type 0 where
+  pub rest : List A
+  pub joined : xs ++ rest ≡ ys
+
+-- "no queue closes"
+abbrev pub isClosed : Queue → Bool
+isClosed Free = false
+isClosed Full = false
+isClosed Closed = true
+
+abbrev pub NoneClosed : List Told → Type 0
+NoneClosed [] = Unit
+NoneClosed (t ∷ ts) = (isClosed (t .queue) ≡ false) × NoneClosed ts
+
+-- what all of the server bytes give
+abbrev pub everything : Bounds → Bool → List ℕ → List Happened
+everything b opening bytes = eventsOf (b .stop) opening (wholeOnes (cutOf (b .limit) bytes .items))
+
+abbrev pub Plain-begins : Type 0
+Plain-begins =
+    (b : Bounds) (opening : Bool) (bytes : List ℕ) (ts : List Told) → NoneClosed ts
+    → Begins (plainOf b opening bytes ts) (everything b opening bytes)
+
+-- "the events of one begin the other's"
+abbrev pub Plain-agree : Type 0
+Plain-agree =
+    (b : Bounds) (opening : Bool) (bytes : List ℕ) (ts us : List Told) → NoneClosed ts → NoneClosed us
+    → Begins (plainOf b opening bytes ts) (plainOf b opening bytes us) ⊎ Begins (plainOf b opening bytes us) (plainOf b opening bytes ts)
