@@ -136,7 +136,7 @@ fn best(mut run: impl FnMut()) -> f64 {
 
 fn main() {
     println!("{:>8} {:>9} {:>12} {:>9} {:>9} {:>9} {:>7} {:>9}", "bytes", "messages", "ours msg/s", "ours MB/s", "Rust MB/s", "memcpy", "ratio", "ours ns");
-    for size in [30usize, 50, 100, 300, 600, 1024, 8192] {
+    for size in [30usize, 50, 64, 100, 300, 600, 1024, 8192] {
         let bytes = stream(size);
         let mut payload = vec![0u8; LIMIT];
         let a = rattle(&bytes, &mut payload);

@@ -55,8 +55,11 @@ one-run : (b : Bool) (x y : Run) (p : Lsn) → x .progress .applied ≡ p → y 
 one-run true x y p hx hy = hx
 one-run false x y p hx hy = hy
 
+handing-keeps : (p : Lsn) (i : Input) (l : Lent) (e : Event) (r : Run) → r .progress .applied ≡ p → Keeps p i l (handing e r l)
+handing-keeps p i l e r h = record { kept = h; writes = nothing refl refl }
+
 moved-keeps : (p : Lsn) (i : Input) (l : Lent) (r : Run) → r .progress .applied ≡ p → Keeps p i l (moved r l)
-moved-keeps p i l r h = record { kept = h; writes = nothing refl refl }
+moved-keeps p i l r h = handing-keeps p i l Nothing r h
 
 ended-keeps : (p : Lsn) (i : Input) (l : Lent) (n : ℕ) (r : Run) → r .progress .applied ≡ p → Keeps p i l (endedWith n r l)
 ended-keeps p i l n r h = record { kept = h; writes = nothing refl refl }
@@ -173,9 +176,6 @@ handling-keeps p i l r h =
     either (isError (r .whole .tag)) (ended-keeps p i l 19 r h)
     (either (isCopyData (r .whole .tag)) (copy-data-by p i l (copyDataOf (take (r .whole .len) (l .payload))) r h)
     (moved-keeps p i l (back r) h))
-
-handing-keeps : (p : Lsn) (i : Input) (l : Lent) (e : Event) (r : Run) → r .progress .applied ≡ p → Keeps p i l (handing e r l)
-handing-keeps p i l e r h = record { kept = h; writes = nothing refl refl }
 
 behind-event : (p : Lsn) (r : Run) → r .progress .applied ≡ p → behindEvent r .progress .applied ≡ p
 behind-event p r h = one-run (r .offer .stops) (offers (StoppedAt (r .offer .reached)) false (lsn 0) r) (back r) p h h

@@ -9,7 +9,7 @@ use lib.IntN.{ℤ}
 use lib.Dec.{leb, ltb}
 use denote.Ref.{RefT, now}
 use Rattle.wire.specs.Bytes.{pick}
-use Rattle.wire.specs.Field.{fieldAt, signedOf}
+use Rattle.wire.specs.Field.{andThen, fieldAt, signedOf}
 use Rattle.wire.specs.Find.{indexOf, NoZero}
 use Rattle.wire.specs.declared.find.Found.{Found}
 use Rattle.wire.specs.declared.find.Found.the-variants.{At, Nothing}
@@ -19,11 +19,6 @@ pub record Startup : Type 0 where
   pub version : ℤ
   pub parameters : List (List ℕ × List ℕ)
   pub rest : List ℕ
-
--- what becomes of a value that may be missing
-abbrev pub andThen : {A B : Type 0} → Option A → (A → Option B) → Option B
-andThen none f = none
-andThen (some v) f = f v
 
 -- a String at the front: the bytes before the first zero byte, and those behind it
 abbrev pub stringBy : List ℕ → Found → Option (List ℕ × List ℕ)

@@ -15,7 +15,8 @@ use Rattle.wire.proofs.Pieces.{filling-start, filling-next, filling-last}
 use Rattle.wire.specs.Find.{indexOf}
 use Rattle.wire.specs.declared.find.Found.{Found}
 use Rattle.wire.specs.declared.find.Found.the-variants.{At, Nothing}
-use Rattle.lsn.specs.Hex.{digitOf, digitIs, andThen, valueFrom, in64, hexDigits, hexPart, partOf}
+use Rattle.wire.specs.Field.{andThen}
+use Rattle.lsn.specs.Hex.{digitOf, digitIs, valueFrom, in64, hexDigits, hexPart, partOf}
 use Rattle.lsn.specs.Position.{positionOf, joined, displayOf}
 use Rattle.lsn.specs.declared.hex.HexPart.{HexPart}
 use Rattle.lsn.specs.declared.hex.HexPart.the-variants.{Value, Invalid}

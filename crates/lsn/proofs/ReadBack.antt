@@ -12,7 +12,8 @@ use lib.Bits.{or-shifted}
 use borrow.Author.Tests.{lt-ltb, le-leb, lt-leb, ne-eqb, ltb-true, ltb-false}
 use Rattle.wire.specs.Find.{indexOf}
 use Rattle.wire.specs.declared.find.Found.the-variants.{At}
-use Rattle.lsn.specs.Hex.{digitOf, andThen, valueFrom, hexDigits, hexPart}
+use Rattle.wire.specs.Field.{andThen}
+use Rattle.lsn.specs.Hex.{digitOf, valueFrom, hexDigits, hexPart}
 use Rattle.lsn.specs.Position.{positionOf, joined, displayOf}
 use Rattle.text.specs.Numeral.{glyphOf, numeral, hexText}
 use Rattle.wire.proofs.Laws.{by-test}

@@ -5,6 +5,7 @@ use mathlib.Core.Option.{Option, some, none}
 use mathlib.Core.Bool.{Bool, false}
 use lib.Dec.{leb, ltb, eqb}
 use Rattle.wire.specs.Bytes.{pick}
+use Rattle.wire.specs.Field.{andThen}
 use Rattle.lsn.specs.declared.hex.HexPart.{HexPart}
 use Rattle.lsn.specs.declared.hex.HexPart.the-variants.{Value, Invalid}
 
@@ -18,11 +19,6 @@ digitOf c =
     (pick (between 65 70 c) (some (c - 55))
     (pick (between 97 102 c) (some (c - 87))
     none))
-
--- what becomes of a value that may be missing
-abbrev pub andThen : Option ℕ → (ℕ → Option ℕ) → Option ℕ
-andThen none f = none
-andThen (some v) f = f v
 
 -- the number that the digits spell behind acc; none where one is no digit
 unfoldable pub valueFrom : ℕ → List ℕ → Option ℕ

@@ -28,7 +28,12 @@ unfoldable pub unsigned : ℕ → ℤ → ℕ
 unsigned half (pos k) = k
 unsigned half (negsuc k) = half * 2 - 1 - k
 
--- the same of a field that may be cut
+-- what becomes of a value that may be missing
+abbrev pub andThen : {A B : Type 0} → Option A → (A → Option B) → Option B
+andThen none f = none
+andThen (some v) f = f v
+
+-- a signed number of a field that may be cut
 abbrev pub signedOf : ℕ → Option ℕ → Option ℤ
 signedOf half none = none
 signedOf half (some v) = some (signed half v)

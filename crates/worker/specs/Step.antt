@@ -51,9 +51,12 @@ pub record Lent : Type 0 where
 
 -- ---- the ends of a step
 
--- nothing but the run changes
+-- an event is handed on, and else nothing but the run changes
+abbrev pub handing : Event → Run → Lent → Outcome
+handing e r l = record { run = r; refusal = 0; taken = 0; event = e; written = 0; waited = none; payload = l .payload; out = l .out }
+
 abbrev pub moved : Run → Lent → Outcome
-moved r l = record { run = r; refusal = 0; taken = 0; event = Nothing; written = 0; waited = none; payload = l .payload; out = l .out }
+moved r l = handing Nothing r l
 
 -- refused with a number
 abbrev pub refusedWith : ℕ → Run → Lent → Outcome
@@ -260,9 +263,6 @@ isStoppedAt (StoppedAt reached) = true
 -- behind an event: "the event, then StoppedAt, then CopyDone"
 abbrev pub behindEvent : Run → Run
 behindEvent r = pick (r .offer .stops) (offers (StoppedAt (r .offer .reached)) false (lsn 0) r) (back r)
-
-abbrev pub handing : Event → Run → Lent → Outcome
-handing e r l = record { run = r; refusal = 0; taken = 0; event = e; written = 0; waited = none; payload = l .payload; out = l .out }
 
 -- an event is handed on, or Nothing where it is dropped
 abbrev pub nextOf : Event → Run → Lent → Outcome

@@ -1,6 +1,7 @@
 use Rattle.lsn.proofs.Laws.{value-bad, value-turn, value-over, digits-start, digits-empty, digits-end}
 use mathlib.Core.Option.{Option}
-use Rattle.lsn.specs.Hex.{andThen, valueFrom, in64, hexDigits}
+use Rattle.wire.specs.Field.{andThen}
+use Rattle.lsn.specs.Hex.{valueFrom, in64, hexDigits}
 use Prim.Native.Nat.{ℕ, _≤_, _<_, _+_, _*_, _-_, _^_}
 use mathlib.Core.Path.{_≡_, sym, ap, _∙_}
 use native.Mathlib.Omega.{arith}
