@@ -116,7 +116,7 @@ events-begin stop true ms ns =
 events-begin stop false ms ns = given-begins stop ms ns
 
 -- .. for a beginning of the messages
-events-of : (stop : Option ℕ) (opening : Bool) (ms ns : List (ℕ × List ℕ)) → Begins ms ns → Begins (eventsOf stop opening ms) (eventsOf stop opening ns)
+pub events-of : (stop : Option ℕ) (opening : Bool) (ms ns : List (ℕ × List ℕ)) → Begins ms ns → Begins (eventsOf stop opening ms) (eventsOf stop opening ns)
 events-of stop opening ms ns b = rw (sym (b .joined)) (events-begin stop opening ms (b .rest))
 
 whole-begins : (is js : List Item) → Begins (wholeOnes is) (wholeOnes (is ++ js))

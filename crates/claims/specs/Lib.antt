@@ -4,3 +4,4 @@ pub mod Calls
 pub mod RunCases
 pub mod Confirms
 pub mod Begins
+pub mod HandsOn

@@ -546,12 +546,12 @@ read-kept setting r u e p =
     (pick-both K (r .refused) _ _ refl (pick-both K (ltb (r .filled) 5) _ _ (header-kept (limitOf setting) r u e p) (payload-kept u p r e)))
 
 -- what holds after each list of offers
-abbrev Behind : ℕ → List ℕ → List ℕ → Fed → Type 0
+abbrev pub Behind : ℕ → List ℕ → List ℕ → Fed → Type 0
 Behind setting bytes p f =
     (f .0 ≡ cutOf (limitOf setting) (take (f .2) bytes) .items) × (f .2 ≤ length bytes)
     × Stands (cutOf (limitOf setting) (take (f .2) bytes)) (f .1) (f .3) × (length (f .3) ≡ length p)
 
-one-more : (setting : ℕ) (bytes p : List ℕ) → limitOf setting ≤ length p → (f : Fed) (o : Offer) → Behind setting bytes p f → Behind setting bytes p (feedOne setting bytes f o)
+pub one-more : (setting : ℕ) (bytes p : List ℕ) → limitOf setting ≤ length p → (f : Fed) (o : Offer) → Behind setting bytes p f → Behind setting bytes p (feedOne setting bytes f o)
 one-more setting bytes p big f o i =
     let t : ℕ = f .2 in
     let u : List ℕ = take (o .unread) (drop t bytes) in

@@ -1,0 +1,106 @@
+-- What the plain reading makes of the steps so far, and how one step more changes it.
+use mathlib.Core.Path.{_≡_, refl, sym, ap, _∙_}
+use mathlib.Core.Bool.{Bool, true, false}
+use mathlib.Core.List.{List, [], _∷_, _++_, append-assoc, append-nil}
+use mathlib.Core.Option.{Option}
+use Prim.Native.Nat.{ℕ, _+_, _-_, _<_, _≤_}
+use native.Mathlib.Omega.{arith}
+use borrow.Author.Tests.{leb-true, leb-false, lt-leb, le-leb}
+use lib.ListN.{length, take, drop, take-append-drop, length-append}
+use lib.Seq.{drop-append-seam, take-append-add, take-length}
+use lib.Dec.{leb}
+use Rattle.wire.specs.Bytes.{pick}
+use Rattle.wire.proofs.Laws.{by-test}
+use Rattle.stream.specs.Cut.{cutOf}
+use Rattle.claims.specs.Happened.{Happened}
+use Rattle.claims.specs.Plain.{Told, Gives, messageGives, wholeOnes, given, eventsOf, spanOf, behindByte, acceptedOnes, isRefusedEarly, offered, takenOf}
+use Rattle.claims.specs.Begins.{Begins}
+use Rattle.claims.proofs.Begins.{events-of}
+
+-- ---- lists of steps
+
+pub taken-more : (ts : List Told) (x : Told) → takenOf (ts ++ (x ∷ [])) ≡ takenOf ts + x .taken
+unfolding takenOf
+taken-more [] x = omega arith
+taken-more (t ∷ ts) x = let h = taken-more ts x in omega arith
+
+behind-more : (n : ℕ) (ts : List Told) (x : Told) → 0 < n → n ≤ takenOf ts → behindByte n (ts ++ (x ∷ [])) ≡ behindByte n ts ++ (x ∷ [])
+unfolding behindByte takenOf
+behind-more n [] x a b = absurd (omega arith)
+behind-more n (t ∷ ts) x a b =
+    by-test (leb n (t .taken))
+    (λ e. simp e)
+    (λ e.
+    let h : t .taken < n = leb-false _ _ e in
+    let i : behindByte (n - t .taken) (ts ++ (x ∷ [])) ≡ behindByte (n - t .taken) ts ++ (x ∷ []) =
+    behind-more (n - t .taken) ts x (omega arith) (omega arith) in
+    simp e i)
+
+-- the step that takes the n-th byte is the last
+behind-last : (n : ℕ) (ts : List Told) (x : Told) → takenOf ts < n → n ≤ takenOf ts + x .taken → behindByte n (ts ++ (x ∷ [])) ≡ []
+unfolding behindByte takenOf
+behind-last n [] x a b =
+    let h : n ≤ x .taken = omega arith in
+    let e : leb n (x .taken) ≡ true = le-leb n (x .taken) h in
+    simp e
+behind-last n (t ∷ ts) x a b =
+    let h : t .taken < n = omega arith in
+    let e : leb n (t .taken) ≡ false = lt-leb n (t .taken) h in
+    simp e (behind-last (n - t .taken) ts x (omega arith) (omega arith))
+
+-- one step more, where it is not refused with 2 to 5
+abbrev pub grown : Told → List Told → List Told
+grown x ws = pick (isRefusedEarly (x .refusal)) ws (ws ++ (x ∷ []))
+
+accepted-more : (ts : List Told) (x : Told) → acceptedOnes (ts ++ (x ∷ [])) ≡ grown x (acceptedOnes ts)
+unfolding acceptedOnes
+accepted-more [] x = refl
+accepted-more (t ∷ ts) x = kept (isRefusedEarly (t .refusal)) (isRefusedEarly (x .refusal)) (acceptedOnes (ts ++ (x ∷ []))) (acceptedOnes ts) (accepted-more ts x)
+  where
+    kept : (a b : Bool) (us vs : List Told) → us ≡ pick b vs (vs ++ (x ∷ []))
+        → pick a us (t ∷ us) ≡ pick b (pick a vs (t ∷ vs)) (pick a vs (t ∷ vs) ++ (x ∷ []))
+    kept true true us vs h = h
+    kept true false us vs h = h
+    kept false true us vs h = ap (λ (l : List Told). t ∷ l) h
+    kept false false us vs h = ap (λ (l : List Told). t ∷ l) h
+
+-- ---- the account: the whole messages so far, and the accepted steps behind the one that took the last byte of the last
+
+module _ (limit : ℕ) (bytes : List ℕ) where
+  abbrev pub whole-at : ℕ → List (ℕ × List ℕ)
+  whole-at t = wholeOnes (cutOf limit (take t bytes) .items)
+
+  pub record Account (t : ℕ) (ts : List Told) (ms : List (ℕ × List ℕ)) (ws : List Told) : Type 0 where
+    pub sum : takenOf ts ≡ t
+    pub whole : whole-at t ≡ ms
+    pub span : spanOf ms ≤ t
+    pub since : 0 < spanOf ms → acceptedOnes (behindByte (spanOf ms) ts) ≡ ws
+
+  -- a step behind which there are no more whole messages
+  pub same-ones : (t : ℕ) (ts : List Told) (ms : List (ℕ × List ℕ)) (ws : List Told) (x : Told) → Account t ts ms ws
+      → whole-at (t + x .taken) ≡ ms → Account (t + x .taken) (ts ++ (x ∷ [])) ms (grown x ws)
+  same-ones t ts ms ws x a e =
+      let s : takenOf ts ≡ t = a .sum in
+      let l : spanOf ms ≤ t = a .span in
+      record {
+        sum = taken-more ts x ∙ ap (λ (k : ℕ). k + x .taken) s;
+        whole = e;
+        span = omega arith;
+        since =
+            λ p.
+            ap acceptedOnes (behind-more (spanOf ms) ts x p (omega arith))
+            ∙ (accepted-more (behindByte (spanOf ms) ts) x ∙ ap (grown x) (a .since p));
+      }
+
+  -- a step that takes the last byte of one more
+  pub one-more : (t : ℕ) (ts : List Told) (ms ns : List (ℕ × List ℕ)) (ws : List Told) (x : Told) → Account t ts ms ws
+      → whole-at (t + x .taken) ≡ ns → spanOf ns ≡ t + x .taken → 0 < x .taken → Account (t + x .taken) (ts ++ (x ∷ [])) ns []
+  unfolding acceptedOnes
+  one-more t ts ms ns ws x a e l p =
+      let s : takenOf ts ≡ t = a .sum in
+      record {
+        sum = taken-more ts x ∙ ap (λ (k : ℕ). k + x .taken) s;
+        whole = e;
+        span = omega arith;
+        since = λ q. ap acceptedOnes (behind-last (spanOf ns) ts x (omega arith) (omega arith));
+      }
