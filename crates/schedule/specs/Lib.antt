@@ -1,0 +1,2 @@
+pub mod NextStep
+pub mod Promise

@@ -1,0 +1,96 @@
+-- When a step moves next while nothing new comes: no byte, no end of the input, no stop request, no change of the queue, no report.
+use Prim.Native.Nat.{ℕ, _+_, _-_, min}
+use mathlib.Core.Bool.{Bool, false}
+use lib.ListN.{getD}
+use lib.Dec.{ltb, leb, eqb}
+use Rattle.wire.specs.Bytes.{pick}
+use Rattle.framing.specs.declared.MessageReader.{MessageReader}
+use Rattle.framing.specs.Tag.{isError, isCopyBothResponse}
+use Rattle.moment.specs.declared.Moment.{Moment}
+use Rattle.worker.specs.declared.Queue.{Queue}
+use Rattle.worker.specs.declared.Queue.the-variants.{Free, Full, Closed}
+use Rattle.worker.specs.declared.State.{State}
+use Rattle.worker.specs.declared.State.the-variants.{Opening, Turn, Drain, Reading, Waiting, Handling, Offering, Ended}
+use Rattle.worker.specs.declared.Run.{Run}
+use Rattle.schedule.specs.declared.NextStep.{NextStep}
+use Rattle.schedule.specs.declared.NextStep.the-variants.{AtOnce, From, OnInput, Never}
+
+-- the next step moves; those from a moment on move; none moves until something comes; none is accepted any more
+pub data Next : Type 0 where
+  atOnce : Next
+  from : ℕ → Next
+  onInput : Next
+  never : Next
+
+abbrev pub nextBy : NextStep → Next
+nextBy AtOnce = atOnce
+nextBy (From m) = from (m .0)
+nextBy OnInput = onInput
+nextBy Never = never
+
+-- ---- the clock
+
+-- the number behind the last moment
+abbrev pub beyond : ℕ
+beyond = 9223372036854775808
+
+-- the first moment at which an interval since another has passed: 0 where it is 0, for it always has, and the number behind the last moment
+-- where it never will
+unfoldable pub dueOf : ℕ → Moment → ℕ
+dueOf interval at = pick (eqb interval 0) 0 (min (at .0 + interval) beyond)
+
+-- a step moves from such a moment on
+unfoldable pub byClock : ℕ → Next
+byClock due = pick (eqb due 0) atOnce (pick (ltb due beyond) (from due) onInput)
+
+abbrev pub statusDue : Run → ℕ
+statusDue r = dueOf (r .settings .«status_interval») (r .status .at)
+
+abbrev pub idleDue : Run → ℕ
+idleDue r = dueOf (r .settings .«idle_wakeup_interval») (r .clock .«wait_began»)
+
+-- ---- the reader, with a payload buffer of so many bytes
+
+-- the message lacks nothing. A read that makes it whole leaves a reader at the next one, so no call leaves such a reader
+unfoldable pub isWhole : MessageReader → ℕ → Bool
+isWhole x n = pick (ltb (x .filled) 5) false (leb (min (x .«payload_len») n) (x .filled - 5))
+
+-- ---- each state
+
+-- a remembered 7 ends the run; of whole messages only these two are not skipped
+unfoldable pub openingNext : MessageReader → ℕ → Next
+openingNext x n =
+    let tag : ℕ = getD (x .header) 0 0 in
+    pick (x .refused) atOnce
+    (pick (isWhole x n) (pick (isCopyBothResponse tag) atOnce (pick (isError tag) atOnce onInput))
+    onInput)
+
+unfoldable pub readingNext : MessageReader → ℕ → Next
+readingNext x n = pick (x .refused) atOnce (pick (isWhole x n) atOnce onInput)
+
+-- a status by either clock where a position is pending; else the signal, or the idle status
+unfoldable pub waitingNext : Run → Next
+waitingNext r =
+    pick (r .pending) (byClock (min (statusDue r) (idleDue r)))
+    (pick (r .progress .signalled) atOnce
+    (byClock (idleDue r)))
+
+-- while the queue is full there is a status at each interval
+unfoldable pub offeringNext : Run → Queue → Next
+offeringNext r Free = atOnce
+offeringNext r Closed = atOnce
+offeringNext r Full = byClock (statusDue r)
+
+unfoldable pub stateNext : State → Run → ℕ → Queue → Next
+stateNext Opening r n q = openingNext (r .reader) n
+stateNext Turn r n q = atOnce
+stateNext Drain r n q = atOnce
+stateNext Reading r n q = readingNext (r .reader) n
+stateNext Waiting r n q = waitingNext r
+stateNext Handling r n q = atOnce
+stateNext Offering r n q = offeringNext r q
+stateNext Ended r n q = never
+
+-- with the payload buffer's length and the queue
+unfoldable pub nextStepOf : Run → ℕ → Queue → Next
+nextStepOf r n q = stateNext (r .state) r n q
