@@ -29,9 +29,8 @@ use Rattle.worker.specs.declared.Run.{Run}
 use Rattle.worker.specs.declared.State.{State}
 use Rattle.worker.specs.declared.State.the-variants.{Opening, Turn, Drain, Reading, Waiting, Handling, Offering, Ended}
 use Rattle.worker.specs.Run.{lsn, withState, wholeOf, withDrained, withMetrics, withReader, withWhole, accepted}
-use Rattle.worker.specs.Step.{Lent, Outcome, back, behindEvent, boundaryBy, copyDataBy, doneWith, drainOf, endedWith, handing, handlingOf, having, idleOf, intervalPassed, isEnded, isStoppedAt, moved, offeringOf, offers, openingBy, openingOf, readingBy, readingOf, refusedWith, stallEnded, stalledOf, stalls, stateOf, statusOf, stepOf, turnOf, waitingOf, waits}
-use Rattle.worker.specs.Step as W
-use Rattle.schedule.specs.NextStep.{Next, atOnce, from, onInput, never, beyond, byClock, idleDue, isWhole, nextStepOf, offeringNext, openingNext, readingNext, stateNext, statusDue, waitingNext}
+use Rattle.worker.specs.Step.{Lent, Outcome, back, behindEvent, boundaryBy, copyDataBy, doneWith, drainOf, endedWith, handing, handlingOf, having, idleOf, intervalPassed, isEnded, isStoppedAt, moved, offeringOf, offers, openingBy, openingOf, readingBy, readingOf, refusedWith, stallEnded, stalledOf, stalls, stateOf, statusDue, statusOf, stepOf, turnOf, waitingOf, waits}
+use Rattle.schedule.specs.NextStep.{Next, atOnce, from, onInput, never, beyond, byClock, idleMoment, isWhole, nextStepOf, offeringNext, openingNext, readingNext, stateNext, statusMoment, waitingNext}
 use Rattle.schedule.specs.Promise.{Moves, leaves, writes, passes, Stays, Not-both, Promised, quiet, noByte, Next-step-promised, Never-is-ended, Ended-is-never}
 use Rattle.schedule.proofs.Clock.{Timed, by-clock, in-range, one-clock, passed-by, two-clocks}
 use Rattle.schedule.proofs.Read.{quietRead, read-quietly}
@@ -75,7 +74,7 @@ module _ (r : Run) (p out : List ℕ) (time : ℤ) (m : Moment) where
 
   turn-moves : (q : Queue) → r .state ≡ Turn → Moves r (turnOf now (i q) l)
   unfolding turnOf
-  turn-moves q h = either (W.statusDue now) (status-moves q false Drain (withDrained 0 now)) (leaves (λ e. differ (cc)))
+  turn-moves q h = either (statusDue now) (status-moves q false Drain (withDrained 0 now)) (leaves (λ e. differ (cc)))
 
   drain-moves : (q : Queue) → r .state ≡ Drain → Moves r (drainOf now (i q) l)
   unfolding drainOf
@@ -130,10 +129,10 @@ module _ (r : Run) (p out : List ℕ) (time : ℤ) (m : Moment) where
 
   -- ---- Waiting
 
-  idle-timed : (q : Queue) → r .state ≡ Waiting → m .0 < beyond → Due (idleDue r) q (idleOf now (i q) l)
+  idle-timed : (q : Queue) → r .state ≡ Waiting → m .0 < beyond → Due (idleMoment r) q (idleOf now (i q) l)
   unfolding stateNext waitingNext
   idle-timed q h k =
-      one-clock (idleDue r) (leb (r .settings .«idle_wakeup_interval») (sinceOf m (r .clock .«wait_began»)))
+      one-clock (idleMoment r) (leb (r .settings .«idle_wakeup_interval») (sinceOf m (r .clock .«wait_began»)))
       (passed-by (r .settings .«idle_wakeup_interval») (r .clock .«wait_began») m k)
       (status-moves q false Turn now) (stays q Waiting now h refl refl refl)
 
@@ -149,7 +148,7 @@ module _ (r : Run) (p out : List ℕ) (time : ℤ) (m : Moment) where
   waiting-promised : (q : Queue) → r .state ≡ Waiting → m .0 < beyond → Says q (waitingNext r) (waitingOf now (i q) l)
   unfolding waitingOf waitingNext
   waiting-promised q h k =
-      waits-by q (r .pending) (intervalPassed now) (r .progress .signalled) (statusDue r) (idleDue r) k
+      waits-by q (r .pending) (intervalPassed now) (r .progress .signalled) (statusMoment r) (idleMoment r) k
       (passed-by (r .settings .«status_interval») (r .status .at) m k)
       (status-moves q false Turn now)
       (leaves (λ e. differ (cc)))
@@ -171,13 +170,13 @@ module _ (r : Run) (p out : List ℕ) (time : ℤ) (m : Moment) where
 
   -- stalled before, or from now on
   full-timed : (stalled : Bool) → r .state ≡ Offering → m .0 < beyond
-      → Due (statusDue r) Full (pick stalled (stalledOf now (i Full) l) (stalledOf (stalls now) (i Full) l))
+      → Due (statusMoment r) Full (pick stalled (stalledOf now (i Full) l) (stalledOf (stalls now) (i Full) l))
   unfolding stalledOf stateNext offeringNext
   full-timed true h k =
-      one-clock (statusDue r) (intervalPassed now) (passed-by (r .settings .«status_interval») (r .status .at) m k)
+      one-clock (statusMoment r) (intervalPassed now) (passed-by (r .settings .«status_interval») (r .status .at) m k)
       (status-moves Full false Offering now) (stays Full Offering now h refl refl refl)
   full-timed false h k =
-      one-clock (statusDue r) (intervalPassed (stalls now)) (passed-by (r .settings .«status_interval») (r .status .at) m k)
+      one-clock (statusMoment r) (intervalPassed (stalls now)) (passed-by (r .settings .«status_interval») (r .status .at) m k)
       (status-moves Full false Offering (stalls now)) (stays Full Offering (stalls now) h refl refl refl)
 
   offering-promised : (q : Queue) → r .state ≡ Offering → m .0 < beyond → Says q (offeringNext r q) (offeringOf now (i q) l)
@@ -189,7 +188,7 @@ module _ (r : Run) (p out : List ℕ) (time : ℤ) (m : Moment) where
   offering-promised Closed h k =
       either (r .offer .stalled) (next-by (isStoppedAt (r .offer .event)) Nothing (stallEnded now) h refl)
       (next-by (isStoppedAt (r .offer .event)) Nothing now h refl)
-  offering-promised Full h k = by-clock (statusDue r) k (full-timed (r .offer .stalled) h k)
+  offering-promised Full h k = by-clock (statusMoment r) k (full-timed (r .offer .stalled) h k)
 
   -- ---- Reading
 
@@ -286,12 +285,12 @@ state-not-never Turn r n q h = absurd (at-once h)
 state-not-never Drain r n q h = absurd (at-once h)
 state-not-never Reading r n q h = absurd (not-never (r .reader .refused) at-once (not-never (isWhole (r .reader) n) at-once on-input) h)
 state-not-never Waiting r n q h =
-    absurd (not-never (r .pending) (clock-not-never (min (statusDue r) (idleDue r)))
-    (not-never (r .progress .signalled) at-once (clock-not-never (idleDue r))) h)
+    absurd (not-never (r .pending) (clock-not-never (min (statusMoment r) (idleMoment r)))
+    (not-never (r .progress .signalled) at-once (clock-not-never (idleMoment r))) h)
 state-not-never Handling r n q h = absurd (at-once h)
 state-not-never Offering r n Free h = absurd (at-once h)
 state-not-never Offering r n Closed h = absurd (at-once h)
-state-not-never Offering r n Full h = absurd (clock-not-never (statusDue r) h)
+state-not-never Offering r n Full h = absurd (clock-not-never (statusMoment r) h)
 state-not-never Ended r n q h = refl
 
 pub never-is-ended : Never-is-ended

@@ -22,6 +22,7 @@ pub data Next : Type 0 where
   onInput : Next
   never : Next
 
+-- what the code's answer says
 abbrev pub nextBy : NextStep → Next
 nextBy AtOnce = atOnce
 nextBy (From m) = from (m .0)
@@ -43,11 +44,13 @@ dueOf interval at = pick (eqb interval 0) 0 (min (at .0 + interval) beyond)
 unfoldable pub byClock : ℕ → Next
 byClock due = pick (eqb due 0) atOnce (pick (ltb due beyond) (from due) onInput)
 
-abbrev pub statusDue : Run → ℕ
-statusDue r = dueOf (r .settings .«status_interval») (r .status .at)
+-- the status interval since the last status
+abbrev pub statusMoment : Run → ℕ
+statusMoment r = dueOf (r .settings .«status_interval») (r .status .at)
 
-abbrev pub idleDue : Run → ℕ
-idleDue r = dueOf (r .settings .«idle_wakeup_interval») (r .clock .«wait_began»)
+-- the idle interval since the wait began
+abbrev pub idleMoment : Run → ℕ
+idleMoment r = dueOf (r .settings .«idle_wakeup_interval») (r .clock .«wait_began»)
 
 -- ---- the reader, with a payload buffer of so many bytes
 
@@ -65,22 +68,24 @@ openingNext x n =
     (pick (isWhole x n) (pick (isCopyBothResponse tag) atOnce (pick (isError tag) atOnce onInput))
     onInput)
 
+-- .. and here none
 unfoldable pub readingNext : MessageReader → ℕ → Next
 readingNext x n = pick (x .refused) atOnce (pick (isWhole x n) atOnce onInput)
 
 -- a status by either clock where a position is pending; else the signal, or the idle status
 unfoldable pub waitingNext : Run → Next
 waitingNext r =
-    pick (r .pending) (byClock (min (statusDue r) (idleDue r)))
+    pick (r .pending) (byClock (min (statusMoment r) (idleMoment r)))
     (pick (r .progress .signalled) atOnce
-    (byClock (idleDue r)))
+    (byClock (idleMoment r)))
 
 -- while the queue is full there is a status at each interval
 unfoldable pub offeringNext : Run → Queue → Next
 offeringNext r Free = atOnce
 offeringNext r Closed = atOnce
-offeringNext r Full = byClock (statusDue r)
+offeringNext r Full = byClock (statusMoment r)
 
+-- Turn, Drain and Handling never wait
 unfoldable pub stateNext : State → Run → ℕ → Queue → Next
 stateNext Opening r n q = openingNext (r .reader) n
 stateNext Turn r n q = atOnce
@@ -91,6 +96,6 @@ stateNext Handling r n q = atOnce
 stateNext Offering r n q = offeringNext r q
 stateNext Ended r n q = never
 
--- with the payload buffer's length and the queue
+-- of a run, with the payload buffer's length and the queue
 unfoldable pub nextStepOf : Run → ℕ → Queue → Next
 nextStepOf r n q = stateNext (r .state) r n q

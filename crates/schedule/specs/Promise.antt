@@ -23,6 +23,7 @@ quiet m time q = record { moment = m; «client_time» = time; stop = false; queu
 abbrev pub noByte : List ℕ → List ℕ → Lent
 noByte p out = record { unread = []; payload = p; out = out }
 
+-- a step that brings nothing new
 abbrev pub quietStep : Run → Moment → ℤ → Queue → List ℕ → List ℕ → Outcome
 quietStep r m time q p out = stepOf r (quiet m time q) (noByte p out)
 
@@ -32,7 +33,7 @@ pub record Accepts (r : Run) (m : Moment) (p out : List ℕ) : Type 0 where
   pub status-fits : 39 ≤ length out
   pub good-moment : badMoment r m ≡ false
 
--- the state is left, or bytes are written, or StoppedAt is offered behind an event that was handed on or dropped
+-- the state is left, or bytes are written, or another event is offered: StoppedAt, behind one that was handed on or dropped
 pub data Moves (r : Run) (o : Outcome) : Type 0 where
   leaves : (o .run .state ≡ r .state → ⊥) → Moves r o
   writes : 0 < o .written → Moves r o
@@ -59,6 +60,7 @@ Promised (from t) m r n q o = (m < t → Stays r n q o) × (t ≤ m → Moves r 
 Promised onInput m r n q o = Stays r n q o
 Promised never m r n q o = o .refusal ≡ 2
 
+-- the answer keeps its promise, for every run value, at every accepted moment, with every output and client time
 abbrev pub Next-step-promised : Type 0
 Next-step-promised =
     (r : Run) (q : Queue) (p out : List ℕ) (time : ℤ) (m : Moment) → Accepts r m p out
