@@ -153,7 +153,7 @@ module _ (s : Settings) (opening : Bool) (bytes : List ℕ) where
         since = λ h. absurd (omega arith);
       }
 
-  no-base : (p : List ℕ) → L ≤ length p → Base s opening bytes s fresh p 0 []
+  pub no-base : (p : List ℕ) → L ≤ length p → Base s opening bytes s fresh p 0 []
   unfolding feedAll itemsOf
   no-base p h =
       let f = fed-is-cut (s .«max_message_size») bytes p h [] in
@@ -302,11 +302,11 @@ unfolding played freshRun
 long-reads s true start bytes p cs q h =
     played-reads s true bytes (played s true start bytes p cs)
     (calls-keep s true bytes cs
-    (record { run = freshRun s Opening start; payload = p; taken = 0; told = []; events = []; written = [] }) q (opening-first s bytes p h))
+    (record { run = freshRun s Opening start; payload = p; taken = 0; told = []; past = []; events = []; written = [] }) q (opening-first s bytes p h))
 long-reads s false start bytes p cs q h =
     played-reads s false bytes (played s false start bytes p cs)
     (calls-keep s false bytes cs
-    (record { run = freshRun s Turn start; payload = p; taken = 0; told = []; events = []; written = [] }) q (turn-first s bytes p h))
+    (record { run = freshRun s Turn start; payload = p; taken = 0; told = []; past = []; events = []; written = [] }) q (turn-first s bytes p h))
 
 short-reads : (s : Settings) (opening : Bool) (start : Lsn) (bytes p : List ℕ) (cs : List Call) → length p < limitOf (s .«max_message_size»)
     → played s opening start bytes p cs .events ≡ plainOf (boundsOf s) opening bytes (played s opening start bytes p cs .told)

@@ -8,3 +8,7 @@ pub mod Standing
 pub mod Moves
 pub mod Offers
 pub mod HandsOn
+pub mod Facts
+pub mod Table
+pub mod TableOffers
+pub mod Condition3

@@ -13,23 +13,25 @@ use Rattle.worker.specs.declared.Run.{Run}
 use Rattle.worker.specs.declared.Settings.{Settings}
 use Rattle.worker.specs.declared.State.the-variants.{Opening, Turn}
 use Rattle.worker.specs.Run.{freshRun}
-use Rattle.worker.specs.Step.{Outcome, stepOf}
+use Rattle.worker.specs.Step.{Outcome, Lent, stepOf}
 use Rattle.worker.specs.Opening.{reportOf}
 use Rattle.claims.specs.Happened.{Happened, happenedBy}
 use Rattle.claims.specs.Plain.{Told, Bounds}
+use Rattle.claims.specs.Past.{Past, a-step, a-report}
 
 -- a step with so many of the next untaken bytes unread and an output, or a report
 pub data Call : Type 0 where
   step : Input → ℕ → List ℕ → Call
   report : Lsn → Moment → Call
 
--- what the calls left: the run, the payload buffer, the sum taken, what each step tells the plain reading, the events handed on, and what each
--- step wrote
+-- what the calls left: the run, the payload buffer, the sum taken, what each step tells the plain reading, what the calls tell (the newest
+-- first), the events handed on, and what each step wrote
 pub record Played : Type 0 where
   pub run : Run
   pub payload : List ℕ
   pub taken : ℕ
   pub told : List Told
+  pub past : List Past
   pub events : List Happened
   pub written : List (List ℕ)
 
@@ -41,20 +43,32 @@ stepped s i o =
       payload = o .payload;
       taken = s .taken + o .taken;
       told = s .told ++ (record { stop = i .stop; queue = i .queue; refusal = o .refusal; taken = o .taken } ∷ []);
+      past = a-step i (s .run .state) (o .run .state) (o .refusal) (o .written) ∷ s .past;
       events = s .events ++ happenedBy (o .event) (o .payload);
       written = s .written ++ (take (o .written) (o .out) ∷ []);
     }
 
 -- one report more
-abbrev pub reported : Played → Run → Played
-reported s r =
-    record { run = r; payload = s .payload; taken = s .taken; told = s .told; events = s .events; written = s .written }
+abbrev pub reported : Played → Lsn → Run → Played
+reported s position r =
+    record {
+      run = r;
+      payload = s .payload;
+      taken = s .taken;
+      told = s .told;
+      past = a-report position ∷ s .past;
+      events = s .events;
+      written = s .written;
+    }
 
 -- the payload buffer and the untaken bytes are handed on from step to step, the output is any at each step
+abbrev pub lentTo : List ℕ → Played → ℕ → List ℕ → Lent
+lentTo bytes s n out = record { unread = take n (drop (s .taken) bytes); payload = s .payload; out = out }
+
+-- one call more
 abbrev pub playOne : List ℕ → Played → Call → Played
-playOne bytes s (step i n out) =
-    stepped s i (stepOf (s .run) i (record { unread = take n (drop (s .taken) bytes); payload = s .payload; out = out }))
-playOne bytes s (report position moment) = reported s (reportOf (s .run) position moment)
+playOne bytes s (step i n out) = stepped s i (stepOf (s .run) i (lentTo bytes s n out))
+playOne bytes s (report position moment) = reported s position (reportOf (s .run) position moment)
 
 -- call behind call
 unfoldable pub playAll : List ℕ → Played → List Call → Played
@@ -65,7 +79,7 @@ playAll bytes s (c ∷ cs) = playAll bytes (playOne bytes s c) cs
 unfoldable pub played : Settings → Bool → Lsn → List ℕ → List ℕ → List Call → Played
 played s opening start bytes payload cs =
     playAll bytes
-    (record { run = freshRun s (pick opening Opening Turn) start; payload = payload; taken = 0; told = []; events = []; written = [] })
+    (record { run = freshRun s (pick opening Opening Turn) start; payload = payload; taken = 0; told = []; past = []; events = []; written = [] })
     cs
 
 -- what the plain reading is told of the settings

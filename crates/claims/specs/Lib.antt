@@ -1,7 +1,10 @@
 pub mod Happened
 pub mod Plain
+pub mod Past
 pub mod Calls
 pub mod RunCases
 pub mod Confirms
 pub mod Begins
 pub mod HandsOn
+pub mod Table
+pub mod Condition3

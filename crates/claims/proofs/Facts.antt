@@ -1,0 +1,146 @@
+-- What a run remembers is what the calls tell.
+use mathlib.Core.Path.{_≡_, refl, sym, ap, _∙_}
+use mathlib.Core.Bool.{Bool, true, false}
+use mathlib.Core.List.{List, [], _∷_}
+use Prim.Native.Nat.{ℕ, _+_, _%_, _^_, _<_}
+use lib.Dec.{eqb}
+use Rattle.wire.specs.Bytes.{pick}
+use Rattle.wire.proofs.Laws.{by-test}
+use Rattle.lsn.specs.declared.Lsn.{Lsn}
+use Rattle.lsn.specs.Position.{isBelow}
+use Rattle.moment.specs.declared.Moment.{Moment}
+use Rattle.progress.specs.declared.ProgressCell.{ProgressCell}
+use Rattle.progress.specs.Progress.{raiseOf, reportedOf}
+use Rattle.worker.specs.declared.Input.{Input}
+use Rattle.worker.specs.declared.Run.{Run}
+use Rattle.worker.specs.declared.Settings.{Settings}
+use Rattle.worker.specs.declared.State.{State}
+use Rattle.worker.specs.declared.State.the-variants.{Opening, Turn, Drain, Reading, Waiting, Handling, Offering, Ended}
+use Rattle.worker.specs.Run.{freshRun, accepted}
+use Rattle.worker.specs.Step.{confirmed, isStoppedAt, takesPending}
+use Rattle.worker.specs.Opening.{reportOf}
+use Rattle.claims.specs.Plain.{isRefusedEarly, isFull}
+use Rattle.claims.specs.Past.{Past, a-step, a-report, confirmedOf, lastAccepted, hasSent, sentAt, sentPosition, waitBegan, pendingOf, signalledOf, drainedOf, fullBefore, stoppedNext}
+
+pub record Facts : Type 0 where
+  pub last : Moment
+  pub wait : Moment
+  pub at : Moment
+  pub applied : Lsn
+  pub position : Lsn
+  pub signalled : Bool
+  pub sent : Bool
+  pub drained : ℕ
+  pub pending : Bool
+  pub stalled : Bool
+  pub stopped : Bool
+
+abbrev pub facts : Moment → Moment → Moment → Lsn → Lsn → Bool → Bool → ℕ → Bool → Bool → Bool → Facts
+facts last wait at applied position signalled sent drained pending stalled stopped =
+    record {
+      last = last;
+      wait = wait;
+      at = at;
+      applied = applied;
+      position = position;
+      signalled = signalled;
+      sent = sent;
+      drained = drained;
+      pending = pending;
+      stalled = stalled;
+      stopped = stopped;
+    }
+
+-- as a run remembers them
+abbrev pub factsBy : Run → Facts
+factsBy r =
+    facts (r .clock .last) (r .clock .«wait_began») (r .status .at) (r .progress .applied) (r .status .position) (r .progress .signalled) (r .status .sent)
+    (r .drained) (r .pending) (r .offer .stalled) (isStoppedAt (r .offer .event))
+
+-- as the calls tell them
+abbrev pub factsOf : Lsn → List Past → Facts
+factsOf start h =
+    facts (lastAccepted h) (waitBegan h) (sentAt h) (confirmedOf start h) (sentPosition start h) (signalledOf start h) (hasSent h)
+    (drainedOf h) (pendingOf start h) (fullBefore h) (stoppedNext h)
+
+pub fresh-facts : (s : Settings) (state : State) (start : Lsn) → factsBy (freshRun s state start) ≡ factsOf start []
+unfolding freshRun lastAccepted waitBegan sentAt confirmedOf sentPosition signalledOf hasSent drainedOf pendingOf fullBefore stoppedNext
+fresh-facts s state start = refl
+
+-- ---- a report
+
+-- the position rises with a signal, or nothing changes
+abbrev raised : Lsn → Facts → Facts
+raised p f =
+    facts (f .last) (f .wait) (f .at) (pick (isBelow (f .applied) p) p (f .applied)) (f .position) (pick (isBelow (f .applied) p) true (f .signalled)) (f .sent)
+    (f .drained) (f .pending) (f .stalled) (f .stopped)
+
+raise-cell : (c : ProgressCell) (p : Lsn) (m : Moment)
+    → (raiseOf c p m .cell .applied ≡ pick (isBelow (c .applied) p) p (c .applied)) × (raiseOf c p m .cell .signalled ≡ pick (isBelow (c .applied) p) true (c .signalled))
+unfolding raiseOf
+raise-cell c p m = by-test (isBelow (c .applied) p) (λ e. (simp e, simp e)) (λ e. (simp e, simp e))
+
+pub report-facts : (start : Lsn) (h : List Past) (r : Run) (p : Lsn) (m : Moment) → factsBy r ≡ factsOf start h → factsBy (reportOf r p m) ≡ factsOf start (a-report p ∷ h)
+unfolding reportOf lastAccepted waitBegan sentAt confirmedOf sentPosition signalledOf hasSent drainedOf pendingOf fullBefore stoppedNext
+report-facts start h r p m e =
+    let c = raise-cell (r .progress) p m in
+    let a : factsBy (reportOf r p m) ≡ raised p (factsBy r) =
+    ap (λ (x : Lsn). facts (r .clock .last) (r .clock .«wait_began») (r .status .at) x (r .status .position) (raiseOf (r .progress) p m .cell .signalled) (r .status .sent) (r .drained) (r .pending) (r .offer .stalled) (isStoppedAt (r .offer .event))) (c .0)
+    ∙ ap (λ (x : Bool). facts (r .clock .last) (r .clock .«wait_began») (r .status .at) (pick (isBelow (r .progress .applied) p) p (r .progress .applied)) (r .status .position) x (r .status .sent) (r .drained) (r .pending) (r .offer .stalled) (isStoppedAt (r .offer .event))) (c .1) in
+    a ∙ ap (raised p) e
+
+-- ---- a step refused with 2 to 5
+
+pub early-facts : (start : Lsn) (h : List Past) (i : Input) (state : State) (n : ℕ) → isRefusedEarly n ≡ true → factsOf start (a-step i state state n 0 ∷ h) ≡ factsOf start h
+unfolding lastAccepted waitBegan sentAt confirmedOf sentPosition signalledOf hasSent drainedOf pendingOf fullBefore stoppedNext
+early-facts start h i Opening n e = simp e
+early-facts start h i Turn n e = simp e
+early-facts start h i Drain n e = simp e
+early-facts start h i Reading n e = simp e
+early-facts start h i Waiting n e = simp e
+early-facts start h i Handling n e = simp e
+early-facts start h i Offering n e = simp e
+early-facts start h i Ended n e = simp e
+
+-- ---- a status
+
+-- the position is kept, and the signal
+pub status-cell : (b : Bool) (c : ProgressCell) (p : Lsn) (m : Moment)
+    → (pick b (reportedOf c p m .cell) c .applied ≡ c .applied) × (pick b (reportedOf c p m .cell) c .signalled ≡ c .signalled)
+unfolding reportedOf
+status-cell true c p m = (refl, refl)
+status-cell false c p m = (refl, refl)
+
+-- a status was sent now
+abbrev pub with-status : Moment → Facts → Facts
+with-status m f =
+    facts m (f .wait) m (f .applied) (f .applied) (f .signalled) true (f .drained) (f .pending) (f .stalled) (f .stopped)
+
+pub confirmed-facts : (r : Run) (m : Moment) → factsBy (confirmed (accepted m r)) ≡ with-status m (factsBy r)
+confirmed-facts r m =
+    let b : Bool = takesPending (accepted m r) in
+    let c = status-cell b (r .progress) (r .progress .applied) m in
+    ap (λ (x : Lsn). facts m (r .clock .«wait_began») m x (r .progress .applied) (pick b (reportedOf (r .progress) (r .progress .applied) m .cell) (r .progress) .signalled) true (r .drained) (r .pending) (r .offer .stalled) (isStoppedAt (r .offer .event))) (c .0)
+    ∙ ap (λ (x : Bool). facts m (r .clock .«wait_began») m (r .progress .applied) (r .progress .applied) x true (r .drained) (r .pending) (r .offer .stalled) (isStoppedAt (r .offer .event))) (c .1)
+
+-- ---- what else a step changes
+
+-- a step was accepted
+abbrev pub at-moment : Moment → Facts → Facts
+at-moment m f =
+    facts m (f .wait) (f .at) (f .applied) (f .position) (f .signalled) (f .sent) (f .drained) (f .pending) (f .stalled) (f .stopped)
+
+-- so many are drained
+abbrev pub with-drained : ℕ → Facts → Facts
+with-drained d f =
+    facts (f .last) (f .wait) (f .at) (f .applied) (f .position) (f .signalled) (f .sent) d (f .pending) (f .stalled) (f .stopped)
+
+-- the wait begins
+abbrev pub with-wait : Moment → Facts → Facts
+with-wait m f =
+    facts m m (f .at) (f .applied) (f .position) false (f .sent) (f .drained) (pick (f .sent) (isBelow (f .position) (f .applied)) true) (f .stalled) (f .stopped)
+
+-- an event is offered, at its first try or not, StoppedAt or not
+abbrev pub with-offer : Bool → Bool → Facts → Facts
+with-offer stalled stopped f =
+    facts (f .last) (f .wait) (f .at) (f .applied) (f .position) (f .signalled) (f .sent) (f .drained) (f .pending) stalled stopped
