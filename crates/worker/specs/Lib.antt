@@ -1,3 +1,4 @@
 pub mod Run
 pub mod Step
 pub mod Opening
+pub mod Answer

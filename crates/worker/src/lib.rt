@@ -1,4 +1,9 @@
 // A run: what it holds, what a step is given, what it answers. The rules are in specs/.
+mod changes;
+mod ends;
+
+use error::Refusal;
+use error::Written;
 use framing::MessageReader;
 use lsn::Lsn;
 use metrics::Metrics;
@@ -122,4 +127,43 @@ pub struct Run {
     pub whole: Whole,
     pub offer: Offer,
     pub metrics: Metrics,
+}
+
+// Whether a call was accepted, or why it was not.
+pub enum Verdict {
+    Accepted,
+    Refused(Refusal),
+}
+
+// How long a confirmed position had waited, in nanoseconds, where that is told.
+pub enum Waited {
+    Untold,
+    Nanos(u64),
+}
+
+// What a step answers.
+pub struct Stepped {
+    pub run: Run,
+    pub verdict: Verdict,
+    pub taken: usize,
+    pub event: Event,
+    pub written: usize,
+    pub waited: Waited,
+}
+
+// What opening answers; the run counts only where the query was written.
+pub struct Opened {
+    pub run: Run,
+    pub written: Written,
+}
+
+pub struct AlreadyOpen {
+    pub run: Run,
+    pub verdict: Verdict,
+}
+
+// The ErrorResponse that ended a run with 19: its payload's length at the payload buffer's front.
+pub enum ErrorPart {
+    Absent,
+    Front(usize),
 }

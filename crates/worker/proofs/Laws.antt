@@ -1,0 +1,32 @@
+-- Laws of the definitions in specs/: what the writers leave where the output has room.
+use mathlib.Core.Path.{_≡_, ap}
+use mathlib.Core.Bool.{Bool}
+use mathlib.Core.List.{List, []}
+use Prim.Native.Nat.{ℕ, _≤_}
+use native.Mathlib.Omega.{arith}
+use lib.ListN.{length}
+use lib.IntN.{ℤ}
+use borrow.Author.Tests.{le-ltb}
+use Rattle.wire.specs.Bytes.{put}
+use Rattle.error.specs.Writer.{writing}
+use Rattle.frontend.specs.Frontend.{statusBody, statusUpdate, copyDone, copyData}
+use Rattle.frontend.proofs.Laws.{length-framed, length-status}
+
+written-out : (text out q : List ℕ) (r : ℕ × ℕ) → length text ≤ length out → (r, q) ≡ writing 0 text out → q ≡ put out 0 text
+unfolding writing
+written-out text out q r h e = ap (λ (x : (ℕ × ℕ) × List ℕ). x .1) (simp (le-ltb _ _ h) at e)
+
+length-done : length copyDone ≡ 5
+unfolding copyDone
+length-done = length-framed 99 []
+
+length-update : (p : ℕ) (t : ℤ) (r : Bool) → length (statusUpdate p t r) ≡ 39
+unfolding statusUpdate copyData
+length-update p t r = let l = length-framed 100 (statusBody p t r) in omega (arith, length-status p t r)
+
+pub done-written : (out q : List ℕ) (r : ℕ × ℕ) → 39 ≤ length out → (r, q) ≡ writing 0 copyDone out → q ≡ put out 0 copyDone
+done-written out q r h e = written-out copyDone out q r (omega (arith, length-done)) e
+
+pub status-written : (p : ℕ) (t : ℤ) (b : Bool) (out q : List ℕ) (r : ℕ × ℕ) → 39 ≤ length out → (r, q) ≡ writing 0 (statusUpdate p t b) out
+    → q ≡ put out 0 (statusUpdate p t b)
+status-written p t b out q r h e = written-out (statusUpdate p t b) out q r (omega (arith, length-update p t b)) e

@@ -1,0 +1,149 @@
+// Single changes of a run. A field that is or holds an enum is not stored to: the run is built anew.
+ghost use mathlib.Core.Path.{_≡_};
+ghost use Rattle.worker.specs.Run.{wholeOf, offer, withState, withReader, withProgress, withDrained, withPending, withWhole, withOffer, withMetrics, accepted, waitBegun, stallBegun};
+use crate::Event;
+use crate::Offer;
+use crate::Run;
+use crate::State;
+use framing::MessageReader;
+use lsn::Lsn;
+use metrics::Metrics;
+use moment::Moment;
+use progress::ProgressCell;
+
+pub(crate) fn with_state(state: State, run: Run) -> Run
+    ensures { λ r. ⌜ r ≡ withState state run ⌝ }
+{
+    let settings = run.settings;
+    let reader = run.reader;
+    let clock = run.clock;
+    let progress = run.progress;
+    let status = run.status;
+    let whole = run.whole;
+    let offer = run.offer;
+    let metrics = run.metrics;
+    Run {
+        settings,
+        state,
+        reader,
+        clock,
+        progress,
+        status,
+        drained: run.drained,
+        pending: run.pending,
+        whole,
+        offer,
+        metrics,
+    }
+}
+
+pub(crate) fn with_offer(offer: Offer, run: Run) -> Run
+    ensures { λ r. ⌜ r ≡ withOffer offer run ⌝ }
+{
+    let settings = run.settings;
+    let state = run.state;
+    let reader = run.reader;
+    let clock = run.clock;
+    let progress = run.progress;
+    let status = run.status;
+    let whole = run.whole;
+    let metrics = run.metrics;
+    Run {
+        settings,
+        state,
+        reader,
+        clock,
+        progress,
+        status,
+        drained: run.drained,
+        pending: run.pending,
+        whole,
+        offer,
+        metrics,
+    }
+}
+
+pub(crate) fn with_reader(reader: MessageReader, mut run: Run) -> Run
+    ensures { λ r. ⌜ r ≡ withReader reader run ⌝ }
+{
+    run.reader = reader;
+    run
+}
+
+pub(crate) fn with_progress(progress: ProgressCell, mut run: Run) -> Run
+    ensures { λ r. ⌜ r ≡ withProgress progress run ⌝ }
+{
+    run.progress = progress;
+    run
+}
+
+pub(crate) fn with_metrics(metrics: Metrics, mut run: Run) -> Run
+    ensures { λ r. ⌜ r ≡ withMetrics metrics run ⌝ }
+{
+    run.metrics = metrics;
+    run
+}
+
+pub(crate) fn with_drained(drained: u64, mut run: Run) -> Run
+    ensures { λ r. ⌜ r ≡ withDrained drained run ⌝ }
+{
+    run.drained = drained;
+    run
+}
+
+pub(crate) fn with_pending(pending: bool, mut run: Run) -> Run
+    ensures { λ r. ⌜ r ≡ withPending pending run ⌝ }
+{
+    run.pending = pending;
+    run
+}
+
+pub(crate) fn with_whole(tag: u8, len: usize, in_wait: bool, mut run: Run) -> Run
+    ensures { λ r. ⌜ r ≡ withWhole (wholeOf tag len «in_wait») run ⌝ }
+{
+    run.whole.tag = tag;
+    run.whole.len = len;
+    run.whole.in_wait = in_wait;
+    run
+}
+
+// A step was accepted at a moment.
+pub(crate) fn accepted(moment: Moment, mut run: Run) -> Run
+    ensures { λ r. ⌜ r ≡ accepted moment run ⌝ }
+{
+    let mut clock = run.clock;
+    clock.last = moment;
+    run.clock = clock;
+    run
+}
+
+pub(crate) fn wait_begun(mut run: Run) -> Run
+    ensures { λ r. ⌜ r ≡ waitBegun run ⌝ }
+{
+    let mut clock = run.clock;
+    let last = clock.last;
+    clock.wait_began = last;
+    run.clock = clock;
+    run
+}
+
+pub(crate) fn stall_begun(mut run: Run) -> Run
+    ensures { λ r. ⌜ r ≡ stallBegun run ⌝ }
+{
+    let mut clock = run.clock;
+    let last = clock.last;
+    clock.stall_began = last;
+    run.clock = clock;
+    run
+}
+
+pub(crate) fn offer(event: Event, stalled: bool, stops: bool, reached: Lsn) -> Offer
+    ensures { λ r. ⌜ r ≡ offer event stalled stops reached ⌝ }
+{
+    Offer {
+        event,
+        stalled,
+        stops,
+        reached,
+    }
+}
