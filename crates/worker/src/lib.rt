@@ -1,6 +1,7 @@
 // A run: what it holds, what a step is given, what it answers. The rules are in specs/.
 mod changes;
 mod ends;
+mod status;
 
 use error::Refusal;
 use error::Written;

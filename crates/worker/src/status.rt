@@ -1,0 +1,138 @@
+// When a status is due, and what sending one does to the run.
+ghost use mathlib.Core.Path.{_≡_};
+ghost use mathlib.Core.List.{List};
+ghost use Prim.Native.Nat.{ℕ, _≤_};
+ghost use lib.ListN.{length};
+ghost use mathlib.Core.Bool.{true};
+ghost use Rattle.wire.specs.Bytes.{pick};
+ghost use Rattle.progress.specs.Progress.{reportedOf};
+ghost use Rattle.worker.specs.Answer.{lent, outcomeBy, waitedOption};
+ghost use Rattle.worker.specs.Run.{lastStatus, withLastStatus};
+ghost use Rattle.worker.specs.Step.{intervalPassed, isAbove, takesPending, waitedBy, confirmed, statusOf, statusDue};
+use crate::Event;
+use crate::Input;
+use crate::LastStatus;
+use crate::Run;
+use crate::State;
+use crate::Stepped;
+use crate::Verdict;
+use crate::Waited;
+use crate::changes::with_metrics;
+use crate::changes::with_progress;
+use crate::changes::with_state;
+use progress::ProgressCell;
+
+pub(crate) fn interval_passed(run: Run) -> bool
+    ensures { λ r. ⌜ r ≡ intervalPassed run ⌝ }
+{
+    let now = run.clock.last;
+    let at = run.status.at;
+    run.settings.status_interval <= now.since(at)
+}
+
+// Whether the position is above the last sent, or nothing was sent.
+pub(crate) fn is_above(run: Run) -> bool
+    ensures { λ r. ⌜ r ≡ isAbove run ⌝ }
+{
+    if run.status.sent {
+        let sent = run.status.position;
+        return sent.is_below(run.progress.applied);
+    }
+    true
+}
+
+// Whether a turn sends a status.
+pub(crate) fn status_due(run: Run) -> bool
+    ensures { λ r. ⌜ r ≡ statusDue run ⌝ }
+{
+    if run.status.sent {
+        return interval_passed(run);
+    }
+    true
+}
+
+fn takes_pending(run: Run) -> bool
+    ensures { λ r. ⌜ r ≡ takesPending run ⌝ }
+{
+    if run.progress.timed {
+        return is_above(run);
+    }
+    false
+}
+
+// How long the pending moment has waited.
+fn waited_by(run: Run) -> Waited
+    ensures { λ r. ⌜ waitedOption r ≡ waitedBy run ⌝ }
+{
+    if takes_pending(run) {
+        let since = run.progress.pending_since;
+        if since.0 == 0 {
+            return Waited::Untold;
+        }
+        let now = run.clock.last;
+        return Waited::Nanos(now.since(since));
+    }
+    Waited::Untold
+}
+
+// The progress behind a status.
+fn reported(run: Run) -> ProgressCell
+    ensures { λ r. ⌜ r ≡ pick (takesPending run) (reportedOf (run .progress) (run .progress .applied) (run .clock .last) .cell) (run .progress) ⌝ }
+{
+    let cell = run.progress;
+    if takes_pending(run) {
+        let position = cell.applied;
+        let reported = cell.take_pending(position, run.clock.last);
+        return reported.cell;
+    }
+    cell
+}
+
+fn with_last_status(mut run: Run) -> Run
+    ensures { λ r. ⌜ r ≡ withLastStatus (lastStatus true (run .progress .applied) (run .clock .last)) run ⌝ }
+{
+    let position = run.progress.applied;
+    let at = run.clock.last;
+    let status = LastStatus {
+        sent: true,
+        position,
+        at,
+    };
+    run.status = status;
+    run
+}
+
+// The run after a status.
+fn confirmed(run: Run) -> Run
+    ensures { λ r. ⌜ r ≡ confirmed run ⌝ }
+{
+    let metrics = run.metrics;
+    let counted = metrics.record_feedback_sent(run.progress.applied);
+    let cell = reported(run);
+    with_metrics(counted, with_progress(cell, with_last_status(run)))
+}
+
+// A status with a reply byte, and the state behind it. It confirms the position as it is now.
+pub(crate) fn send_feedback(
+    reply: bool,
+    to: State,
+    run: Run,
+    input: Input,
+    out: &mut [u8],
+) -> Stepped
+    requires { ⌜ 39 ≤ length (now out) ⌝ }
+    ensures { λ s. ⌜ ((u p : List ℕ) → outcomeBy s p (now (out .exit)) ≡ statusOf reply to run input (lent u p (now (out .entry)))) ⌝ }
+{
+    let position = run.progress.applied;
+    frontend::write_status_update(position, input.client_time, reply, out);
+    let next = with_state(to, confirmed(run));
+    let waited = waited_by(run);
+    Stepped {
+        run: next,
+        verdict: Verdict::Accepted,
+        taken: 0,
+        event: Event::Nothing,
+        written: 39,
+        waited,
+    }
+}
