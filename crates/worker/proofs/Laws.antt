@@ -11,6 +11,7 @@ use Rattle.wire.specs.Bytes.{put}
 use Rattle.error.specs.Writer.{writing}
 use Rattle.frontend.specs.Frontend.{statusBody, statusUpdate, copyDone, copyData}
 use Rattle.frontend.proofs.Laws.{length-framed, length-status}
+use Rattle.worker.specs.Step.{Outcome, having}
 
 written-out : (text out q : List ℕ) (r : ℕ × ℕ) → length text ≤ length out → (r, q) ≡ writing 0 text out → q ≡ put out 0 text
 unfolding writing
@@ -30,3 +31,7 @@ done-written out q r h e = written-out copyDone out q r (omega (arith, length-do
 pub status-written : (p : ℕ) (t : ℤ) (b : Bool) (out q : List ℕ) (r : ℕ × ℕ) → 39 ≤ length out → (r, q) ≡ writing 0 (statusUpdate p t b) out
     → q ≡ put out 0 (statusUpdate p t b)
 status-written p t b out q r h e = written-out (statusUpdate p t b) out q r (omega (arith, length-update p t b)) e
+
+-- equal outcomes with the same bytes taken and the same payload buffer
+pub having-same : (k : ℕ) (p : List ℕ) {a b : Outcome} → a ≡ b → having k p a ≡ having k p b
+having-same k p e = ap (λ (x : Outcome). having k p x) e

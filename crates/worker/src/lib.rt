@@ -1,6 +1,8 @@
 // A run: what it holds, what a step is given, what it answers. The rules are in specs/.
 mod changes;
 mod ends;
+mod receive;
+mod rounds;
 mod status;
 
 use error::Refusal;

@@ -1,0 +1,89 @@
+// Opening and Reading: bytes of the input are taken, whatever the clock.
+ghost use mathlib.Core.Path.{_≡_};
+ghost use mathlib.Core.List.{List};
+ghost use Prim.Native.Nat.{ℕ};
+ghost use Rattle.framing.specs.Read.{saidBy, whole};
+ghost use Rattle.metrics.specs.Metrics.{more};
+ghost use Rattle.worker.specs.Run.{withDrained};
+ghost use Rattle.worker.specs.Answer.{lent, outcomeBy};
+ghost use Rattle.worker.specs.Step.{Lent, having, openingBy, openingOf, readingBy, readingOf};
+use crate::Input;
+use crate::Run;
+use crate::State;
+use crate::Stepped;
+use crate::changes::with_drained;
+use crate::changes::with_reader;
+use crate::changes::with_state;
+use crate::changes::with_whole;
+use crate::ends::ended;
+use crate::ends::having;
+use crate::ends::moved;
+use error::Refusal;
+use framing::Answer;
+use framing::tag::is_copy_both_response;
+use framing::tag::is_error;
+
+// A whole message before the stream begins.
+fn greeted(tag: u8, n: usize, run: Run) -> Stepped
+    ensures { λ s. ⌜ ((l : Lent) → outcomeBy s (l .payload) (l .out) ≡ openingBy (whole tag n) run l) ⌝ }
+{
+    if is_copy_both_response(tag) {
+        return moved(with_state(State::Turn, run));
+    }
+    if is_error(tag) {
+        return ended(Refusal::ServerError, with_whole(tag, n, false, run));
+    }
+    moved(run)
+}
+
+fn opening_by(answer: Answer, taken: usize, run: Run) -> Stepped
+    ensures { λ s. ⌜ ((l : Lent) (p : List ℕ) → outcomeBy s p (l .out) ≡ having taken p (openingBy (saidBy answer) run l)) ⌝ }
+{
+    match answer {
+        Answer::More => having(taken, moved(run)),
+        Answer::Whole(tag, n) => having(taken, greeted(tag, n, run)),
+        Answer::Refused(refusal) => having(taken, ended(refusal, run)),
+    }
+}
+
+// The message is tested in the step in which it is whole.
+pub(crate) fn opening(run: Run, input: Input, unread: &[u8], payload: &mut [u8]) -> Stepped
+    ensures { λ s. ⌜ ((o : List ℕ) → outcomeBy s (now (payload .exit)) o ≡ openingOf run input (lent (now (unread .entry)) (now (payload .entry)) o)) ⌝ }
+{
+    let reader = run.reader;
+    let x = reader.read(run.settings.max_message_size, unread, input.ended, payload);
+    let answer = x.answer;
+    let after = x.reader;
+    opening_by(answer, x.taken, with_reader(after, run))
+}
+
+fn drained(run: Run) -> Run
+    ensures { λ r. ⌜ r ≡ withDrained (more (run .drained) 1) run ⌝ }
+{
+    let n = std::num::wrapping_add_u64(run.drained, 1);
+    with_drained(n, run)
+}
+
+fn reading_by(answer: Answer, taken: usize, run: Run) -> Stepped
+    ensures { λ s. ⌜ ((l : Lent) (p : List ℕ) → outcomeBy s p (l .out) ≡ having taken p (readingBy (saidBy answer) run l)) ⌝ }
+{
+    match answer {
+        Answer::More => having(taken, moved(run)),
+        Answer::Whole(tag, n) => {
+            let next = with_whole(tag, n, false, drained(run));
+            having(taken, moved(with_state(State::Handling, next)))
+        }
+        Answer::Refused(refusal) => having(taken, ended(refusal, run)),
+    }
+}
+
+// Neither stop nor clock is looked at.
+pub(crate) fn reading(run: Run, input: Input, unread: &[u8], payload: &mut [u8]) -> Stepped
+    ensures { λ s. ⌜ ((o : List ℕ) → outcomeBy s (now (payload .exit)) o ≡ readingOf run input (lent (now (unread .entry)) (now (payload .entry)) o)) ⌝ }
+{
+    let reader = run.reader;
+    let x = reader.read(run.settings.max_message_size, unread, input.ended, payload);
+    let answer = x.answer;
+    let after = x.reader;
+    reading_by(answer, x.taken, with_reader(after, run))
+}
