@@ -1,17 +1,19 @@
 -- Laws of the definitions in specs/: what the writers leave where the output has room.
 use mathlib.Core.Path.{_≡_, ap}
-use mathlib.Core.Bool.{Bool}
+use mathlib.Core.Bool.{Bool, true, false}
 use mathlib.Core.List.{List, []}
 use Prim.Native.Nat.{ℕ, _≤_}
 use native.Mathlib.Omega.{arith}
 use lib.ListN.{length}
 use lib.IntN.{ℤ}
 use borrow.Author.Tests.{le-ltb}
-use Rattle.wire.specs.Bytes.{put}
+use Rattle.wire.specs.Bytes.{pick, put}
 use Rattle.error.specs.Writer.{writing}
 use Rattle.frontend.specs.Frontend.{statusBody, statusUpdate, copyDone, copyData}
 use Rattle.frontend.proofs.Laws.{length-framed, length-status}
-use Rattle.worker.specs.Step.{Outcome, having}
+use Rattle.worker.specs.Step.{Outcome, Lent, having, intervalPassed, isReadable, waitingRead, waitingOf}
+use Rattle.worker.specs.declared.Run.{Run}
+use Rattle.worker.specs.declared.Input.{Input}
 
 written-out : (text out q : List ℕ) (r : ℕ × ℕ) → length text ≤ length out → (r, q) ≡ writing 0 text out → q ≡ put out 0 text
 unfolding writing
@@ -35,3 +37,14 @@ status-written p t b out q r h e = written-out (statusUpdate p t b) out q r (ome
 -- equal outcomes with the same bytes taken and the same payload buffer
 pub having-same : (k : ℕ) (p : List ℕ) {a b : Outcome} → a ≡ b → having k p a ≡ having k p b
 having-same k p e = ap (λ (x : Outcome). having k p x) e
+
+-- the fourth of five by four tests
+fourth : {A : Type 0} (a b c d : Bool) (v w x y z : A) → a ≡ false → b ≡ false → c ≡ false → d ≡ true
+    → pick a v (pick b w (pick c x (pick d y z))) ≡ y
+fourth a b c d v w x y z p q r s = rw (p, q, r, s)
+
+-- a wait that reads: the tests before the read fail
+pub waiting-reads : (r : Run) (i : Input) (l : Lent) → i .stop ≡ false → pick (r .pending) (intervalPassed r) false ≡ false
+    → pick (r .pending) false (r .progress .signalled) ≡ false → isReadable i l ≡ true → waitingOf r i l ≡ waitingRead r i l
+unfolding waitingOf
+waiting-reads r i l p q s t = fourth _ _ _ _ _ _ _ _ _ p q s t

@@ -1,9 +1,11 @@
 // A run: what it holds, what a step is given, what it answers. The rules are in specs/.
 mod changes;
 mod ends;
+mod handle;
 mod receive;
 mod rounds;
 mod status;
+mod wait;
 
 use error::Refusal;
 use error::Written;

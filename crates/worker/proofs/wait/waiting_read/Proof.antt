@@ -1,0 +1,32 @@
+use borrow.Author.Needs.{needs}
+use Rattle.worker.proofs.wait.waiting_read.Statement.{statement}
+use Rattle.worker.proofs.wait.waiting_read.Tie as tie
+
+read-requires : tie.Need-read-requires
+read-requires c κs = search needs
+
+with-reader-requires : tie.Need-with-reader-requires
+with-reader-requires c κs = search needs
+
+waiting-by-requires : tie.Need-waiting-by-requires
+waiting-by-requires c κs = search needs
+
+same-length : tie.Need-same-length
+same-length c = search needs
+
+same-length-2 : tie.Need-same-length-2
+same-length-2 c = search needs
+
+returns : tie.Need-returns
+returns c = rw (← c .before .before .before .before .before .before .before .before .read .ensures, ← c .before .before .before .before .with-reader .ensures) (c .before .before .waiting-by .ensures (c .before .before .before .before .before .before .before .before .before .before .before .before .before .before .args .unread .now) _ (c .before .before .before .before .before .before .before .before .before .before .before .before .before .before .args .payload .now))
+
+pub waiting-read-spec : {M : Type 1} → statement M
+waiting-read-spec =
+    tie.close
+    (tie.spec
+    read-requires
+    with-reader-requires
+    waiting-by-requires
+    same-length
+    same-length-2
+    returns)
