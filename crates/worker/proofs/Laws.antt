@@ -1,12 +1,18 @@
 -- Laws of the definitions in specs/: what the writers leave where the output has room.
-use mathlib.Core.Path.{_≡_, ap}
+use mathlib.Core.Path.{_≡_, sym, ap, _∙_}
 use mathlib.Core.Bool.{Bool, true, false}
 use mathlib.Core.List.{List, []}
-use Prim.Native.Nat.{ℕ, _≤_}
+use Prim.Native.Nat.{ℕ, _+_, _≤_, min}
 use native.Mathlib.Omega.{arith}
-use lib.ListN.{length}
+use lib.ListN.{length, take}
+use lib.Seq.{take-length, take-all}
 use lib.IntN.{ℤ}
-use borrow.Author.Tests.{le-ltb}
+use borrow.Author.Tests.{le-ltb, ltb-true, ltb-false}
+use lib.Dec.{ltb}
+use Rattle.wire.proofs.Laws.{by-test}
+use Rattle.wire.proofs.FieldLaws.{field-within}
+use Rattle.pgoutput.specs.Boundary.{message, refused, boundaryOf}
+use Rattle.pgoutput.proofs.LayoutFields.{by-letter, begin-fields, commit-fields, message-fields}
 use Rattle.wire.specs.Bytes.{pick, put}
 use Rattle.error.specs.Writer.{writing}
 use Rattle.frontend.specs.Frontend.{statusBody, statusUpdate, copyDone, copyData}
@@ -48,3 +54,34 @@ pub waiting-reads : (r : Run) (i : Input) (l : Lent) → i .stop ≡ false → p
     → pick (r .pending) false (r .progress .signalled) ≡ false → isReadable i l ≡ true → waitingOf r i l ≡ waitingRead r i l
 unfolding waitingOf
 waiting-reads r i l p q s t = fourth _ _ _ _ _ _ _ _ _ p q s t
+
+-- ---- parts of a payload
+
+pub take-least : (n : ℕ) (s : List ℕ) → take (min n (length s)) s ≡ take n s
+take-least n s =
+    by-test (ltb n (length s))
+    (λ h. let l = ltb-true n (length s) h in let e : min n (length s) ≡ n = omega arith in rw e)
+    (λ h.
+    let l = ltb-false n (length s) h in
+    let e : min n (length s) ≡ length s = omega arith in
+    rw e (take-length s ∙ sym (take-all n s l)))
+
+-- where prefix and content of a Message begin lies within the data
+pub message-within : (s : List ℕ) (flag : Bool) (position pf pl cf cl : ℕ) → boundaryOf s ≡ message flag position pf pl cf cl
+    → (pf ≤ length s) × (cf ≤ length s)
+message-within s flag position pf pl cf cl e =
+    by-letter s
+    (λ t q x. let f = begin-fields (message flag position pf pl cf cl) never s 1 (sym x ∙ e) in let y : _≡_ {A = ℕ} 0 1 = cc (f .6) in absurd (omega arith))
+    (λ t q x. let f = commit-fields (message flag position pf pl cf cl) never s 1 (sym x ∙ e) in let y : _≡_ {A = ℕ} 0 1 = cc (f .8) in absurd (omega arith))
+    (λ t q x.
+    let f = message-fields (message flag position pf pl cf cl) never s 1 (sym x ∙ e) in
+    let g = f .10 in
+    let n : ℕ = f .2 in
+    let i : pf ≡ 10 = cc in
+    let j : cf ≡ 10 + n + 1 + 4 = cc in
+    let w = field-within 4 s (10 + n + 1) _ (f .7) in
+    (omega arith, omega arith))
+    (λ x. let y : _≡_ {A = ℕ} 0 1 = cc in absurd (omega arith))
+  where
+    never : (n : ℕ) → refused n ≡ message flag position pf pl cf cl → ⊥
+    never n p = let y : _≡_ {A = ℕ} 0 1 = cc in omega arith

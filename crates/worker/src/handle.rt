@@ -104,3 +104,146 @@ fn keep_alive(
     }
     moved(offered)
 }
+
+fn least(a: usize, b: usize) -> usize
+    ensures { λ r. ⌜ r ≡ min a b ⌝ }
+{
+    if a < b { a } else { b }
+}
+
+// What the first bytes say, as far as they are there.
+fn copy_data_in(payload: &[u8], len: usize) -> CopyData
+    ensures { λ r. ⌜ C.saidBy r ≡ copyDataOf (take len (now (payload .entry))) ⌝ }
+{
+    let n = least(len, payload.len());
+    replication::parse_copy_data(&payload[..n])
+}
+
+fn boundary_in(rest: &[u8], len: usize) -> Boundary
+    ensures { λ r. ⌜ B.saidBy r ≡ boundaryOf (take len (now (rest .entry))) ⌝ }
+{
+    let n = least(len, rest.len());
+    pgoutput::parse_pgoutput_boundary(&rest[..n])
+}
+
+// The data from a place of the payload.
+fn boundary_at(payload: &[u8], from: usize, len: usize) -> Boundary
+    ensures { λ r. ⌜ B.saidBy r ≡ boundaryOf (at (now (payload .entry)) from len) ⌝ }
+{
+    if payload.len() < from {
+        return Boundary::NotBoundary;
+    }
+    boundary_in(&payload[from..], len)
+}
+
+// Begin reaches its final position, Commit its end, Message and other data the server's end.
+fn xlog_data(
+    start: Lsn,
+    end: Lsn,
+    server_time: i64,
+    from: usize,
+    len: usize,
+    run: Run,
+    payload: &[u8],
+) -> Stepped
+    ensures { λ s. ⌜ ((u o : List ℕ) → outcomeBy s (now (payload .entry)) o ≡ boundaryBy (boundaryOf (at (now (payload .entry)) from len)) (start .0) (end .0) «server_time» from len run (lent u (now (payload .entry)) o)) ⌝ }
+{
+    match boundary_at(payload, from, len) {
+        Boundary::Begin {
+            final_lsn,
+            commit_time,
+            xid,
+        } => {
+            let event = Event::Begin {
+                final_lsn,
+                commit_time,
+                xid,
+            };
+            offers_at(event, final_lsn, run)
+        }
+        Boundary::Commit {
+            lsn,
+            end_lsn,
+            commit_time,
+        } => {
+            let event = Event::Commit {
+                lsn,
+                end_lsn,
+                commit_time,
+            };
+            offers_at(event, end_lsn, run)
+        }
+        Boundary::Message {
+            transactional,
+            lsn,
+            prefix_from,
+            prefix_len,
+            content_from,
+            content_len,
+        } => {
+            let event = Event::Message {
+                transactional,
+                lsn,
+                prefix_from: from + prefix_from,
+                prefix_len,
+                content_from: from + content_from,
+                content_len,
+            };
+            offers_at(event, end, run)
+        }
+        Boundary::NotBoundary => {
+            let event = Event::XLogData {
+                wal_start: start,
+                wal_end: end,
+                server_time,
+                from,
+                len,
+            };
+            offers_at(event, end, run)
+        }
+        Boundary::Refused(refusal) => ended(refusal, run),
+    }
+}
+
+fn copy_data(said: CopyData, run: Run, input: Input, payload: &[u8], out: &mut [u8]) -> Stepped
+    requires { ⌜ 39 ≤ length (now out) ⌝ }
+    ensures { λ s. ⌜ ((u : List ℕ) → outcomeBy s (now (payload .entry)) (now (out .exit)) ≡ copyDataBy (C.saidBy said) run input (lent u (now (payload .entry)) (now (out .entry)))) ⌝ }
+{
+    match said {
+        CopyData::KeepAlive {
+            wal_end,
+            server_time,
+            reply,
+        } => {
+            let next = with_wal_end(wal_end, run);
+            keep_alive(wal_end, server_time, reply, next, input, out)
+        }
+        CopyData::XLogData {
+            wal_start,
+            wal_end,
+            server_time,
+            from,
+            len,
+        } => {
+            let next = with_wal_end(wal_end, run);
+            xlog_data(wal_start, wal_end, server_time, from, len, next, payload)
+        }
+        CopyData::Refused(refusal) => ended(refusal, run),
+    }
+}
+
+// No byte is taken.
+pub(crate) fn handling(run: Run, input: Input, payload: &[u8], out: &mut [u8]) -> Stepped
+    requires { ⌜ 39 ≤ length (now out) ⌝ }
+    ensures { λ s. ⌜ ((u : List ℕ) → outcomeBy s (now (payload .entry)) (now (out .exit)) ≡ handlingOf run input (lent u (now (payload .entry)) (now (out .entry)))) ⌝ }
+{
+    let tag = run.whole.tag;
+    if is_error(tag) {
+        return ended(Refusal::ServerError, run);
+    }
+    if is_copy_data(tag) {
+        let said = copy_data_in(payload, run.whole.len);
+        return copy_data(said, run, input, payload, out);
+    }
+    moved(back(run))
+}

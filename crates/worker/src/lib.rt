@@ -1,10 +1,12 @@
 // A run: what it holds, what a step is given, what it answers. The rules are in specs/.
 mod changes;
+mod deliver;
 mod ends;
 mod handle;
 mod receive;
 mod rounds;
 mod status;
+pub mod steps;
 mod wait;
 
 use error::Refusal;

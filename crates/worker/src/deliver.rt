@@ -1,0 +1,142 @@
+// Offering: an event is handed on, dropped, or stalls.
+ghost use mathlib.Core.Path.{_≡_};
+ghost use mathlib.Core.List.{List};
+ghost use Prim.Native.Nat.{ℕ, _≤_};
+ghost use lib.ListN.{length};
+ghost use Rattle.wire.specs.Bytes.{pick};
+ghost use Rattle.worker.specs.Answer.{lent, outcomeBy};
+ghost use Rattle.worker.specs.Step.{isStoppedAt, behindEvent, nextOf, handsOn, stallEnded, stalls, stalledBy, stalledOf, offeringOf};
+ghost use Rattle.worker.specs.declared.Queue.{Queue};
+use crate::Event;
+use crate::Input;
+use crate::Queue;
+use crate::Run;
+use crate::State;
+use crate::Stepped;
+use crate::changes::offer;
+use crate::changes::stall_begun;
+use crate::changes::with_metrics;
+use crate::changes::with_offer;
+use crate::ends::done;
+use crate::ends::handing;
+use crate::ends::moved;
+use crate::handle::back;
+use crate::handle::offers;
+use crate::status::interval_passed;
+use crate::status::send_feedback;
+use lsn::Lsn;
+
+fn is_stopped_at(event: Event) -> bool
+    ensures { λ r. ⌜ r ≡ isStoppedAt event ⌝ }
+{
+    match event {
+        Event::Nothing => false,
+        Event::KeepAlive { .. } => false,
+        Event::Begin { .. } => false,
+        Event::Commit { .. } => false,
+        Event::Message { .. } => false,
+        Event::XLogData { .. } => false,
+        Event::StoppedAt { .. } => true,
+    }
+}
+
+// The event, then StoppedAt, then CopyDone.
+fn behind_event(run: Run) -> Run
+    ensures { λ r. ⌜ r ≡ behindEvent run ⌝ }
+{
+    if run.offer.stops {
+        let reached = run.offer.reached;
+        return offers(Event::StoppedAt { reached }, false, Lsn(0), run);
+    }
+    back(run)
+}
+
+// An event is handed on, or Nothing where it is dropped.
+fn next(event: Event, run: Run, out: &mut [u8]) -> Stepped
+    requires { ⌜ 39 ≤ length (now out) ⌝ }
+    ensures { λ s. ⌜ ((u p : List ℕ) → outcomeBy s p (now (out .exit)) ≡ nextOf event run (lent u p (now (out .entry)))) ⌝ }
+{
+    let offer = run.offer;
+    let offered = offer.event;
+    if is_stopped_at(offered) {
+        return done(event, run, out);
+    }
+    handing(event, behind_event(run))
+}
+
+fn hands_on(run: Run, out: &mut [u8]) -> Stepped
+    requires { ⌜ 39 ≤ length (now out) ⌝ }
+    ensures { λ s. ⌜ ((u p : List ℕ) → outcomeBy s p (now (out .exit)) ≡ handsOn run (lent u p (now (out .entry)))) ⌝ }
+{
+    let offer = run.offer;
+    let event = offer.event;
+    let metrics = run.metrics;
+    let counted = metrics.record_event_forwarded();
+    next(event, with_metrics(counted, run), out)
+}
+
+fn stall_ended(run: Run) -> Run
+    ensures { λ r. ⌜ r ≡ stallEnded run ⌝ }
+{
+    let now = run.clock.last;
+    let began = run.clock.stall_began;
+    let nanos = now.since(began);
+    let metrics = run.metrics;
+    let counted = metrics.record_stall_end(nanos / 1000);
+    with_metrics(counted, run)
+}
+
+fn stalls(run: Run) -> Run
+    ensures { λ r. ⌜ r ≡ stalls run ⌝ }
+{
+    let old = run.offer;
+    let event = old.event;
+    let reached = old.reached;
+    let kept = offer(event, true, old.stops, reached);
+    let metrics = run.metrics;
+    let counted = metrics.record_stall_begin();
+    with_metrics(counted, stall_begun(with_offer(kept, run)))
+}
+
+// The queue stays full.
+fn stays(run: Run, input: Input, out: &mut [u8]) -> Stepped
+    requires { ⌜ 39 ≤ length (now out) ⌝ }
+    ensures { λ s. ⌜ ((u p : List ℕ) → outcomeBy s p (now (out .exit)) ≡ stalledBy Queue.Full run input (lent u p (now (out .entry)))) ⌝ }
+{
+    if interval_passed(run) {
+        return send_feedback(false, State::Offering, run, input, out);
+    }
+    moved(run)
+}
+
+// With its stall begun.
+fn stalled(run: Run, input: Input, out: &mut [u8]) -> Stepped
+    requires { ⌜ 39 ≤ length (now out) ⌝ }
+    ensures { λ s. ⌜ ((u p : List ℕ) → outcomeBy s p (now (out .exit)) ≡ stalledOf run input (lent u p (now (out .entry)))) ⌝ }
+{
+    if input.stop {
+        return done(Event::Nothing, run, out);
+    }
+    let queue = input.queue;
+    match queue {
+        Queue::Free => hands_on(stall_ended(run), out),
+        Queue::Closed => next(Event::Nothing, stall_ended(run), out),
+        Queue::Full => stays(run, input, out),
+    }
+}
+
+// An event whose stall has not begun is at its first try.
+pub(crate) fn offering(run: Run, input: Input, out: &mut [u8]) -> Stepped
+    requires { ⌜ 39 ≤ length (now out) ⌝ }
+    ensures { λ s. ⌜ ((u p : List ℕ) → outcomeBy s p (now (out .exit)) ≡ offeringOf run input (lent u p (now (out .entry)))) ⌝ }
+{
+    if run.offer.stalled {
+        return stalled(run, input, out);
+    }
+    let queue = input.queue;
+    match queue {
+        Queue::Free => hands_on(run, out),
+        Queue::Closed => next(Event::Nothing, run, out),
+        Queue::Full => stalled(stalls(run), input, out),
+    }
+}
