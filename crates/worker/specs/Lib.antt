@@ -2,3 +2,4 @@ pub mod Run
 pub mod Step
 pub mod Opening
 pub mod Answer
+pub mod Request

@@ -83,9 +83,9 @@ pub fn step(run: Run, input: Input, unread: &[u8], payload: &mut [u8], out: &mut
         return refused(Refusal::OutputTooShort, run);
     }
     let moment = input.moment;
+    let next = accepted(moment, run);
     if bad_moment(run, moment) {
         return refused(Refusal::MomentOutOfOrder, run);
     }
-    let next = accepted(moment, run);
     by_state(state, next, input, unread, payload, out)
 }

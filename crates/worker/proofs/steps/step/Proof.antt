@@ -1,4 +1,3 @@
-use mathlib.Core.Path.{_∙_}
 use borrow.Author.Tests.{lt-ltb, le-ltb}
 use Rattle.worker.specs.Answer.{lent}
 use Rattle.worker.specs.Step.{stepOf}
@@ -37,6 +36,9 @@ returns-3 c =
     rw (← c .before .before .before .before .before .is-ended .ensures, c .before .before .before .before .if1 .left, ← c .before .before .before .limit-of .ensures, le-ltb _ _ (c .before .before .if2 .left), lt-ltb _ _ (c .before .if3 .taken))
     (c .refused3 .ensures (lent (c .before .before .before .before .before .before .before .before .before .args .unread .now) _ _))
 
+accepted-requires : tie.Need-accepted-requires
+accepted-requires c κs = search needs
+
 bad-moment-requires : tie.Need-bad-moment-requires
 bad-moment-requires c κs = search needs
 
@@ -46,11 +48,8 @@ refused-requires-4 c κs = search needs
 returns-4 : tie.Need-returns-4
 unfolding stepOf
 returns-4 c =
-    rw (← c .before .before .before .before .before .before .before .before .is-ended .ensures, c .before .before .before .before .before .before .before .if1 .left, ← c .before .before .before .before .before .before .limit-of .ensures, le-ltb _ _ (c .before .before .before .before .before .if2 .left), le-ltb _ _ (c .before .before .before .before .if3 .left), ← c .before .before .bad-moment .ensures, c .before .if4 .taken)
-    (c .refused4 .ensures (lent (c .before .before .before .before .before .before .before .before .before .before .before .before .args .unread .now) _ _))
-
-accepted-requires : tie.Need-accepted-requires
-accepted-requires c κs = search needs
+    rw (← c .before .before .before .before .before .before .before .before .before .is-ended .ensures, c .before .before .before .before .before .before .before .before .if1 .left, ← c .before .before .before .before .before .before .before .limit-of .ensures, le-ltb _ _ (c .before .before .before .before .before .before .if2 .left), le-ltb _ _ (c .before .before .before .before .before .if3 .left), ← c .before .before .bad-moment .ensures, c .before .if4 .taken)
+    (c .refused4 .ensures (lent (c .before .before .before .before .before .before .before .before .before .before .before .before .before .args .unread .now) _ _))
 
 by-state-requires : tie.Need-by-state-requires
 by-state-requires c κs = search needs
@@ -64,7 +63,7 @@ same-length-2 c = search needs
 returns-5 : tie.Need-returns-5
 unfolding stepOf
 returns-5 c =
-    rw (← c .before .before .before .before .before .before .before .before .before .before .before .before .before .before .before .is-ended .ensures, c .before .before .before .before .before .before .before .before .before .before .before .before .before .before .if1 .left, ← c .before .before .before .before .before .before .before .before .before .before .before .before .before .limit-of .ensures, le-ltb _ _ (c .before .before .before .before .before .before .before .before .before .before .before .before .if2 .left), le-ltb _ _ (c .before .before .before .before .before .before .before .before .before .before .before .if3 .left), ← c .before .before .before .before .before .before .before .before .before .bad-moment .ensures, c .before .before .before .before .before .before .before .before .if4 .left, ← c .before .before .before .before .before .before .before .accepted .ensures)
+    rw (← c .before .before .before .before .before .before .before .before .before .before .before .before .before .before .before .is-ended .ensures, c .before .before .before .before .before .before .before .before .before .before .before .before .before .before .if1 .left, ← c .before .before .before .before .before .before .before .before .before .before .before .before .before .limit-of .ensures, le-ltb _ _ (c .before .before .before .before .before .before .before .before .before .before .before .before .if2 .left), le-ltb _ _ (c .before .before .before .before .before .before .before .before .before .before .before .if3 .left), ← c .before .before .before .before .before .before .before .before .bad-moment .ensures, c .before .before .before .before .before .before .before .if4 .left, ← c .before .before .before .before .before .before .before .before .before .accepted .ensures)
     (c .before .before .before .before .by-state .ensures)
 
 pub step-spec : {M : Type 1} → statement M
@@ -79,10 +78,10 @@ step-spec =
     returns-2
     refused-requires-3
     returns-3
+    accepted-requires
     bad-moment-requires
     refused-requires-4
     returns-4
-    accepted-requires
     by-state-requires
     same-length
     same-length-2

@@ -1,0 +1,163 @@
+// Opening a run, a run that is already open, reports between steps, and views.
+ghost use mathlib.Core.Path.{_≡_};
+ghost use Rattle.worker.specs.Answer.{openedBy, alreadyOpenBy, errorPartOf};
+ghost use Rattle.worker.specs.Opening.{badInterval, openOf, alreadyOpenOf, reportOf};
+ghost use Rattle.worker.specs.Run.{freshRun};
+use crate::AlreadyOpen;
+use crate::Clock;
+use crate::ErrorPart;
+use crate::Event;
+use crate::LastStatus;
+use crate::Opened;
+use crate::Run;
+use crate::Settings;
+use crate::State;
+use crate::Verdict;
+use crate::Whole;
+use crate::changes::offer;
+use crate::changes::with_progress;
+use crate::request::start_replication;
+use crate::steps::is_ended;
+use error::Refusal;
+use error::Written;
+use framing::MessageReader;
+use framing::tag::is_error;
+use lsn::Lsn;
+use metrics::Metrics;
+use moment::Moment;
+use progress::ProgressCell;
+
+// A run before its first step.
+fn fresh_run(settings: Settings, state: State, start: Lsn) -> Run
+    ensures { λ r. ⌜ r ≡ freshRun settings state start ⌝ }
+{
+    let reader = MessageReader::new();
+    let clock = Clock {
+        last: Moment(0),
+        wait_began: Moment(0),
+        stall_began: Moment(0),
+    };
+    let progress = ProgressCell::new(start, settings.timing);
+    let status = LastStatus {
+        sent: false,
+        position: Lsn(0),
+        at: Moment(0),
+    };
+    let whole = Whole {
+        tag: 0,
+        len: 0,
+        in_wait: false,
+    };
+    let offer = offer(Event::Nothing, false, false, Lsn(0));
+    let metrics = Metrics::new();
+    Run {
+        settings,
+        state,
+        reader,
+        clock,
+        progress,
+        status,
+        drained: 0,
+        pending: false,
+        whole,
+        offer,
+        metrics,
+    }
+}
+
+fn bad_interval(settings: Settings) -> bool
+    ensures { λ r. ⌜ r ≡ badInterval settings ⌝ }
+{
+    if 86400000000000 < settings.status_interval {
+        return true;
+    }
+    86400000000000 < settings.idle_wakeup_interval
+}
+
+// Confirmations begin from the start, whatever position the query asks for.
+pub fn open(
+    settings: Settings,
+    slot: &[u8],
+    publications: &[&[u8]],
+    position: Lsn,
+    start: Lsn,
+    out: &mut [u8],
+) -> Opened
+    ensures { λ a. ⌜ openedBy a (now (out .exit)) ≡ openOf settings (now (slot .entry)) (now (publications .entry)) position start (now (out .entry)) ⌝ }
+{
+    let run = fresh_run(settings, State::Opening, start);
+    if bad_interval(settings) {
+        return Opened {
+            run,
+            written: Written::Refused(Refusal::IntervalTooLong),
+        };
+    }
+    let written = start_replication(settings, slot, publications, position, out);
+    Opened { run, written }
+}
+
+// The stream has begun already: no query is sent.
+pub fn already_open(settings: Settings, start: Lsn) -> AlreadyOpen
+    ensures { λ a. ⌜ alreadyOpenBy a ≡ alreadyOpenOf settings start ⌝ }
+{
+    let run = fresh_run(settings, State::Turn, start);
+    if bad_interval(settings) {
+        return AlreadyOpen {
+            run,
+            verdict: Verdict::Refused(Refusal::IntervalTooLong),
+        };
+    }
+    AlreadyOpen {
+        run,
+        verdict: Verdict::Accepted,
+    }
+}
+
+// The consumer has applied all before a position.
+pub fn report(run: Run, position: Lsn, moment: Moment) -> Run
+    ensures { λ r. ⌜ r ≡ reportOf run position moment ⌝ }
+{
+    let cell = run.progress;
+    let raised = cell.raise(position, moment);
+    let after = raised.cell;
+    with_progress(after, run)
+}
+
+pub fn state(run: Run) -> State
+    ensures { λ r. ⌜ r ≡ run .state ⌝ }
+{
+    run.state
+}
+
+pub fn metrics(run: Run) -> Metrics
+    ensures { λ r. ⌜ r ≡ run .metrics ⌝ }
+{
+    run.metrics
+}
+
+// What a status would confirm now.
+pub fn position(run: Run) -> Lsn
+    ensures { λ r. ⌜ r ≡ run .progress .applied ⌝ }
+{
+    run.progress.applied
+}
+
+pub fn last_sent(run: Run) -> LastStatus
+    ensures { λ r. ⌜ r ≡ run .status ⌝ }
+{
+    run.status
+}
+
+// The error message that ended the run, where one did.
+pub fn error_part(run: Run) -> ErrorPart
+    ensures { λ r. ⌜ r ≡ errorPartOf run ⌝ }
+{
+    let state = run.state;
+    if is_ended(state) {
+        if is_error(run.whole.tag) {
+            return ErrorPart::Front(run.whole.len);
+        }
+        return ErrorPart::Absent;
+    }
+    ErrorPart::Absent
+}
