@@ -5,24 +5,16 @@
 //! Use: leaves STDIN-FILE STDOUT-FILE
 
 mod messages;
+mod protocol;
+mod shared;
 
+use shared::{display, hex, sum, Draw};
 use std::fmt::Write as _;
 
 struct Vectors {
     input: Vec<u8>,
     lines: String,
     counts: std::collections::BTreeMap<u8, usize>,
-}
-
-fn sum(bytes: &[u8]) -> u32 {
-    bytes.iter().fold(7u32, |h, b| h.wrapping_mul(31).wrapping_add(*b as u32))
-}
-
-fn hex(bytes: &[u8]) -> String {
-    if bytes.is_empty() {
-        return "-".to_string();
-    }
-    bytes.iter().map(|b| format!("{b:02x}")).collect()
 }
 
 impl Vectors {
@@ -134,10 +126,6 @@ const LETTERS: [u8; 15] = [
     b'S', b'C', b'M', b'D', b'H', b'P', b'W', b's', b't', b'c', b'd', b'n', b'F', b'L', b'R',
 ];
 
-fn display(v: u64) -> String {
-    format!("{:X}/{:X}", v >> 32, v & 0xFFFF_FFFF)
-}
-
 fn part_of(text: &[u8]) -> Option<u64> {
     u64::from_str_radix(std::str::from_utf8(text).ok()?, 16).ok()
 }
@@ -173,26 +161,6 @@ fn error_text(fields: &std::collections::HashMap<u8, Vec<u8>>) -> String {
         (Some(m), None) => m,
         (None, Some(c)) => "error (SQLSTATE ".to_string() + &c + ")",
         (None, None) => "unknown server error".to_string(),
-    }
-}
-
-/// Marsaglia's xorshift, so that every run makes the same records.
-struct Draw(u64);
-
-impl Draw {
-    fn next(&mut self) -> u64 {
-        self.0 ^= self.0 << 13;
-        self.0 ^= self.0 >> 7;
-        self.0 ^= self.0 << 17;
-        self.0
-    }
-
-    fn below(&mut self, n: u64) -> u64 {
-        self.next() % n
-    }
-
-    fn pick<'a, T>(&mut self, from: &'a [T]) -> &'a T {
-        &from[self.below(from.len() as u64) as usize]
     }
 }
 

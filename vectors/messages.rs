@@ -1,100 +1,16 @@
-//! Records for the readers and writers of messages, read off the PostgreSQL documentation ("Message Formats", "Streaming Replication
-//! Protocol", "Logical Replication Message Formats") and document 01.
+//! Records for the readers and writers of messages.
 
-use crate::{display, error_fields, error_text, hex, sum, Draw, Vectors};
+use crate::protocol::{boundary_of, copy_data_of, framed, Boundary, CopyData, Fields, Reader, Told};
+use crate::shared::{display, hex, sum, Draw};
+use crate::{error_fields, error_text, Vectors};
 use std::fmt::Write as _;
-
-fn framed(tag: u8, payload: &[u8]) -> Vec<u8> {
-    [&[tag][..], &(payload.len() as u32 + 4).to_be_bytes(), payload].concat()
-}
-
-/// A reader of big-endian fields; None where one is cut.
-struct Fields<'a>(&'a [u8]);
-
-impl<'a> Fields<'a> {
-    fn bytes(&mut self, n: usize) -> Option<&'a [u8]> {
-        if self.0.len() < n {
-            return None;
-        }
-        let (head, tail) = self.0.split_at(n);
-        self.0 = tail;
-        Some(head)
-    }
-
-    fn number(&mut self, n: usize) -> Option<u64> {
-        self.bytes(n).map(|b| b.iter().fold(0, |v, x| v << 8 | *x as u64))
-    }
-}
-
-// ---- the reader
-
-struct Reader {
-    limit: usize,
-    header: Vec<u8>,
-    got: usize,
-    shut: bool,
-}
-
-enum Told {
-    More,
-    Whole(u8, usize),
-    Refused(u8),
-}
-
-impl Reader {
-    fn new(setting: u32) -> Self {
-        Reader { limit: (setting as usize).min(1_073_741_824), header: Vec::new(), got: 0, shut: false }
-    }
-
-    /// Takes of the unread bytes what the message lacks; answers and says how many were taken.
-    fn read(&mut self, unread: &[u8], ended: bool, buffer: &mut [u8]) -> (Told, usize) {
-        if buffer.len() < self.limit {
-            return (Told::Refused(3), 0);
-        }
-        if self.shut {
-            return (Told::Refused(7), 0);
-        }
-        let mut taken = 0;
-        while self.header.len() < 5 {
-            if taken == unread.len() {
-                return (if ended && unread.is_empty() { Told::Refused(8) } else { Told::More }, taken);
-            }
-            self.header.push(unread[taken]);
-            taken += 1;
-            if self.header.len() == 5 {
-                self.got = 0;
-                let length = i32::from_be_bytes(self.header[1..].try_into().unwrap()) as i64;
-                if length < 4 {
-                    self.header.clear();
-                    return (Told::Refused(6), taken);
-                }
-                if length - 4 > self.limit as i64 {
-                    self.shut = true;
-                    return (Told::Refused(7), taken);
-                }
-            }
-        }
-        let n = u32::from_be_bytes(self.header[1..].try_into().unwrap()) as usize - 4;
-        while self.got < n {
-            if taken == unread.len() {
-                return (if ended && unread.is_empty() { Told::Refused(9) } else { Told::More }, taken);
-            }
-            buffer[self.got] = unread[taken];
-            self.got += 1;
-            taken += 1;
-        }
-        let tag = self.header[0];
-        self.header.clear();
-        (Told::Whole(tag, n), taken)
-    }
-}
 
 impl Vectors {
     fn reads(&mut self, setting: u32, ended: bool, size: u16, bytes: &[u8], out_len: usize, fill: u8) {
         let input = [&setting.to_be_bytes()[..], &[ended as u8], &size.to_be_bytes(), bytes].concat();
         self.record(b'g', out_len, fill, &input);
         let mut buffer = vec![fill; out_len];
-        let mut reader = Reader::new(setting);
+        let mut reader = Reader::new(setting as u64);
         let mut line = String::from("g");
         let mut stopped = false;
         let tell = |line: &mut String, told: Told| -> bool {
@@ -130,12 +46,12 @@ impl Vectors {
 
     fn copy_data(&mut self, payload: &[u8]) {
         self.record(b'c', 0, 0, payload);
-        writeln!(self.lines, "c {}", copy_data_of(payload)).unwrap();
+        writeln!(self.lines, "c {}", copy_data_line(payload)).unwrap();
     }
 
     fn boundary(&mut self, bytes: &[u8]) {
         self.record(b'b', 0, 0, bytes);
-        writeln!(self.lines, "b {}", boundary_of(bytes)).unwrap();
+        writeln!(self.lines, "b {}", boundary_line(bytes)).unwrap();
     }
 
     fn row(&mut self, payload: &[u8]) {
@@ -171,59 +87,23 @@ impl Vectors {
 
 // ---- CopyData and boundaries
 
-fn copy_data_of(payload: &[u8]) -> String {
-    let Some((letter, rest)) = payload.split_first() else { return "10".into() };
-    let mut f = Fields(rest);
-    match letter {
-        b'w' if rest.len() < 24 => "11".into(),
-        b'w' => {
-            let (start, end, time) = (f.number(8).unwrap(), f.number(8).unwrap(), f.number(8).unwrap() as i64);
-            format!("0 w {} {} {} {}", display(start), display(end), time, hex(f.0))
-        }
-        b'k' if rest.len() < 17 => "12".into(),
-        b'k' => {
-            let (end, time, reply) = (f.number(8).unwrap(), f.number(8).unwrap() as i64, f.number(1).unwrap());
-            format!("0 k {} {} {}", display(end), time, (reply != 0) as u8)
-        }
-        _ => "13".into(),
-    }
-}
-
-fn boundary_of(bytes: &[u8]) -> String {
-    match boundary_fields(bytes) {
-        Ok(text) => format!("0 {text}"),
+fn copy_data_line(payload: &[u8]) -> String {
+    match copy_data_of(payload) {
+        Ok(CopyData::XLogData { start, end, time, data }) => format!("0 w {} {} {} {}", display(start), display(end), time, hex(data)),
+        Ok(CopyData::KeepAlive { end, time, reply }) => format!("0 k {} {} {}", display(end), time, reply as u8),
         Err(n) => n.to_string(),
     }
 }
 
-fn boundary_fields(bytes: &[u8]) -> Result<String, u8> {
-    let Some((letter, rest)) = bytes.split_first() else { return Ok("n".into()) };
-    let mut f = Fields(rest);
-    match letter {
-        b'B' => {
-            let position = f.number(8).ok_or(16)?;
-            let time = f.number(8).ok_or(16)? as i64;
-            let xid = f.number(4).ok_or(15)?;
-            Ok(format!("B {} {} {}", display(position), time, xid))
+fn boundary_line(bytes: &[u8]) -> String {
+    match boundary_of(bytes) {
+        Ok(Boundary::None) => "0 n".to_string(),
+        Ok(Boundary::Begin { end, time, xid }) => format!("0 B {} {} {}", display(end), time, xid),
+        Ok(Boundary::Commit { position, end, time }) => format!("0 C {} {} {}", display(position), display(end), time),
+        Ok(Boundary::Message { flag, position, prefix, content }) => {
+            format!("0 M {} {} {} {}", flag as u8, display(position), hex(prefix), hex(content))
         }
-        b'C' => {
-            f.number(1).ok_or(14)?;
-            let position = f.number(8).ok_or(16)?;
-            let end = f.number(8).ok_or(16)?;
-            let time = f.number(8).ok_or(16)? as i64;
-            Ok(format!("C {} {} {}", display(position), display(end), time))
-        }
-        b'M' => {
-            let flags = f.number(1).ok_or(14)?;
-            let position = f.number(8).ok_or(16)?;
-            let zero = f.0.iter().position(|b| *b == 0).ok_or(17)?;
-            let prefix = f.bytes(zero).unwrap();
-            f.bytes(1).unwrap();
-            let length = f.number(4).ok_or(15)? as u32 as i32;
-            let content = usize::try_from(length).ok().and_then(|n| f.bytes(n)).ok_or(18)?;
-            Ok(format!("M {} {} {} {}", flags & 1, display(position), hex(prefix), hex(content)))
-        }
-        _ => Ok("n".into()),
+        Err(n) => n.to_string(),
     }
 }
 

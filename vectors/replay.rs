@@ -1,0 +1,63 @@
+//! Makes the scripts that the program `replay` is run on, and the lines that it must print, from an independent reading of document 01
+//! (model.rs); and likewise for the programs `events` and `streams`. See README.md beside this file.
+//!
+//! Use: replay FOLDER, where PROGRAM-stdin and PROGRAM-stdout are written, and how often each test was reached
+
+mod cases;
+mod coverage;
+mod events;
+mod mixed;
+mod model;
+mod protocol;
+mod scripts;
+mod server;
+mod shared;
+
+use scripts::{at, Script};
+
+struct Vectors {
+    input: Vec<u8>,
+    lines: String,
+    scripts: usize,
+}
+
+impl Vectors {
+    fn add(&mut self, script: &Script) {
+        self.input.extend(script.bytes());
+        self.lines += &script.lines();
+        self.scripts += 1;
+    }
+}
+
+/// An unknown letter in a call's place ends the program behind the lines already due.
+fn malformed(v: &mut Vectors) {
+    let mut script = Script::new(&[]);
+    script.steps(&[at(1), at(2)]);
+    let lines = script.lines();
+    script.step(at(3));
+    let mut bytes = script.bytes();
+    let letter = bytes.len() - 27;
+    bytes[letter] = b'?';
+    v.input.extend(bytes);
+    v.lines += &lines[..lines.rfind("END").unwrap()];
+    v.lines += "BAD\n";
+}
+
+fn main() {
+    let folder = std::path::PathBuf::from(std::env::args().nth(1).unwrap());
+    let mut v = Vectors { input: Vec::new(), lines: String::new(), scripts: 0 };
+    cases::all(&mut |script| v.add(script));
+    let told = v.scripts;
+    mixed::all(&mut |script| v.add(script));
+    malformed(&mut v);
+    let (reached, missing) = coverage::counts();
+    assert!(missing.is_empty(), "no script reaches {missing:?}");
+    assert!(v.input.len() < 1_000_000, "{} bytes", v.input.len());
+    std::fs::write(folder.join("replay-stdin"), &v.input).unwrap();
+    std::fs::write(folder.join("replay-stdout"), &v.lines).unwrap();
+    let counts: String = reached.iter().map(|(what, n)| format!("{n} {what}\n")).collect();
+    std::fs::write(folder.join("reached"), counts).unwrap();
+    let (scripts, lines, tests) = (v.scripts + 1, v.lines.lines().count(), coverage::owed().len());
+    println!("vectors: replay, {scripts} scripts ({told} of cases), {lines} lines, {tests} tests reached");
+    events::all(&folder);
+}
