@@ -1,5 +1,5 @@
 //! Makes the scripts that the program `replay` is run on, and the lines that it must print, from an independent reading of document 01
-//! (model.rs); and likewise for the programs `events` and `streams`. See README.md beside this file.
+//! (model.rs); and likewise for the programs `events`, `streams` and `too_long`. See README.md beside this file.
 //!
 //! Use: replay FOLDER, where PROGRAM-stdin and PROGRAM-stdout are written, and how often each test was reached
 
@@ -12,6 +12,7 @@ mod protocol;
 mod scripts;
 mod server;
 mod shared;
+mod too_long;
 
 use scripts::{at, Script};
 
@@ -60,4 +61,5 @@ fn main() {
     let (scripts, lines, tests) = (v.scripts + 1, v.lines.lines().count(), coverage::owed().len());
     println!("vectors: replay, {scripts} scripts ({told} of cases), {lines} lines, {tests} tests reached");
     events::all(&folder);
+    std::fs::write(folder.join("too_long-stdout"), too_long::lines()).unwrap();
 }

@@ -1,5 +1,5 @@
 // The boundaries in the data of an XLogData.
-use crate::lines;
+use crate::records;
 use lsn::Lsn;
 use pgoutput::Boundary;
 
@@ -11,7 +11,7 @@ fn message(
     prefix: Part,
     content: Part,
 ) -> usize {
-    let a = lines::start(line, b'b', 0);
+    let a = records::start(line, b'b', 0);
     let b = wire::store::place(line, a, b" M");
     let c = lines::flag(line, b, flag);
     let d = lines::position(line, c, p);
@@ -24,7 +24,7 @@ fn message(
 struct Part(usize, usize);
 
 fn begin(line: &mut [u8], final_lsn: Lsn, commit_time: i64, xid: u32) -> usize {
-    let a = lines::start(line, b'b', 0);
+    let a = records::start(line, b'b', 0);
     let b = wire::store::place(line, a, b" B");
     let c = lines::position(line, b, final_lsn);
     let d = lines::long(line, c, commit_time);
@@ -33,7 +33,7 @@ fn begin(line: &mut [u8], final_lsn: Lsn, commit_time: i64, xid: u32) -> usize {
 }
 
 fn commit(line: &mut [u8], p: Lsn, end: Lsn, commit_time: i64) -> usize {
-    let a = lines::start(line, b'b', 0);
+    let a = records::start(line, b'b', 0);
     let b = wire::store::place(line, a, b" C");
     let c = lines::position(line, b, p);
     let d = lines::position(line, c, end);
@@ -69,10 +69,10 @@ pub(crate) fn boundary(line: &mut [u8], input: &[u8]) -> usize {
             Part(content_from, content_len),
         ),
         Boundary::NotBoundary => {
-            let a = lines::start(line, b'b', 0);
+            let a = records::start(line, b'b', 0);
             let b = wire::store::place(line, a, b" n");
             lines::end(line, b)
         }
-        Boundary::Refused(r) => lines::refused(line, b'b', r.number()),
+        Boundary::Refused(r) => records::refused(line, b'b', r.number()),
     }
 }

@@ -1,7 +1,7 @@
 // The kinds of records.
 use crate::boundaries;
-use crate::lines;
 use crate::reader;
+use crate::records;
 use crate::rows;
 use crate::writers;
 use lossy::Lossy;
@@ -15,19 +15,19 @@ use wire::field::U64Field;
 
 fn shown(line: &mut [u8], kind: u8, w: Lossy, out: &[u8]) -> usize {
     match w {
-        Lossy::Wrote(n) => lines::writer(line, kind, 0, n, out),
-        Lossy::Refused(r) => lines::writer(line, kind, r.number(), 0, out),
+        Lossy::Wrote(n) => records::writer(line, kind, 0, n, out),
+        Lossy::Refused(r) => records::writer(line, kind, r.number(), 0, out),
     }
 }
 
 fn position(line: &mut [u8], input: &[u8]) -> usize {
     match Lsn::parse(input) {
         Parsed::Position(p) => {
-            let a = lines::start(line, b'p', 0);
+            let a = records::start(line, b'p', 0);
             let b = lines::position(line, a, p);
             lines::end(line, b)
         }
-        Parsed::Refused(r) => lines::refused(line, b'p', r.number()),
+        Parsed::Refused(r) => records::refused(line, b'p', r.number()),
     }
 }
 
@@ -51,7 +51,7 @@ fn field(line: &mut [u8], at: usize, input: &[u8], f: Field) -> usize {
 
 fn fields(line: &mut [u8], input: &[u8]) -> usize {
     let all = ErrorFields::parse(input);
-    let mut at = lines::start(line, b'f', 0);
+    let mut at = records::start(line, b'f', 0);
     let mut i: usize = 0;
     while i < 15 {
         at = field(line, at, input, all.field(i));
@@ -63,7 +63,7 @@ fn fields(line: &mut [u8], input: &[u8]) -> usize {
 fn auth(line: &mut [u8], input: &[u8]) -> usize {
     match messages::parse_auth_request(input) {
         AuthRequest::Request { code, from, len } => {
-            let a = lines::start(line, b'a', 0);
+            let a = records::start(line, b'a', 0);
             let b = lines::signed(line, a, code);
             let rest = Field {
                 given: true,
@@ -73,7 +73,7 @@ fn auth(line: &mut [u8], input: &[u8]) -> usize {
             let c = lines::bytes(line, b, messages::part(input, rest));
             lines::end(line, c)
         }
-        AuthRequest::Refused(r) => lines::refused(line, b'a', r.number()),
+        AuthRequest::Refused(r) => records::refused(line, b'a', r.number()),
     }
 }
 
@@ -86,7 +86,7 @@ fn copy_data(line: &mut [u8], input: &[u8]) -> usize {
             from,
             len,
         } => {
-            let a = lines::start(line, b'c', 0);
+            let a = records::start(line, b'c', 0);
             let b = wire::store::place(line, a, b" w");
             let c = lines::position(line, b, wal_start);
             let d = lines::position(line, c, wal_end);
@@ -99,14 +99,14 @@ fn copy_data(line: &mut [u8], input: &[u8]) -> usize {
             server_time,
             reply,
         } => {
-            let a = lines::start(line, b'c', 0);
+            let a = records::start(line, b'c', 0);
             let b = wire::store::place(line, a, b" k");
             let c = lines::position(line, b, wal_end);
             let d = lines::long(line, c, server_time);
             let e = lines::flag(line, d, reply);
             lines::end(line, e)
         }
-        CopyData::Refused(r) => lines::refused(line, b'c', r.number()),
+        CopyData::Refused(r) => records::refused(line, b'c', r.number()),
     }
 }
 

@@ -1,13 +1,12 @@
 // Reads records from standard input to its end and prints the line of each.
 mod boundaries;
 mod kinds;
-mod lines;
 mod reader;
+mod records;
 mod rows;
 mod writers;
 
 ghost use mathlib.Core.Path.{_≡_};
-ghost use Prim.Native.Nat.{_<_};
 ghost use lib.ListN.{length};
 use wire::field::U32Field;
 
@@ -16,14 +15,6 @@ fn line_buffer() -> [u8; 524288]
     ensures { λ r. ⌜ 524288 ≡ length r ⌝ }
 {
     [0; 524288]
-}
-
-fn fill_with(out: &mut [u8], b: u8) {
-    let mut i: usize = 0;
-    while i < out.len() {
-        out[i] = b;
-        i += 1;
-    }
 }
 
 fn number_at(head: &[u8], at: usize) -> usize {
@@ -57,7 +48,7 @@ fn answer(head: &[u8], input: &mut [u8], out: &mut [u8], line: &mut [u8]) -> usi
     if got < n {
         return 0;
     }
-    fill_with(&mut out[0..room], byte_at(head, 5));
+    lines::fill(&mut out[0..room], byte_at(head, 5));
     kinds::line_of(byte_at(head, 0), &input[0..n], &mut out[0..room], line)
 }
 
@@ -82,20 +73,11 @@ fn one_record(head: &mut [u8], input: &mut [u8], out: &mut [u8], line: &mut [u8]
     io::write_all(1, &line[0..n])
 }
 
-// One record fewer, or none where there is nothing more to read.
-fn left(records: u64, go: bool) -> u64
-    requires { ⌜ 0 < records ⌝ }
-    ensures { λ r. ⌜ r < records ⌝ }
-{
-    if go { records - 1 } else { 0 }
-}
-
 fn run(head: &mut [u8], input: &mut [u8], out: &mut [u8], line: &mut [u8]) {
-    // nothing says that the input ends, so the records are counted down
     let mut records: u64 = u64::MAX;
     while records > 0 {
         let go = one_record(head, input, out, line);
-        records = left(records, go);
+        records = lines::left(records, go);
     }
 }
 

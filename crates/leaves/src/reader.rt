@@ -1,7 +1,5 @@
 // A reader on its own, fed by pieces.
-ghost use mathlib.Core.Path.{_≡_};
-ghost use Prim.Native.Nat.{_≤_, _-_, _<_};
-use crate::lines;
+ghost use Prim.Native.Nat.{_<_};
 use framing::Answer;
 use framing::MessageReader;
 use wire::field::U8Field;
@@ -17,12 +15,6 @@ struct Feed {
     line: usize,
     go: bool,
     refused: bool,
-}
-
-pub(crate) fn least(a: usize, b: usize) -> usize
-    ensures { λ r. ⌜ (r ≤ a) × (r ≤ b) ⌝ }
-{
-    if a < b { a } else { b }
 }
 
 fn less(a: usize, b: usize) -> usize {
@@ -72,10 +64,10 @@ fn one_read(
         return ended(f);
     }
     let left = piece(f.left, size);
-    let n = least(left, bytes.len() - at);
+    let n = lines::least(left, bytes.len() - at);
     let reader = f.reader;
     let s = reader.read(setting, &bytes[at..at + n], false, payload);
-    let taken = least(s.taken, n);
+    let taken = lines::least(s.taken, n);
     let answer = s.answer;
     let next = s.reader;
     let behind = told(line, f.line, answer);

@@ -2,8 +2,7 @@
 ghost use mathlib.Core.Path.{_≡_};
 ghost use Prim.Native.Nat.{_<_};
 ghost use lib.ListN.{length};
-use crate::lines;
-use crate::reader;
+use crate::records;
 use lossy::Lossy;
 use query::Column;
 use query::row::Row;
@@ -31,12 +30,12 @@ fn columns(line: &mut [u8], from: usize, payload: &[u8], n: usize) -> usize {
 pub(crate) fn row(line: &mut [u8], input: &[u8]) -> usize {
     match query::row::parse_data_row(input) {
         Row::Columns(n) => {
-            let a = lines::start(line, b'r', 0);
+            let a = records::start(line, b'r', 0);
             let b = lines::number(line, a, n as u64);
             let c = columns(line, b, input, n);
             lines::end(line, c)
         }
-        Row::Refused(r) => lines::refused(line, b'r', r.number()),
+        Row::Refused(r) => records::refused(line, b'r', r.number()),
     }
 }
 
@@ -147,14 +146,14 @@ fn one_message(
     match answer {
         framing::Answer::More => cut_off(line, s),
         framing::Answer::Whole(tag, n) => {
-            let n = reader::least(n, payload.len());
+            let n = lines::least(n, payload.len());
             let q = query.message(tag, &payload[0..n], error);
             let told = q.answer;
             let behind = q.query;
             let t = Session {
                 reader: next,
                 query: behind,
-                at: at + reader::least(step.taken, bytes.len() - at),
+                at: at + lines::least(step.taken, bytes.len() - at),
                 line: s.line,
                 begun: s.begun,
                 go: true,

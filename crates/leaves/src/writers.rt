@@ -1,5 +1,5 @@
 // The writers of client messages, and of names.
-use crate::lines;
+use crate::records;
 use error::Written;
 use lsn::Lsn;
 use wire::field::I32Field;
@@ -10,8 +10,8 @@ use wire::field::U64Field;
 
 pub(crate) fn written(line: &mut [u8], kind: u8, w: Written, out: &[u8]) -> usize {
     match w {
-        Written::Wrote(n) => lines::writer(line, kind, 0, n, out),
-        Written::Refused(r) => lines::writer(line, kind, r.number(), 0, out),
+        Written::Wrote(n) => records::writer(line, kind, 0, n, out),
+        Written::Refused(r) => records::writer(line, kind, r.number(), 0, out),
     }
 }
 

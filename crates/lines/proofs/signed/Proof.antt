@@ -3,8 +3,8 @@ use mir.Syntax.{w32}
 use mir.ValLaws.{toZ-ofZ}
 use native.Mathlib.Omega.{arith}
 use borrow.Author.Needs.{needs}
-use Rattle.leaves.proofs.lines.signed.Statement.{statement}
-use Rattle.leaves.proofs.lines.signed.Tie as tie
+use Rattle.lines.proofs.signed.Statement.{statement}
+use Rattle.lines.proofs.signed.Tie as tie
 
 slice-aggregate-place : tie.Need-slice-aggregate-place
 slice-aggregate-place c = search needs

@@ -1,21 +1,23 @@
 use lib.ListN.{length}
 use borrow.Author.Needs.{needs}
-use mathlib.Core.Path.{_≡_}
 use Prim.Native.Nat.{_≤_, _-_}
-use Rattle.leaves.proofs.fill_with.Statement.{statement}
-use Rattle.leaves.proofs.fill_with.Tie as tie
+use Rattle.lines.proofs.sum.Statement.{statement}
+use Rattle.lines.proofs.sum.Tie as tie
 
 abbrev Inv-loop : tie.InvT-loop
-Inv-loop out₀ b i₀ out i = (i ≤ length out₀) × (length out ≡ length out₀)
+Inv-loop s h₀ i₀ h i = (i ≤ length s)
 
 abbrev μ-loop : tie.MeasureT-loop
-μ-loop out₀ b i₀ out i = length out₀ - i
+μ-loop s h₀ i₀ h i = length s - i
 
 loop-holds : tie.Need-loop-holds Inv-loop μ-loop
 loop-holds c = search needs
 
-slice-write-out : tie.Need-slice-write-out Inv-loop μ-loop
-slice-write-out c = search needs
+shared-slice-read-next : tie.Need-shared-slice-read-next Inv-loop μ-loop
+shared-slice-read-next c = search needs
+
+next-requires : tie.Need-next-requires Inv-loop μ-loop
+next-requires c κs = search needs
 
 add-i : tie.Need-add-i Inv-loop μ-loop
 add-i c = search needs
@@ -26,22 +28,19 @@ loop-less c = search needs
 loop-again : tie.Need-loop-again Inv-loop μ-loop
 loop-again c = search needs
 
-same-length : tie.Need-same-length Inv-loop μ-loop
-same-length c = search needs
-
 returns : tie.Need-returns Inv-loop μ-loop
 returns c = search needs
 
-pub fill-with-spec : {M : Type 1} → statement M
-fill-with-spec =
+pub sum-spec : {M : Type 1} → statement M
+sum-spec =
     tie.close
     (tie.spec
     Inv-loop
     μ-loop
     loop-holds
-    slice-write-out
+    shared-slice-read-next
+    next-requires
     add-i
     loop-less
     loop-again
-    same-length
     returns)

@@ -1,0 +1,103 @@
+// The pieces of a program's line, each placed behind the last, and what programs do with buffers.
+ghost use mathlib.Core.Path.{_≡_};
+ghost use Prim.Native.Nat.{_≤_, _<_};
+use error::Written;
+use lsn::Lsn;
+
+// The sum of a buffer.
+pub fn sum(s: &[u8]) -> u64 {
+    let mut h: u64 = 7;
+    let mut i: usize = 0;
+    while i < s.len() {
+        h = next(h, s[i]);
+        i += 1;
+    }
+    h
+}
+
+fn next(h: u64, b: u8) -> u64 {
+    (h % 4294967296 * 31 + b as u64) % 4294967296
+}
+
+pub fn fill(out: &mut [u8], b: u8) {
+    let mut i: usize = 0;
+    while i < out.len() {
+        out[i] = b;
+        i += 1;
+    }
+}
+
+pub fn least(a: usize, b: usize) -> usize
+    ensures { λ r. ⌜ (r ≤ a) × (r ≤ b) ⌝ }
+{
+    if a < b { a } else { b }
+}
+
+// One turn fewer, or none where there is nothing more to do. Nothing says that an input ends, so programs count their turns down.
+pub fn left(turns: u64, go: bool) -> u64
+    requires { ⌜ 0 < turns ⌝ }
+    ensures { λ r. ⌜ r < turns ⌝ }
+{
+    if go { turns - 1 } else { 0 }
+}
+
+pub fn number(line: &mut [u8], at: usize, n: u64) -> usize {
+    let a = wire::store::place(line, at, b" ");
+    text::place_decimal(line, a, n)
+}
+
+pub fn signed(line: &mut [u8], at: usize, n: i32) -> usize {
+    let a = wire::store::place(line, at, b" ");
+    text::place_signed(line, a, n as i64)
+}
+
+pub fn long(line: &mut [u8], at: usize, n: i64) -> usize {
+    let a = wire::store::place(line, at, b" ");
+    text::place_signed(line, a, n)
+}
+
+pub fn flag(line: &mut [u8], at: usize, on: bool) -> usize {
+    if on {
+        wire::store::place(line, at, b" 1")
+    } else {
+        wire::store::place(line, at, b" 0")
+    }
+}
+
+// The bytes that a part names.
+pub fn part(line: &mut [u8], at: usize, s: &[u8], from: usize, len: usize) -> usize {
+    if s.len() < from {
+        return at;
+    }
+    if s.len() - from < len {
+        return at;
+    }
+    bytes(line, at, &s[from..from + len])
+}
+
+// Bytes in hexadecimal, a hyphen for none.
+pub fn bytes(line: &mut [u8], at: usize, s: &[u8]) -> usize {
+    if s.len() == 0 {
+        return wire::store::place(line, at, b" -");
+    }
+    let a = wire::store::place(line, at, b" ");
+    text::place_hex_bytes(line, a, s)
+}
+
+pub fn position(line: &mut [u8], at: usize, p: Lsn) -> usize {
+    let a = wire::store::place(line, at, b" ");
+    let mut t = [0u8; 17];
+    match p.display(&mut t) {
+        Written::Wrote(n) => {
+            if 17 < n {
+                return a;
+            }
+            wire::store::place(line, a, &t[0..n])
+        }
+        Written::Refused(_) => a,
+    }
+}
+
+pub fn end(line: &mut [u8], at: usize) -> usize {
+    wire::store::place(line, at, b"\n")
+}
