@@ -1,6 +1,7 @@
 //! Random scripts that mix everything; the same ones in every run.
 
 use crate::cases::Add;
+use crate::coverage::quietly;
 use crate::model::{Queue, Settings, MOST_INTERVAL, MOST_MOMENT};
 use crate::protocol::framed;
 use crate::scripts::{at, Script, Step};
@@ -34,7 +35,7 @@ fn server_message(draw: &mut Draw) -> Vec<u8> {
         3 => framed(*draw.pick(b"NSCcZ"), b""),
         _ => data(position(draw), position(draw), time, &body(draw)),
     };
-    match draw.below(40) {
+    match draw.below(60) {
         0 => error(),
         1 => [b'd', *draw.pick(&[0, 0xFF]), 0, 0, *draw.pick(&[0, 3, 200])].to_vec(),
         2 => framed(b'd', &good[5..5 + draw.below(good.len() as u64 - 4) as usize]),
@@ -58,7 +59,7 @@ fn settings(draw: &mut Draw) -> Settings {
     Settings {
         status: interval(draw),
         idle: interval(draw),
-        limit: *draw.pick(&[46, 50, 60, 60, 64, 64, 18, 0]),
+        limit: if draw.below(15) == 0 { *draw.pick(&[0, 18, 46]) } else { *draw.pick(&[50, 60, 64]) },
         stop_at: (draw.below(2) == 0).then_some(stop),
         timing: draw.below(2) == 0,
         binary: draw.below(2) == 0,
@@ -75,7 +76,7 @@ fn step(draw: &mut Draw, moment: u64, stop: bool) -> Step {
         stop,
         queue,
         unread: if draw.below(2) == 0 { part } else { 200 },
-        ended: draw.below(25) == 0,
+        ended: draw.below(40) == 0,
         room: *draw.pick(&[39, 39, 39, 39, 40, 45, 39, 39, 39, 39, 39, 39, 39, 39, 39, 38]),
         fill,
     }
@@ -88,16 +89,17 @@ fn script(draw: &mut Draw) -> Script {
         (0..draw.below(3)).for_each(|_| server.extend(notice(2)));
         server.extend(if draw.below(8) == 0 { error() } else { both() });
     }
-    (0..draw.below(9)).for_each(|_| server.extend(server_message(draw)));
+    (0..draw.below(12)).for_each(|_| server.extend(server_message(draw)));
     server.truncate(server.len() - draw.below(8).saturating_sub(4).min(server.len() as u64) as usize);
     let mut s = if opened { Script::opened(&[&server]) } else { Script::new(&[&server]) };
     s.settings = settings(draw);
     (s.query_position, s.start) = (position(draw), *draw.pick(&[0, 0, 1, 0x10, 0xFF, 0x200]));
     let limit = s.settings.limit as u32;
-    s.payload = (*draw.pick(&[limit, limit, limit, limit + 9, limit + 1, limit.max(1) - 1]), draw.next() as u8);
+    let room = if draw.below(20) == 0 { limit.max(1) - 1 } else { *draw.pick(&[limit, limit, limit + 9, limit + 1]) };
+    s.payload = (room, draw.next() as u8);
     let mut moment = 1 + draw.below(1_000);
-    let asked = draw.below(60);
-    for i in 0..10 + draw.below(25) {
+    let asked = draw.below(100);
+    for i in 0..10 + draw.below(50) {
         moment += *draw.pick(&[0, 0, 1, 250, 499, 500, 501, 1_000, 5_000]);
         if draw.below(7) == 0 {
             s.report(position(draw) & 0xFFFF_FFFF, *draw.pick(&[0, 1, moment, moment + 700, moment / 2]));
@@ -106,7 +108,15 @@ fn script(draw: &mut Draw) -> Script {
         s.step(next);
     }
     s.step(at(moment).unread(0));
+    end_soon(&mut s);
     s
+}
+
+/// Two calls behind the end are enough.
+fn end_soon(s: &mut Script) {
+    let lines = quietly(|| s.lines());
+    let end = lines.lines().skip(1).position(|line| line.contains(" ENDED "));
+    s.calls.truncate(end.map_or(usize::MAX, |n| n + 3));
 }
 
 pub fn all(add: Add) {
