@@ -33,6 +33,7 @@ pub fn all(add: Add) {
     timings(add);
     intervals(add);
     buffers(add);
+    largest(add);
 }
 
 /// Turn, Drain, Reading and Handling of a first message, all at moment 1.
@@ -524,11 +525,18 @@ fn step_refusals(add: Add) {
             add(&s);
         }
     }
+    for bad in [at(2).room(38), at(0), at(1)] {
+        let mut s = waiting(&[&server]);
+        s.step(at(2).unread(3)).report(0x30, 2).steps(&[bad.clone(), bad.stop(), at(2), at(2), at(2)]);
+        add(&s);
+    }
     // 3 before 4 before 5, and the last moment stays as it was
     for (payload, room, moment) in [(99, 39, 5), (99, 38, 5), (99, 38, 0), (99, 39, 0), (100, 38, 0), (0, 0, 0)] {
         let mut s = Script::new(&[&server]);
         s.payload.0 = payload;
         s.steps(&[at(moment).room(room), at(4).room(room), at(4)]);
+        add(&s);
+        (s.already_open, s.output) = (false, (300, 1));
         add(&s);
     }
     // 2 before all others
@@ -627,4 +635,20 @@ fn buffers(add: Add) {
     let mut s = Script::new(&[&framed(b'N', &[b'z'; 100]), &framed(b'N', &[b'z'; 101])]);
     s.steps(&[at(1), at(1), at(1).unread(104), at(1), at(1), at(1), at(1), at(1)]);
     add(&s);
+}
+
+/// What a script may have at most.
+fn largest(add: Add) {
+    let mut s = offered(&[&data(1, 2, 3, &[0xA7; 65_511]), &[b'N', 0, 1, 0, 5]]);
+    (s.settings.limit, s.payload.0) = (65_536, 65_536);
+    s.steps(&[at(1).room(4_096), at(1).room(4_096), at(1).room(4_096)]);
+    add(&s);
+    for (slot, names) in [(4_096, 0), (0, 255), (3_970, 0), (3_971, 0)] {
+        let mut s = Script::opened(&[&both()]);
+        s.slot = vec![b's'; slot];
+        s.publications = vec![vec![b'p'; if names == 0 { 0 } else { 16 }]; names];
+        s.output.0 = 4_096;
+        s.step(at(1));
+        add(&s);
+    }
 }

@@ -140,6 +140,10 @@ pub fn owed() -> Vec<String> {
     for state in ["Opening", "Reading", "Waiting"] {
         all.extend((6..=9).map(|n| format!("{state}: refusal {n}")));
     }
+    for state in ["Opening", "Turn", "Drain", "Reading", "Waiting", "Handling", "Offering"] {
+        all.extend([4, 5].map(|n| format!("{state}: turned back with {n}")));
+    }
+    all.extend(["Opening: turned back with 3", "Turn: turned back with 3"].map(String::from));
     all.extend((10..=18).map(|n| format!("Handling: refusal {n}")));
     all.extend((1..=19).map(|n| format!("refusal {n:02}")));
     all

@@ -232,6 +232,7 @@ impl Run {
         let mut call = Call { input, payload, out, answer: Answer::default() };
         if let Some(n) = self.turned_back(input, call.payload.len(), call.out.len()) {
             seen_in("refusal", n);
+            seen(&format!("{:?}: turned back with {n}", self.state));
             call.answer.refusal = n;
             return call.answer;
         }
