@@ -53,7 +53,7 @@ fn main() {
     malformed(&mut v);
     let (reached, missing) = coverage::counts();
     assert!(missing.is_empty(), "no script reaches {missing:?}");
-    assert!(v.input.len() < 1_000_000, "{} bytes", v.input.len());
+    assert!(v.input.len().max(v.lines.len()) < 1_000_000, "{} and {} bytes", v.input.len(), v.lines.len());
     std::fs::write(folder.join("replay-stdin"), &v.input).unwrap();
     std::fs::write(folder.join("replay-stdout"), &v.lines).unwrap();
     let counts: String = reached.iter().map(|(what, n)| format!("{n} {what}\n")).collect();
