@@ -1,0 +1,4 @@
+// Prints the events in the server bytes on standard input.
+fn main() {
+    playing::play(0);
+}
