@@ -1,69 +1,31 @@
 // Handling: a whole message is told apart, and what it says is offered.
 ghost use mathlib.Core.Path.{_≡_};
-ghost use mathlib.Core.Bool.{false, not};
 ghost use mathlib.Core.List.{List};
-ghost use Prim.Native.Nat.{ℕ, _≤_, min};
+ghost use Prim.Native.Nat.{ℕ, _≤_};
 ghost use lib.ListN.{length, take};
-ghost use Rattle.wire.specs.Bytes.{at};
-ghost use Rattle.pgoutput.specs.Boundary.{boundaryOf};
-ghost use Rattle.pgoutput.specs.Boundary as B;
-ghost use Rattle.replication.specs.CopyData.{copyDataOf};
-ghost use Rattle.replication.specs.CopyData as C;
+ghost use Rattle.replication.specs.CopyData.{copyDataOf, saidBy};
 ghost use Rattle.metrics.specs.Metrics.{withEnd, withReply};
 ghost use Rattle.worker.specs.Answer.{lent, outcomeBy};
 ghost use Rattle.worker.specs.Run.{withMetrics};
-ghost use Rattle.worker.specs.Step.{Lent, back, offers, reaches, offersAt, keepAliveOf, boundaryBy, copyDataBy, handlingOf};
+ghost use Rattle.worker.specs.Step.{keepAliveOf, copyDataBy, handlingOf};
 use crate::Event;
 use crate::Input;
 use crate::Run;
 use crate::State;
 use crate::Stepped;
-use crate::changes::offer;
+use crate::boundaries::least;
+use crate::boundaries::xlog_data;
 use crate::changes::with_metrics;
-use crate::changes::with_offer;
-use crate::changes::with_state;
 use crate::ends::ended;
 use crate::ends::moved;
+use crate::offered::back;
+use crate::offered::offers;
 use crate::status::send_feedback;
 use error::Refusal;
 use framing::tag::is_copy_data;
 use framing::tag::is_error;
 use lsn::Lsn;
-use pgoutput::Boundary;
 use replication::CopyData;
-
-// To drain, or to turn after a wait.
-pub(crate) fn back(run: Run) -> Run
-    ensures { λ r. ⌜ r ≡ back run ⌝ }
-{
-    if run.whole.in_wait {
-        return with_state(State::Turn, run);
-    }
-    with_state(State::Drain, run)
-}
-
-// An event is offered, behind which StoppedAt follows or not.
-pub(crate) fn offers(event: Event, stops: bool, reached: Lsn, run: Run) -> Run
-    ensures { λ r. ⌜ r ≡ offers event stops reached run ⌝ }
-{
-    let first = offer(event, false, stops, reached);
-    with_state(State::Offering, with_offer(first, run))
-}
-
-fn reaches(run: Run, position: Lsn) -> bool
-    ensures { λ r. ⌜ r ≡ reaches run position ⌝ }
-{
-    if run.settings.has_stop {
-        return !position.is_below(run.settings.stop_at_lsn);
-    }
-    false
-}
-
-fn offers_at(event: Event, position: Lsn, run: Run) -> Stepped
-    ensures { λ s. ⌜ ((l : Lent) → outcomeBy s (l .payload) (l .out) ≡ offersAt event position run l) ⌝ }
-{
-    moved(offers(event, reaches(run, position), position, run))
-}
 
 fn with_wal_end(wal_end: Lsn, run: Run) -> Run
     ensures { λ r. ⌜ r ≡ withMetrics (withEnd (run .metrics) «wal_end») run ⌝ }
@@ -105,109 +67,17 @@ fn keep_alive(
     moved(offered)
 }
 
-fn least(a: usize, b: usize) -> usize
-    ensures { λ r. ⌜ r ≡ min a b ⌝ }
-{
-    if a < b { a } else { b }
-}
-
 // What the first bytes say, as far as they are there.
 fn copy_data_in(payload: &[u8], len: usize) -> CopyData
-    ensures { λ r. ⌜ C.saidBy r ≡ copyDataOf (take len (now (payload .entry))) ⌝ }
+    ensures { λ r. ⌜ saidBy r ≡ copyDataOf (take len (now (payload .entry))) ⌝ }
 {
     let n = least(len, payload.len());
     replication::parse_copy_data(&payload[..n])
 }
 
-fn boundary_in(rest: &[u8], len: usize) -> Boundary
-    ensures { λ r. ⌜ B.saidBy r ≡ boundaryOf (take len (now (rest .entry))) ⌝ }
-{
-    let n = least(len, rest.len());
-    pgoutput::parse_pgoutput_boundary(&rest[..n])
-}
-
-// The data from a place of the payload.
-fn boundary_at(payload: &[u8], from: usize, len: usize) -> Boundary
-    ensures { λ r. ⌜ B.saidBy r ≡ boundaryOf (at (now (payload .entry)) from len) ⌝ }
-{
-    if payload.len() < from {
-        return Boundary::NotBoundary;
-    }
-    boundary_in(&payload[from..], len)
-}
-
-// Begin reaches its final position, Commit its end, Message and other data the server's end.
-fn xlog_data(
-    start: Lsn,
-    end: Lsn,
-    server_time: i64,
-    from: usize,
-    len: usize,
-    run: Run,
-    payload: &[u8],
-) -> Stepped
-    ensures { λ s. ⌜ ((u o : List ℕ) → outcomeBy s (now (payload .entry)) o ≡ boundaryBy (boundaryOf (at (now (payload .entry)) from len)) (start .0) (end .0) «server_time» from len run (lent u (now (payload .entry)) o)) ⌝ }
-{
-    match boundary_at(payload, from, len) {
-        Boundary::Begin {
-            final_lsn,
-            commit_time,
-            xid,
-        } => {
-            let event = Event::Begin {
-                final_lsn,
-                commit_time,
-                xid,
-            };
-            offers_at(event, final_lsn, run)
-        }
-        Boundary::Commit {
-            lsn,
-            end_lsn,
-            commit_time,
-        } => {
-            let event = Event::Commit {
-                lsn,
-                end_lsn,
-                commit_time,
-            };
-            offers_at(event, end_lsn, run)
-        }
-        Boundary::Message {
-            transactional,
-            lsn,
-            prefix_from,
-            prefix_len,
-            content_from,
-            content_len,
-        } => {
-            let event = Event::Message {
-                transactional,
-                lsn,
-                prefix_from: from + prefix_from,
-                prefix_len,
-                content_from: from + content_from,
-                content_len,
-            };
-            offers_at(event, end, run)
-        }
-        Boundary::NotBoundary => {
-            let event = Event::XLogData {
-                wal_start: start,
-                wal_end: end,
-                server_time,
-                from,
-                len,
-            };
-            offers_at(event, end, run)
-        }
-        Boundary::Refused(refusal) => ended(refusal, run),
-    }
-}
-
 fn copy_data(said: CopyData, run: Run, input: Input, payload: &[u8], out: &mut [u8]) -> Stepped
     requires { ⌜ 39 ≤ length (now out) ⌝ }
-    ensures { λ s. ⌜ ((u : List ℕ) → outcomeBy s (now (payload .entry)) (now (out .exit)) ≡ copyDataBy (C.saidBy said) run input (lent u (now (payload .entry)) (now (out .entry)))) ⌝ }
+    ensures { λ s. ⌜ ((u : List ℕ) → outcomeBy s (now (payload .entry)) (now (out .exit)) ≡ copyDataBy (saidBy said) run input (lent u (now (payload .entry)) (now (out .entry)))) ⌝ }
 {
     match said {
         CopyData::KeepAlive {

@@ -1,8 +1,10 @@
 // A run: what it holds, what a step is given, what it answers. The rules are in specs/.
+mod boundaries;
 mod changes;
 mod deliver;
 mod ends;
 mod handle;
+mod offered;
 mod receive;
 mod request;
 mod rounds;

@@ -1,6 +1,6 @@
 use borrow.Author.Needs.{needs}
-use Rattle.worker.proofs.handle.reaches.Statement.{statement}
-use Rattle.worker.proofs.handle.reaches.Tie as tie
+use Rattle.worker.proofs.offered.reaches.Statement.{statement}
+use Rattle.worker.proofs.offered.reaches.Tie as tie
 
 is-below-requires : tie.Need-is-below-requires
 is-below-requires c κs = search needs

@@ -1,6 +1,6 @@
 use borrow.Author.Needs.{needs}
-use Rattle.worker.proofs.handle.back.Statement.{statement}
-use Rattle.worker.proofs.handle.back.Tie as tie
+use Rattle.worker.proofs.offered.back.Statement.{statement}
+use Rattle.worker.proofs.offered.back.Tie as tie
 
 with-state-requires : tie.Need-with-state-requires
 with-state-requires c κs = search needs

@@ -1,6 +1,6 @@
 use borrow.Author.Needs.{needs}
-use Rattle.worker.proofs.handle.offers.Statement.{statement}
-use Rattle.worker.proofs.handle.offers.Tie as tie
+use Rattle.worker.proofs.offered.offers.Statement.{statement}
+use Rattle.worker.proofs.offered.offers.Tie as tie
 
 offer-requires : tie.Need-offer-requires
 offer-requires c κs = search needs

@@ -1,7 +1,7 @@
 use mathlib.Core.Path.{_∙_}
 use borrow.Author.Needs.{needs}
-use Rattle.worker.proofs.handle.offers_at.Statement.{statement}
-use Rattle.worker.proofs.handle.offers_at.Tie as tie
+use Rattle.worker.proofs.offered.offers_at.Statement.{statement}
+use Rattle.worker.proofs.offered.offers_at.Tie as tie
 
 reaches-requires : tie.Need-reaches-requires
 reaches-requires c κs = search needs

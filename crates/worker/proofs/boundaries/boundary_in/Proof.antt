@@ -3,8 +3,8 @@ use lib.ListN.{length-take}
 use native.Mathlib.Omega.{arith}
 use Rattle.worker.proofs.Laws.{take-least}
 use borrow.Author.Needs.{needs}
-use Rattle.worker.proofs.handle.boundary_in.Statement.{statement}
-use Rattle.worker.proofs.handle.boundary_in.Tie as tie
+use Rattle.worker.proofs.boundaries.boundary_in.Statement.{statement}
+use Rattle.worker.proofs.boundaries.boundary_in.Tie as tie
 
 least-requires : tie.Need-least-requires
 least-requires c κs = search needs

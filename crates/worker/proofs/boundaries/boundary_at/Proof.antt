@@ -6,8 +6,8 @@ use native.Mathlib.Omega.{arith}
 use Rattle.wire.proofs.Laws.{tail-whole}
 use Rattle.pgoutput.specs.Boundary.{boundaryOf}
 use borrow.Author.Needs.{needs}
-use Rattle.worker.proofs.handle.boundary_at.Statement.{statement}
-use Rattle.worker.proofs.handle.boundary_at.Tie as tie
+use Rattle.worker.proofs.boundaries.boundary_at.Statement.{statement}
+use Rattle.worker.proofs.boundaries.boundary_at.Tie as tie
 
 returns : tie.Need-returns
 unfolding boundaryOf

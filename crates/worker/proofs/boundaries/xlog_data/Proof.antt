@@ -7,8 +7,8 @@ use mir.ValLaws.{toZ-ofZ}
 use Rattle.worker.specs.Answer.{lent}
 use Rattle.worker.proofs.Laws.{message-within}
 use borrow.Author.Needs.{needs}
-use Rattle.worker.proofs.handle.xlog_data.Statement.{statement}
-use Rattle.worker.proofs.handle.xlog_data.Tie as tie
+use Rattle.worker.proofs.boundaries.xlog_data.Statement.{statement}
+use Rattle.worker.proofs.boundaries.xlog_data.Tie as tie
 
 boundary-at-requires : tie.Need-boundary-at-requires
 boundary-at-requires c κs = search needs
@@ -16,38 +16,38 @@ boundary-at-requires c κs = search needs
 enum-known-final-lsn : tie.Need-enum-known-final-lsn
 enum-known-final-lsn c = search needs
 
-offers-at-requires : tie.Need-offers-at-requires
-offers-at-requires c κs = search needs
+begin-requires : tie.Need-begin-requires
+begin-requires c κs = search needs
 
 enum-known-lsn : tie.Need-enum-known-lsn
 enum-known-lsn c = search needs
 
-offers-at-requires-2 : tie.Need-offers-at-requires-2
-offers-at-requires-2 c κs = search needs
+commit-requires : tie.Need-commit-requires
+commit-requires c κs = search needs
 
 enum-known-transactional : tie.Need-enum-known-transactional
 enum-known-transactional c = search needs
 
-add-t27 : tie.Need-add-t27
-add-t27 c =
+add-prefix : tie.Need-add-prefix
+add-prefix c =
     let a = c .before .before .before .before .before .args in
     let m = message-within _ _ _ _ _ _ _ (sym (rw (c .before .transactional .given .1) at (c .before .before .before .boundary-at .ensures))) in
     omega (arith, length-take (a .len) (drop (a .from) (a .payload .now)), length-drop (a .from) (a .payload .now))
 
-add-t28 : tie.Need-add-t28
-add-t28 c =
+add-content : tie.Need-add-content
+add-content c =
     let a = c .before .before .before .before .before .args in
     let m = message-within _ _ _ _ _ _ _ (sym (rw (c .before .transactional .given .1) at (c .before .before .before .boundary-at .ensures))) in
     omega (arith, length-take (a .len) (drop (a .from) (a .payload .now)), length-drop (a .from) (a .payload .now))
 
-offers-at-requires-3 : tie.Need-offers-at-requires-3
-offers-at-requires-3 c κs = search needs
+offers-at-requires : tie.Need-offers-at-requires
+offers-at-requires c κs = search needs
 
 enum-told : tie.Need-enum-told
 enum-told c = search needs
 
-offers-at-requires-4 : tie.Need-offers-at-requires-4
-offers-at-requires-4 c κs = search needs
+other-requires : tie.Need-other-requires
+other-requires c κs = search needs
 
 enum-known-refusal : tie.Need-enum-known-refusal
 enum-known-refusal c = search needs
@@ -58,19 +58,19 @@ ended-requires c κs = search needs
 returns : tie.Need-returns
 returns c = λ u o.
     let back = toZ-ofZ w64 (c .before .before .final-lsn .given .0 .1 .0) (record { sfits = c .before .known-told .given .1 .0 .1 }) in
-    c .offers-at .ensures (lent u _ o) ∙ rw (← c .before .before .before .before .boundary-at .ensures, c .before .before .final-lsn .given .1, back)
+    c .begin .ensures (lent u _ o) ∙ rw (← c .before .before .before .before .boundary-at .ensures, c .before .before .final-lsn .given .1, back)
 
 returns-2 : tie.Need-returns-2
 returns-2 c = λ u o.
     let back = toZ-ofZ w64 (c .before .before .lsn .given .0 .1 .1 .0) (record { sfits = c .before .known-told2 .given .1 .1 .0 .1 }) in
-    c .offers-at2 .ensures (lent u _ o) ∙ rw (← c .before .before .before .before .boundary-at .ensures, c .before .before .lsn .given .1, back)
+    c .commit .ensures (lent u _ o) ∙ rw (← c .before .before .before .before .boundary-at .ensures, c .before .before .lsn .given .1, back)
 
 returns-3 : tie.Need-returns-3
-returns-3 c = λ u o. c .offers-at3 .ensures (lent u _ o) ∙ rw (← c .before .before .before .before .boundary-at .ensures, c .before .before .transactional .given .1)
+returns-3 c = λ u o. c .offers-at .ensures (lent u _ o) ∙ rw (← c .before .before .before .before .boundary-at .ensures, c .before .before .transactional .given .1)
 
 returns-4 : tie.Need-returns-4
 returns-4 c = λ u o.
-    c .offers-at4 .ensures (lent u _ o)
+    c .other .ensures (lent u _ o)
     ∙ rw (← c .before .before .before .boundary-at .ensures, c .before .enum-told .given .1, toZ-ofZ w64 (c .before .before .before .before .before .args .server-time) (c .before .before .before .before .before .fits .server-time))
 
 returns-5 : tie.Need-returns-5
@@ -82,15 +82,15 @@ xlog-data-spec =
     (tie.spec
     boundary-at-requires
     enum-known-final-lsn
-    offers-at-requires
+    begin-requires
     enum-known-lsn
-    offers-at-requires-2
+    commit-requires
     enum-known-transactional
-    add-t27
-    add-t28
-    offers-at-requires-3
+    add-prefix
+    add-content
+    offers-at-requires
     enum-told
-    offers-at-requires-4
+    other-requires
     enum-known-refusal
     ended-requires
     returns
