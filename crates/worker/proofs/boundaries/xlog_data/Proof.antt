@@ -57,13 +57,11 @@ ended-requires c κs = search needs
 
 returns : tie.Need-returns
 returns c = λ u o.
-    let back = toZ-ofZ w64 (c .before .before .final-lsn .given .0 .1 .0) (record { sfits = c .before .known-told .given .1 .0 .1 }) in
-    c .begin .ensures (lent u _ o) ∙ rw (← c .before .before .before .before .boundary-at .ensures, c .before .before .final-lsn .given .1, back)
+    c .begin .ensures (lent u _ o) ∙ rw (← c .before .before .before .before .boundary-at .ensures, c .before .before .final-lsn .given .1, toZ-ofZ w64 (c .before .before .final-lsn .given .0 .1 .0) (record { sfits = c .before .known-told .given .1 .0 .1 }))
 
 returns-2 : tie.Need-returns-2
 returns-2 c = λ u o.
-    let back = toZ-ofZ w64 (c .before .before .lsn .given .0 .1 .1 .0) (record { sfits = c .before .known-told2 .given .1 .1 .0 .1 }) in
-    c .commit .ensures (lent u _ o) ∙ rw (← c .before .before .before .before .boundary-at .ensures, c .before .before .lsn .given .1, back)
+    c .commit .ensures (lent u _ o) ∙ rw (← c .before .before .before .before .boundary-at .ensures, c .before .before .lsn .given .1, toZ-ofZ w64 (c .before .before .lsn .given .0 .1 .1 .0) (record { sfits = c .before .known-told2 .given .1 .1 .0 .1 }))
 
 returns-3 : tie.Need-returns-3
 returns-3 c = λ u o. c .offers-at .ensures (lent u _ o) ∙ rw (← c .before .before .before .before .boundary-at .ensures, c .before .before .transactional .given .1)

@@ -36,13 +36,11 @@ same-length c = search needs
 
 returns : tie.Need-returns
 returns c = λ u.
-    let back = toZ-ofZ w64 (c .before .before .before .before .before .before .said .given .0 .1 .0) (record { sfits = c .before .before .before .before .before .known-told .given .1 .0 .1 }) in
-    c .before .before .keep-alive .ensures u _ ∙ rw (c .before .before .before .before .with-wal-end .ensures, c .before .before .before .before .before .before .said .given .1, back)
+    c .before .before .keep-alive .ensures u _ ∙ rw (c .before .before .before .before .with-wal-end .ensures, c .before .before .before .before .before .before .said .given .1, toZ-ofZ w64 (c .before .before .before .before .before .before .said .given .0 .1 .0) (record { sfits = c .before .before .before .before .before .known-told .given .1 .0 .1 }))
 
 returns-2 : tie.Need-returns-2
 returns-2 c = λ u.
-    let back = toZ-ofZ w64 (c .before .before .before .said2 .given .0 .1 .1 .0) (record { sfits = c .before .before .known-told2 .given .1 .1 .0 .1 }) in
-    c .xlog-data .ensures u _ ∙ rw (c .before .with-wal-end2 .ensures, c .before .before .before .said2 .given .1, back)
+    c .xlog-data .ensures u _ ∙ rw (c .before .with-wal-end2 .ensures, c .before .before .before .said2 .given .1, toZ-ofZ w64 (c .before .before .before .said2 .given .0 .1 .1 .0) (record { sfits = c .before .before .known-told2 .given .1 .1 .0 .1 }))
 
 returns-3 : tie.Need-returns-3
 returns-3 c = λ u. rw (c .before .before .said3 .given .1) (c .ended .ensures (lent u _ _))
