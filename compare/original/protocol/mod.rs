@@ -1,0 +1,3 @@
+pub mod framing;
+pub mod messages;
+pub mod replication;

@@ -1,0 +1,426 @@
+//! The Rust, unchanged, on a scripted stream under tokio's paused clock.
+
+use crate::record::{Event, Line, Metrics, Record};
+use crate::scenario::{Happening, Scenario};
+use crate::side::Side;
+use original::client::metrics::ReplicationMetrics;
+use original::client::worker::{ReplicationEvent, ReplicationEventReceiver, SharedProgress, WorkerState};
+use original::config::ReplicationConfig;
+use original::error::PgWireError;
+use original::lsn::Lsn;
+use original::FeedbackObserver;
+use std::collections::VecDeque;
+use std::future::{poll_fn, Future};
+use std::io;
+use std::pin::Pin;
+use std::sync::atomic::{AtomicBool, Ordering};
+use std::sync::{Arc, Mutex, Once};
+use std::task::{Context, Poll, Wake, Waker};
+use std::time::Duration;
+use tokio::io::{AsyncRead, AsyncWrite, ReadBuf};
+use tokio::runtime::{Builder, Runtime};
+use tokio::sync::{mpsc, watch};
+use tokio::time::Instant;
+
+/// AuthenticationOk, ReadyForQuery: what comes before `start_replication`.
+const AUTHENTICATED: &[u8] = b"R\0\0\0\x08\0\0\0\0Z\0\0\0\x05I";
+/// CopyBothResponse: what an open run has behind it.
+const ACCEPTED: &[u8] = b"W\0\0\0\x07\0\0\0";
+
+/// An event's content is known only when it is taken; its place in the record is known when it is handed on.
+enum Noted {
+    Event,
+    Line(Line),
+}
+
+struct Wire {
+    begun: Instant,
+    /// Pieces that came and are not read yet, and whether they are noted.
+    pieces: VecDeque<(Vec<u8>, bool)>,
+    ended: bool,
+    /// A piece was handed over: "not ready" once, then the next.
+    rests: bool,
+    reading: Option<Waker>,
+    /// How many of the next writes are not noted.
+    unnoted: usize,
+    metrics: Arc<ReplicationMetrics>,
+    forwarded: u64,
+    notes: Vec<(u64, Noted)>,
+}
+
+impl Wire {
+    fn now(&self) -> u64 {
+        let nanos = self.begun.elapsed().as_nanos();
+        assert_eq!(nanos % 1_000_000, 0, "the clock stands between two milliseconds");
+        (nanos / 1_000_000) as u64
+    }
+
+    /// The events that were handed on since the last note.
+    fn note_events(&mut self) {
+        let forwarded = self.metrics.events_forwarded();
+        while self.forwarded < forwarded {
+            self.forwarded += 1;
+            let now = self.now();
+            self.notes.push((now, Noted::Event));
+        }
+    }
+
+    fn note(&mut self, line: Line) {
+        self.note_events();
+        let now = self.now();
+        self.notes.push((now, Noted::Line(line)));
+    }
+
+    fn arrived(&mut self) {
+        if let Some(waker) = self.reading.take() {
+            waker.wake();
+        }
+    }
+}
+
+#[derive(Clone)]
+struct Stream(Arc<Mutex<Wire>>);
+
+impl AsyncRead for Stream {
+    fn poll_read(self: Pin<&mut Self>, cx: &mut Context<'_>, buf: &mut ReadBuf<'_>) -> Poll<io::Result<()>> {
+        let mut wire = self.0.lock().unwrap();
+        if std::mem::take(&mut wire.rests) {
+            cx.waker().wake_by_ref();
+            return Poll::Pending;
+        }
+        if let Some((piece, noted)) = wire.pieces.pop_front() {
+            assert!(piece.len() <= buf.remaining(), "a piece longer than the read buffer");
+            buf.put_slice(&piece);
+            wire.rests = true;
+            if noted {
+                wire.note(Line::Piece(piece.len()));
+            }
+            return Poll::Ready(Ok(()));
+        }
+        if wire.ended {
+            return Poll::Ready(Ok(()));
+        }
+        wire.reading = Some(cx.waker().clone());
+        Poll::Pending
+    }
+}
+
+impl AsyncWrite for Stream {
+    fn poll_write(self: Pin<&mut Self>, _: &mut Context<'_>, bytes: &[u8]) -> Poll<io::Result<usize>> {
+        let mut wire = self.0.lock().unwrap();
+        if wire.unnoted > 0 {
+            wire.unnoted -= 1;
+        } else {
+            wire.note(Line::Write(bytes.to_vec()));
+        }
+        Poll::Ready(Ok(bytes.len()))
+    }
+
+    fn poll_flush(self: Pin<&mut Self>, _: &mut Context<'_>) -> Poll<io::Result<()>> {
+        Poll::Ready(Ok(()))
+    }
+
+    fn poll_shutdown(self: Pin<&mut Self>, _: &mut Context<'_>) -> Poll<io::Result<()>> {
+        Poll::Ready(Ok(()))
+    }
+}
+
+/// The worker's waker: remembers, and wakes the runtime.
+struct Bell {
+    rung: AtomicBool,
+    outer: Mutex<Option<Waker>>,
+}
+
+impl Wake for Bell {
+    fn wake(self: Arc<Self>) {
+        self.wake_by_ref();
+    }
+
+    fn wake_by_ref(self: &Arc<Self>) {
+        self.rung.store(true, Ordering::Relaxed);
+        if let Some(outer) = &*self.outer.lock().unwrap() {
+            outer.wake_by_ref();
+        }
+    }
+}
+
+type Outcome = Result<(), PgWireError>;
+
+/// The worker's future, polled by hand, each time as a poll of the runtime of its own.
+struct Worker<'a> {
+    future: Pin<Box<dyn Future<Output = Outcome> + 'a>>,
+    bell: Arc<Bell>,
+    waker: Waker,
+    outcome: Option<Outcome>,
+    wire: Arc<Mutex<Wire>>,
+}
+
+impl<'a> Worker<'a> {
+    fn new(future: impl Future<Output = Outcome> + 'a, wire: Arc<Mutex<Wire>>) -> Self {
+        let bell = Arc::new(Bell { rung: AtomicBool::new(true), outer: Mutex::new(None) });
+        let waker = Waker::from(bell.clone());
+        Worker { future: Box::pin(future), bell, waker, outcome: None, wire }
+    }
+
+    fn poll(&mut self, outer: &mut Context<'_>) {
+        if self.outcome.is_some() {
+            return;
+        }
+        {
+            let mut known = self.bell.outer.lock().unwrap();
+            if !known.as_ref().is_some_and(|w| w.will_wake(outer.waker())) {
+                *known = Some(outer.waker().clone());
+            }
+        }
+        self.bell.rung.store(false, Ordering::Relaxed);
+        let polled = self.future.as_mut().poll(&mut Context::from_waker(&self.waker));
+        let mut wire = self.wire.lock().unwrap();
+        wire.note_events();
+        if let Poll::Ready(outcome) = polled {
+            wire.note(end_of(&outcome));
+            self.outcome = Some(outcome);
+        }
+    }
+
+    fn rung(&self) -> bool {
+        self.outcome.is_none() && self.bell.rung.load(Ordering::Relaxed)
+    }
+
+    /// Goes on until nothing more can be done at this moment.
+    async fn settle(&mut self) {
+        poll_fn(|cx| {
+            self.poll(cx);
+            if self.rung() {
+                Poll::Pending
+            } else {
+                Poll::Ready(())
+            }
+        })
+        .await
+    }
+
+    /// Lets the clock go on to a moment; timers that are due before it are served at their own moments, those due at it are only due.
+    async fn until(&mut self, moment: Instant) {
+        if Instant::now() >= moment {
+            return;
+        }
+        let mut timer = Box::pin(tokio::time::sleep_until(moment));
+        poll_fn(|cx| {
+            if timer.as_mut().poll(cx).is_ready() {
+                return Poll::Ready(());
+            }
+            if self.rung() {
+                self.poll(cx);
+            }
+            Poll::Pending
+        })
+        .await
+    }
+}
+
+/// Which of document 01's numbers an error of the Rust is.
+pub fn number_of(error: &PgWireError) -> u8 {
+    let begins = |text: &str, known: &[(&str, u8)]| known.iter().find(|k| text.starts_with(k.0)).map_or(255, |k| k.1);
+    match error {
+        PgWireError::MessageTooLarge { .. } => 7,
+        PgWireError::Server(_) => 19,
+        PgWireError::Io(e) if e.kind() == io::ErrorKind::UnexpectedEof => begins(
+            &e.to_string(),
+            &[("EOF while reading backend message header", 8), ("EOF while reading backend message payload", 9)],
+        ),
+        PgWireError::Protocol(text) => begins(
+            text,
+            &[
+                ("invalid backend message length: ", 6),
+                ("empty CopyData payload", 10),
+                ("XLogData payload too short: ", 11),
+                ("KeepAlive payload too short: ", 12),
+                ("unknown CopyData kind: ", 13),
+                ("pgoutput: truncated i8", 14),
+                ("pgoutput: truncated i32", 15),
+                ("pgoutput: truncated i64", 16),
+                ("pgoutput Message: missing null terminator for prefix", 17),
+                ("pgoutput Message: expected ", 18),
+                ("malformed DataRow", 20),
+                ("auth request too short", 21),
+            ],
+        ),
+        _ => 255,
+    }
+}
+
+fn end_of(outcome: &Outcome) -> Line {
+    match outcome {
+        Ok(()) => Line::End(0, Vec::new()),
+        Err(PgWireError::Server(text)) => Line::End(19, text.clone().into_bytes()),
+        Err(e) => {
+            let number = number_of(e);
+            assert_ne!(number, 255, "an error that has no number: {e}");
+            Line::End(number, Vec::new())
+        }
+    }
+}
+
+pub fn event_of(event: ReplicationEvent) -> Event {
+    match event {
+        ReplicationEvent::KeepAlive { wal_end, reply_requested, server_time_micros } => {
+            Event::KeepAlive { end: wal_end.0, time: server_time_micros, reply: reply_requested }
+        }
+        ReplicationEvent::Begin { final_lsn, xid, commit_time_micros } => {
+            Event::Begin { last: final_lsn.0, time: commit_time_micros, xid }
+        }
+        ReplicationEvent::XLogData { wal_start, wal_end, server_time_micros, data } => {
+            Event::Data { start: wal_start.0, end: wal_end.0, time: server_time_micros, data: data.to_vec() }
+        }
+        ReplicationEvent::Commit { lsn, end_lsn, commit_time_micros } => {
+            Event::Commit { position: lsn.0, end: end_lsn.0, time: commit_time_micros }
+        }
+        ReplicationEvent::Message { transactional, lsn, prefix, content } => {
+            Event::Message { flag: transactional, position: lsn.0, prefix: prefix.into_bytes(), content: content.to_vec() }
+        }
+        ReplicationEvent::StoppedAt { reached } => Event::StoppedAt { reached: reached.0 },
+    }
+}
+
+fn metrics_of(m: &ReplicationMetrics) -> Metrics {
+    [
+        m.events_forwarded(),
+        m.feedback_sent(),
+        m.keepalive_replies(),
+        m.stall_count(),
+        m.stall_micros_total(),
+        m.last_applied_lsn().0,
+        m.last_wal_end().0,
+    ]
+}
+
+fn config_of(s: &Scenario, wire: &Arc<Mutex<Wire>>) -> ReplicationConfig {
+    let mut config = ReplicationConfig::new("h", "u", "p", "d", s.slot.as_str(), s.publications.clone())
+        .with_start_lsn(Lsn(s.query))
+        .with_ack_lsn(Lsn(s.start))
+        .with_status_interval(Duration::from_millis(s.status))
+        .with_wakeup_interval(Duration::from_millis(s.idle))
+        .with_buffer_size(s.queue)
+        .with_binary(s.binary)
+        .with_max_message_size(s.limit as usize);
+    if let Some(stop) = s.stop_at {
+        config = config.with_stop_lsn(Lsn(stop));
+    }
+    if s.timing {
+        let wire = wire.clone();
+        config = config.with_feedback_observer(FeedbackObserver::new(move |sent| {
+            wire.lock().unwrap().note(Line::Waited(sent.pending_for.as_nanos() as u64));
+        }));
+    }
+    config
+}
+
+fn paused() -> Runtime {
+    Builder::new_current_thread().enable_time().start_paused(true).build().expect("a runtime")
+}
+
+/// The Rust keeps one origin of its clock for the whole process; it is fixed here, before any clock was moved on.
+fn fix_origin() {
+    static FIXED: Once = Once::new();
+    FIXED.call_once(|| paused().block_on(async { SharedProgress::with_timing(Lsn(0), true).update_applied(Lsn(1)) }));
+}
+
+#[derive(Default)]
+pub struct Original {
+    /// The text of the error that ended the last run.
+    pub said: Option<String>,
+}
+
+impl Side for Original {
+    fn name(&self) -> &'static str {
+        "rust"
+    }
+
+    fn run(&mut self, scenario: &Scenario, _client_times: &[i64]) -> Record {
+        fix_origin();
+        paused().block_on(self.play(scenario))
+    }
+}
+
+impl Original {
+    async fn play(&mut self, s: &Scenario) -> Record {
+        let begun = Instant::now();
+        let metrics = Arc::new(ReplicationMetrics::default());
+        let wire = Arc::new(Mutex::new(Wire {
+            begun,
+            pieces: VecDeque::from([(AUTHENTICATED.to_vec(), false)]),
+            ended: false,
+            rests: false,
+            reading: None,
+            // The startup message, and where the run is open its query.
+            unnoted: if s.open { 2 } else { 1 },
+            metrics: metrics.clone(),
+            forwarded: 0,
+            notes: Vec::new(),
+        }));
+        let progress = Arc::new(SharedProgress::with_timing(Lsn(s.start), s.timing));
+        let (stop, stop_seen) = watch::channel(false);
+        let (out, mut queue) = mpsc::channel(s.queue);
+        let mut state = WorkerState::new(config_of(s, &wire), progress.clone(), stop_seen, out, metrics.clone());
+        let mut stream = Stream(wire.clone());
+        let mut worker = Worker::new(state.run_on_stream(&mut stream), wire.clone());
+        let mut record = Record::default();
+        let mut taken = VecDeque::new();
+
+        worker.settle().await;
+        if s.open {
+            let mut wire = wire.lock().unwrap();
+            wire.pieces.push_back((ACCEPTED.to_vec(), false));
+            wire.arrived();
+        }
+        for round in &s.rounds {
+            worker.until(begun + Duration::from_millis(round.at)).await;
+            if worker.outcome.is_some() {
+                break;
+            }
+            for what in &round.what {
+                match what {
+                    Happening::Bytes(bytes) => {
+                        let mut wire = wire.lock().unwrap();
+                        wire.pieces.push_back((bytes.clone(), true));
+                        wire.arrived();
+                    }
+                    Happening::End => {
+                        let mut wire = wire.lock().unwrap();
+                        wire.ended = true;
+                        wire.arrived();
+                    }
+                    Happening::Stop => {
+                        stop.send_replace(true);
+                    }
+                    Happening::Report(position) => progress.update_applied(Lsn(*position)),
+                    Happening::Take(n) => take(&mut queue, *n, &mut taken),
+                    Happening::Close => queue.close(),
+                }
+            }
+            worker.settle().await;
+            record.metrics.push(metrics_of(&metrics));
+        }
+        take(&mut queue, usize::MAX, &mut taken);
+        self.said = worker.outcome.as_ref().and_then(|o| o.as_ref().err()).map(|e| e.to_string());
+        drop(worker);
+        let notes = std::mem::take(&mut wire.lock().unwrap().notes);
+        let line = |noted| match noted {
+            Noted::Line(line) => line,
+            Noted::Event => Line::Event(taken.pop_front().expect("as many events as were counted")),
+        };
+        let mut line = line;
+        record.lines = notes.into_iter().map(|(at, noted)| (at, line(noted))).collect();
+        assert!(taken.is_empty(), "more events than were counted");
+        record
+    }
+}
+
+fn take(queue: &mut ReplicationEventReceiver, n: usize, taken: &mut VecDeque<Event>) {
+    for _ in 0..n {
+        match queue.try_recv() {
+            Ok(event) => taken.push_back(event_of(event.expect("no errors are sent"))),
+            Err(_) => return,
+        }
+    }
+}

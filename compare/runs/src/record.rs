@@ -1,0 +1,97 @@
+//! What a run did, in order.
+
+use crate::text::{hex, position};
+
+#[derive(Clone, Debug, PartialEq)]
+pub enum Event {
+    KeepAlive { end: u64, time: i64, reply: bool },
+    Begin { last: u64, time: i64, xid: u32 },
+    Commit { position: u64, end: u64, time: i64 },
+    /// The prefix as its lossy text.
+    Message { flag: bool, position: u64, prefix: Vec<u8>, content: Vec<u8> },
+    Data { start: u64, end: u64, time: i64, data: Vec<u8> },
+    StoppedAt { reached: u64 },
+}
+
+#[derive(Clone, Debug, PartialEq)]
+pub enum Line {
+    /// Handed to the queue.
+    Event(Event),
+    /// One message to the server.
+    Write(Vec<u8>),
+    /// How long, in nanoseconds, the position waited that the status just written confirms.
+    Waited(u64),
+    /// The stream's next piece is begun: how many bytes it has.
+    Piece(usize),
+    /// The refusal that ended the run, 0 for none; with 19 the server's error as a text.
+    End(u8, Vec<u8>),
+}
+
+/// Events, statuses, replies, stalls, stall microseconds, last applied, last wal end.
+pub type Metrics = [u64; 7];
+
+#[derive(Clone, Debug, Default, PartialEq)]
+pub struct Record {
+    /// Each with its moment, in milliseconds from the beginning.
+    pub lines: Vec<(u64, Line)>,
+    /// After each round; after the end of a run no more.
+    pub metrics: Vec<Metrics>,
+}
+
+pub const STATUS: usize = 39;
+
+/// A status's client time: eight bytes behind the header, the letter and three positions.
+pub fn client_time(write: &[u8]) -> Option<i64> {
+    (write.len() == STATUS && write[5] == b'r').then(|| i64::from_be_bytes(write[30..38].try_into().unwrap()))
+}
+
+impl Record {
+    /// The client times of all statuses, in order.
+    pub fn client_times(&self) -> Vec<i64> {
+        self.lines.iter().filter_map(|(_, line)| if let Line::Write(w) = line { client_time(w) } else { None }).collect()
+    }
+
+    pub fn end(&self) -> Option<u8> {
+        match self.lines.last() {
+            Some((_, Line::End(number, _))) => Some(*number),
+            _ => None,
+        }
+    }
+
+    pub fn print(&self) -> String {
+        let mut lines: Vec<String> = self.lines.iter().map(print_line).collect();
+        lines.extend(self.metrics.last().map(print_metrics));
+        lines.join("\n") + "\n"
+    }
+}
+
+pub fn print_line((at, line): &(u64, Line)) -> String {
+    match line {
+        Line::Event(event) => format!("{at} event {}", event.print()),
+        Line::Write(bytes) => format!("{at} write {}", hex(bytes)),
+        Line::Waited(time) => format!("{at} waited {time}"),
+        Line::Piece(length) => format!("{at} piece {length}"),
+        Line::End(0, _) => format!("{at} end 0"),
+        Line::End(number, text) => format!("{at} end {number} {}", hex(text)),
+    }
+}
+
+pub fn print_metrics(m: &Metrics) -> String {
+    format!("metrics {} {} {} {} {} {} {}", m[0], m[1], m[2], m[3], m[4], position(m[5]), position(m[6]))
+}
+
+impl Event {
+    /// As in the scripts of the replay program.
+    pub fn print(&self) -> String {
+        match self {
+            Event::KeepAlive { end, time, reply } => format!("K {} {time} {}", position(*end), *reply as u8),
+            Event::Begin { last, time, xid } => format!("B {} {time} {xid}", position(*last)),
+            Event::Commit { position: p, end, time } => format!("C {} {} {time}", position(*p), position(*end)),
+            Event::Message { flag, position: p, prefix, content } => {
+                format!("M {} {} {} {}", *flag as u8, position(*p), hex(prefix), hex(content))
+            }
+            Event::Data { start, end, time, data } => format!("X {} {} {time} {}", position(*start), position(*end), hex(data)),
+            Event::StoppedAt { reached } => format!("S {}", position(*reached)),
+        }
+    }
+}

@@ -1,0 +1,178 @@
+//! A scenario: the settings of a run, and what happens to it from outside, round by round. In a round everything happens at once, then
+//! the run goes on until it can do nothing more at that moment. Two rounds may have the same moment.
+
+use crate::text::{hex, position, unhex, unposition};
+
+/// The longest piece that a stream hands over.
+pub const LONGEST_PIECE: usize = 131_072;
+
+#[derive(Clone, Debug, PartialEq)]
+pub struct Scenario {
+    /// Begins behind the `W` that accepted the query.
+    pub open: bool,
+    /// Milliseconds.
+    pub status: u64,
+    pub idle: u64,
+    pub limit: u64,
+    pub stop_at: Option<u64>,
+    pub timing: bool,
+    pub binary: bool,
+    /// How many events the queue holds.
+    pub queue: usize,
+    pub query: u64,
+    pub start: u64,
+    pub slot: String,
+    pub publications: Vec<String>,
+    pub rounds: Vec<Round>,
+}
+
+#[derive(Clone, Debug, PartialEq)]
+pub struct Round {
+    /// Milliseconds from the beginning, never falling.
+    pub at: u64,
+    pub what: Vec<Happening>,
+}
+
+#[derive(Clone, Debug, PartialEq)]
+pub enum Happening {
+    /// A piece of server bytes, 1 to 131,072 of them.
+    Bytes(Vec<u8>),
+    /// The input ends; no piece comes after it.
+    End,
+    Stop,
+    Report(u64),
+    /// The consumer takes so many events, or as many as there are.
+    Take(usize),
+    /// The consumer closes the queue.
+    Close,
+}
+
+impl Default for Scenario {
+    fn default() -> Self {
+        Scenario {
+            open: true,
+            status: 10,
+            idle: 20,
+            limit: 65_536,
+            stop_at: None,
+            timing: false,
+            binary: false,
+            queue: 8,
+            query: 0,
+            start: 0,
+            slot: "s".to_string(),
+            publications: vec!["p".to_string()],
+            rounds: Vec::new(),
+        }
+    }
+}
+
+impl Scenario {
+    /// Inside the domain of the comparison, as far as settings and rounds decide it.
+    pub fn sound(&self) -> Result<(), String> {
+        let intervals = 1..=86_400_000;
+        if !intervals.contains(&self.status) || !intervals.contains(&self.idle) {
+            return Err("an interval is not 1 to 86,400,000 ms".to_string());
+        }
+        if self.limit >= 131_072 {
+            return Err("the limit is not below 131,072".to_string());
+        }
+        if self.queue == 0 {
+            return Err("the queue has no room".to_string());
+        }
+        let (mut last, mut ended, mut stopped) = (0, false, false);
+        for round in &self.rounds {
+            if round.at < last {
+                return Err(format!("the moment {} lies before {last}", round.at));
+            }
+            last = round.at;
+            for what in &round.what {
+                match what {
+                    Happening::Bytes(b) if b.is_empty() || b.len() > LONGEST_PIECE => return Err("a piece of no or too many bytes".to_string()),
+                    Happening::Bytes(_) | Happening::End if ended => return Err("input behind its end".to_string()),
+                    Happening::Stop if stopped => return Err("two stops".to_string()),
+                    Happening::End => ended = true,
+                    Happening::Stop => stopped = true,
+                    _ => {}
+                }
+            }
+        }
+        Ok(())
+    }
+
+    pub fn print(&self) -> String {
+        let mut lines = vec![
+            format!("run {}", if self.open { "open" } else { "opened" }),
+            format!("status {}", self.status),
+            format!("idle {}", self.idle),
+            format!("limit {}", self.limit),
+            format!("queue {}", self.queue),
+            format!("query {}", position(self.query)),
+            format!("start {}", position(self.start)),
+            format!("slot {}", hex(self.slot.as_bytes())),
+        ];
+        lines.extend(self.publications.iter().map(|p| format!("publication {}", hex(p.as_bytes()))));
+        lines.extend(self.stop_at.map(|p| format!("stop_at {}", position(p))));
+        lines.extend(self.timing.then(|| "timing".to_string()));
+        lines.extend(self.binary.then(|| "binary".to_string()));
+        for round in &self.rounds {
+            lines.push(format!("at {}", round.at));
+            lines.extend(round.what.iter().map(|what| match what {
+                Happening::Bytes(b) => format!("bytes {}", hex(b)),
+                Happening::End => "end".to_string(),
+                Happening::Stop => "stop".to_string(),
+                Happening::Report(p) => format!("report {}", position(*p)),
+                Happening::Take(n) => format!("take {n}"),
+                Happening::Close => "close".to_string(),
+            }));
+        }
+        lines.join("\n") + "\n"
+    }
+
+    /// Reads what `print` writes. Blank lines and lines that begin with `#` count for nothing; settings left out have a usual value.
+    pub fn parse(text: &str) -> Result<Scenario, String> {
+        let mut s = Scenario { publications: Vec::new(), ..Scenario::default() };
+        for (i, line) in text.lines().enumerate() {
+            let line = line.trim();
+            if line.is_empty() || line.starts_with('#') {
+                continue;
+            }
+            s.parse_line(line).ok_or_else(|| format!("line {}: {line}", i + 1))?;
+        }
+        s.sound()?;
+        Ok(s)
+    }
+
+    fn parse_line(&mut self, line: &str) -> Option<()> {
+        let (word, rest) = line.split_once(' ').unwrap_or((line, ""));
+        let name = || String::from_utf8(unhex(rest)?).ok();
+        match word {
+            "run" => self.open = ["opened", "open"].iter().position(|w| *w == rest)? == 1,
+            "status" => self.status = rest.parse().ok()?,
+            "idle" => self.idle = rest.parse().ok()?,
+            "limit" => self.limit = rest.parse().ok()?,
+            "queue" => self.queue = rest.parse().ok()?,
+            "query" => self.query = unposition(rest)?,
+            "start" => self.start = unposition(rest)?,
+            "slot" => self.slot = name()?,
+            "publication" => self.publications.push(name()?),
+            "stop_at" => self.stop_at = Some(unposition(rest)?),
+            "timing" => self.timing = true,
+            "binary" => self.binary = true,
+            "at" => self.rounds.push(Round { at: rest.parse().ok()?, what: Vec::new() }),
+            _ => {
+                let what = match word {
+                    "bytes" => Happening::Bytes(unhex(rest)?),
+                    "end" => Happening::End,
+                    "stop" => Happening::Stop,
+                    "report" => Happening::Report(unposition(rest)?),
+                    "take" => Happening::Take(rest.parse().ok()?),
+                    "close" => Happening::Close,
+                    _ => return None,
+                };
+                self.rounds.last_mut()?.what.push(what);
+            }
+        }
+        Some(())
+    }
+}

@@ -1,0 +1,27 @@
+//! Spellings that scenarios and records share.
+
+pub fn hex(bytes: &[u8]) -> String {
+    if bytes.is_empty() {
+        return "-".to_string();
+    }
+    bytes.iter().map(|b| format!("{b:02x}")).collect()
+}
+
+pub fn unhex(text: &str) -> Option<Vec<u8>> {
+    if text == "-" {
+        return Some(Vec::new());
+    }
+    if text.len() % 2 != 0 || !text.is_ascii() {
+        return None;
+    }
+    (0..text.len()).step_by(2).map(|i| u8::from_str_radix(&text[i..i + 2], 16).ok()).collect()
+}
+
+pub fn position(p: u64) -> String {
+    format!("{:X}/{:X}", p >> 32, p & 0xFFFF_FFFF)
+}
+
+pub fn unposition(text: &str) -> Option<u64> {
+    let (high, low) = text.split_once('/')?;
+    Some((u32::from_str_radix(high, 16).ok()? as u64) << 32 | u32::from_str_radix(low, 16).ok()? as u64)
+}
