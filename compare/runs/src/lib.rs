@@ -1,8 +1,14 @@
 //! The comparison with the Rust: scenarios, both sides' records of them, and the first difference.
 
+pub mod compare;
+pub mod coverage;
 pub mod draw;
+pub mod generate;
+pub mod leaves;
 pub mod original;
 pub mod record;
 pub mod scenario;
+pub mod server;
 pub mod side;
+pub mod stepped;
 pub mod text;

@@ -368,15 +368,15 @@ impl Original {
         let mut taken = VecDeque::new();
 
         worker.settle().await;
-        if s.open {
-            let mut wire = wire.lock().unwrap();
-            wire.pieces.push_back((ACCEPTED.to_vec(), false));
-            wire.arrived();
-        }
-        for round in &s.rounds {
+        for (i, round) in s.rounds.iter().enumerate() {
             worker.until(begun + Duration::from_millis(round.at)).await;
             if worker.outcome.is_some() {
                 break;
+            }
+            if s.open && i == 0 {
+                let mut wire = wire.lock().unwrap();
+                wire.pieces.push_back((ACCEPTED.to_vec(), false));
+                wire.arrived();
             }
             for what in &round.what {
                 match what {

@@ -100,6 +100,33 @@ impl Scenario {
         Ok(())
     }
 
+    /// Every opening reply lies within the limit, or is refused whatever the limit: the Rust reads it with a limit of its own.
+    pub fn in_domain(&self) -> bool {
+        if self.open {
+            return true;
+        }
+        let pieces = self.rounds.iter().flat_map(|round| &round.what).filter_map(|what| match what {
+            Happening::Bytes(bytes) => Some(bytes.as_slice()),
+            _ => None,
+        });
+        let bytes = pieces.collect::<Vec<_>>().concat();
+        let mut at = 0;
+        while let Some(header) = bytes.get(at..at + 5) {
+            let length = i32::from_be_bytes(header[1..].try_into().unwrap()) as i64 - 4;
+            if !(0..=1_073_741_824).contains(&length) {
+                return true;
+            }
+            if length > self.limit as i64 {
+                return false;
+            }
+            if matches!(header[0], b'W' | b'E') {
+                return true;
+            }
+            at += 5 + length as usize;
+        }
+        true
+    }
+
     pub fn print(&self) -> String {
         let mut lines = vec![
             format!("run {}", if self.open { "open" } else { "opened" }),

@@ -1,0 +1,212 @@
+//! Which tests of the step table, and which refusals, the scenarios reached, as a side that goes step by step shows it.
+
+use crate::stepped::{Answer, Input, Queue, State};
+use std::collections::HashMap;
+
+#[derive(Default)]
+pub struct Coverage {
+    reached: HashMap<&'static str, u64>,
+    refusals: HashMap<(&'static str, u8), u64>,
+    stalled: bool,
+}
+
+const ROWS: &[&str] = &[
+    "Opening: unfinished",
+    "Opening: W",
+    "Opening: skipped",
+    "Turn: status",
+    "Turn: no status",
+    "Drain: read",
+    "Drain: read, exactly 5 bytes",
+    "Drain: read, stop seen",
+    "Drain: 256 drained",
+    "Drain: some drained, stop",
+    "Drain: some drained, turn",
+    "Drain: wait",
+    "Drain: wait, stop seen",
+    "Drain: wait, 1 to 4 bytes",
+    "Reading: whole",
+    "Reading: unfinished",
+    "Reading: unfinished, stop seen",
+    "Waiting: stop",
+    "Waiting: stop and bytes",
+    "Waiting: stop and the end",
+    "Waiting: status, nothing to read",
+    "Waiting: status, bytes not taken",
+    "Waiting: status, the end not met",
+    "Waiting: status, bytes taken",
+    "Waiting: signalled",
+    "Waiting: signalled and bytes",
+    "Waiting: signalled and the end",
+    "Waiting: whole",
+    "Waiting: stays",
+    "Waiting: stays, bytes taken",
+    "Handling: skipped, to drain",
+    "Handling: skipped, to turn",
+    "Handling: event",
+    "Handling: event, reply written",
+    "Offering: first try, free",
+    "Offering: first try, free, stop seen",
+    "Offering: first try, closed",
+    "Offering: first try, closed, stop seen",
+    "Offering: first try, full",
+    "Offering: first try, full, status",
+    "Offering: first try, full, stop",
+    "Offering: stalled, full",
+    "Offering: stalled, full, status",
+    "Offering: stalled, full, stop",
+    "Offering: stalled, free",
+    "Offering: stalled, free, stop",
+    "Offering: stalled, closed",
+    "Offering: stalled, closed, stop",
+    "Offering: StoppedAt is next",
+    "Offering: StoppedAt handed on, CopyDone",
+    "Offering: StoppedAt dropped, CopyDone",
+    "a waiting time",
+    "a waiting time of 0",
+];
+
+/// Refusals that a server can provoke, by the state that meets them.
+const REFUSALS: &[(&str, &[u8])] = &[
+    ("Opening", &[6, 7, 8, 9, 19]),
+    // A reading begins with 5 bytes there, so its header is never cut by the end.
+    ("Reading", &[6, 7, 9]),
+    ("Waiting", &[6, 7, 8, 9]),
+    ("Handling", &[10, 11, 12, 13, 14, 15, 16, 17, 18, 19]),
+];
+
+fn name(state: State) -> &'static str {
+    match state {
+        State::Opening => "Opening",
+        State::Turn => "Turn",
+        State::Drain => "Drain",
+        State::Reading => "Reading",
+        State::Waiting => "Waiting",
+        State::Handling => "Handling",
+        State::Offering => "Offering",
+        State::Ended => "Ended",
+    }
+}
+
+impl Coverage {
+    fn seen(&mut self, what: &'static str) {
+        *self.reached.entry(what).or_insert(0) += 1;
+    }
+
+    pub fn step(&mut self, before: State, input: &Input, answer: &Answer) {
+        if answer.refusal != 0 {
+            *self.refusals.entry((name(before), answer.refusal)).or_insert(0) += 1;
+            return;
+        }
+        if let Some(time) = answer.waited {
+            self.seen(if time == 0 { "a waiting time of 0" } else { "a waiting time" });
+        }
+        let status = answer.written.len() == crate::record::STATUS;
+        match before {
+            State::Opening if answer.state == State::Turn => self.seen("Opening: W"),
+            // A message that ends with the bytes read cannot be told from one that goes on, unless some were left.
+            State::Opening if answer.taken < input.unread.len() => self.seen("Opening: skipped"),
+            State::Opening => self.seen("Opening: unfinished"),
+            State::Turn => self.seen(if status { "Turn: status" } else { "Turn: no status" }),
+            State::Drain => self.drain(input, answer),
+            State::Reading if answer.state == State::Handling => self.seen("Reading: whole"),
+            State::Reading => self.seen(if input.stop { "Reading: unfinished, stop seen" } else { "Reading: unfinished" }),
+            State::Waiting => self.waiting(input, answer, status),
+            State::Handling => {
+                self.stalled = false;
+                self.seen(match answer.state {
+                    State::Drain => "Handling: skipped, to drain",
+                    State::Turn => "Handling: skipped, to turn",
+                    _ if status => "Handling: event, reply written",
+                    _ => "Handling: event",
+                })
+            }
+            State::Offering => self.offering(input, answer, status),
+            State::Ended => {}
+        }
+    }
+
+    fn drain(&mut self, input: &Input, answer: &Answer) {
+        let unread = input.unread.len();
+        match answer.state {
+            State::Reading if unread == 5 => self.seen("Drain: read, exactly 5 bytes"),
+            State::Reading if input.stop => self.seen("Drain: read, stop seen"),
+            State::Reading => self.seen("Drain: read"),
+            State::Waiting if input.stop => self.seen("Drain: wait, stop seen"),
+            State::Waiting if unread > 0 => self.seen("Drain: wait, 1 to 4 bytes"),
+            State::Waiting => self.seen("Drain: wait"),
+            State::Ended => self.seen("Drain: some drained, stop"),
+            _ => self.seen("Drain: some drained, turn"),
+        }
+        if unread >= 5 && answer.state != State::Reading {
+            self.seen("Drain: 256 drained");
+        }
+    }
+
+    fn waiting(&mut self, input: &Input, answer: &Answer, status: bool) {
+        let (bytes, end) = (!input.unread.is_empty(), input.ended);
+        self.seen(match answer.state {
+            State::Ended if bytes => "Waiting: stop and bytes",
+            State::Ended if end => "Waiting: stop and the end",
+            State::Ended => "Waiting: stop",
+            State::Turn if status && answer.taken > 0 => "Waiting: status, bytes taken",
+            State::Turn if status && bytes => "Waiting: status, bytes not taken",
+            State::Turn if status && end => "Waiting: status, the end not met",
+            State::Turn if status => "Waiting: status, nothing to read",
+            State::Turn if bytes => "Waiting: signalled and bytes",
+            State::Turn if end => "Waiting: signalled and the end",
+            State::Turn => "Waiting: signalled",
+            State::Handling => "Waiting: whole",
+            _ if answer.taken > 0 => "Waiting: stays, bytes taken",
+            _ => "Waiting: stays",
+        })
+    }
+
+    fn offering(&mut self, input: &Input, answer: &Answer, status: bool) {
+        let done = answer.written.len() == 5;
+        let stops = done && answer.event.is_none() && input.stop && (self.stalled || input.queue == Queue::Full);
+        let found = match (self.stalled, input.queue) {
+            (false, Queue::Free) if input.stop => "Offering: first try, free, stop seen",
+            (false, Queue::Free) => "Offering: first try, free",
+            (false, Queue::Closed) if input.stop => "Offering: first try, closed, stop seen",
+            (false, Queue::Closed) => "Offering: first try, closed",
+            (false, Queue::Full) if stops => "Offering: first try, full, stop",
+            (false, Queue::Full) if status => "Offering: first try, full, status",
+            (false, Queue::Full) => "Offering: first try, full",
+            (true, Queue::Free) if stops => "Offering: stalled, free, stop",
+            (true, Queue::Free) => "Offering: stalled, free",
+            (true, Queue::Closed) if stops => "Offering: stalled, closed, stop",
+            (true, Queue::Closed) => "Offering: stalled, closed",
+            (true, Queue::Full) if stops => "Offering: stalled, full, stop",
+            (true, Queue::Full) if status => "Offering: stalled, full, status",
+            (true, Queue::Full) => "Offering: stalled, full",
+        };
+        self.seen(found);
+        self.stalled = input.queue == Queue::Full;
+        if done && !stops {
+            self.seen(if answer.event.is_some() { "Offering: StoppedAt handed on, CopyDone" } else { "Offering: StoppedAt dropped, CopyDone" });
+        } else if answer.state == State::Offering && input.queue != Queue::Full {
+            self.seen("Offering: StoppedAt is next");
+        }
+    }
+
+    /// One line for each test and refusal, how often it was reached; then what was not.
+    pub fn print(&self) -> (String, Vec<String>) {
+        let (mut lines, mut missing) = (Vec::new(), Vec::new());
+        let mut line = |what: String, count: u64| {
+            lines.push(format!("{count:>12}  {what}"));
+            if count == 0 {
+                missing.push(what);
+            }
+        };
+        for row in ROWS {
+            line(row.to_string(), self.reached.get(row).copied().unwrap_or(0));
+        }
+        for (state, numbers) in REFUSALS {
+            for number in *numbers {
+                line(format!("{state}: refusal {number}"), self.refusals.get(&(*state, *number)).copied().unwrap_or(0));
+            }
+        }
+        (lines.join("\n"), missing)
+    }
+}

@@ -1,0 +1,234 @@
+//! A side that is played step by step, as document 01 maps it: unread bytes are what the read buffer holds, or in a read the next piece;
+//! a step is made as long as one does something, then at the next moment at which something happens or a time is up.
+
+use crate::coverage::Coverage;
+use crate::record::{Event, Line, Metrics, Record};
+use crate::scenario::{Happening, Scenario};
+use crate::side::Side;
+use std::collections::VecDeque;
+
+#[derive(Clone, Copy, Debug, PartialEq)]
+pub enum State {
+    Opening,
+    Turn,
+    Drain,
+    Reading,
+    Waiting,
+    Handling,
+    Offering,
+    Ended,
+}
+
+#[derive(Clone, Copy, Debug, PartialEq)]
+pub enum Queue {
+    Free,
+    Full,
+    Closed,
+}
+
+pub struct Input<'a> {
+    /// Nanoseconds.
+    pub moment: u64,
+    pub client_time: i64,
+    pub stop: bool,
+    pub queue: Queue,
+    pub unread: &'a [u8],
+    pub ended: bool,
+}
+
+#[derive(Debug)]
+pub struct Answer {
+    pub refusal: u8,
+    pub taken: usize,
+    /// The state entered or kept.
+    pub state: State,
+    pub written: Vec<u8>,
+    pub waited: Option<u64>,
+    pub event: Option<Event>,
+    /// The server's error as a text, with refusal 19.
+    pub error: Vec<u8>,
+}
+
+/// The calls of a run.
+pub trait Steps {
+    /// Begins a fresh run of the scenario's settings, its names and positions; the bytes of the query, none where it is open.
+    fn begin(&mut self, scenario: &Scenario) -> Vec<u8>;
+    fn step(&mut self, input: &Input) -> Answer;
+    fn report(&mut self, position: u64, moment: u64);
+    fn metrics(&self) -> Metrics;
+}
+
+/// Moment 0 of a scenario, as a step's moment; a step takes none below 1.
+fn moment_of(millis: u64) -> u64 {
+    (millis + 1) * 1_000_000
+}
+
+/// No scenario in the domain makes so many steps at one moment: a run that does goes round for ever.
+const MOST_STEPS: usize = 2_000_000;
+
+pub struct Stepped<R: Steps> {
+    pub name: &'static str,
+    pub run: R,
+    pub coverage: Coverage,
+    /// Steps made, all scenarios together.
+    pub steps: u64,
+}
+
+/// What the host of a run keeps beside it.
+struct Host<'a> {
+    scenario: &'a Scenario,
+    client_times: &'a [i64],
+    statuses: usize,
+    state: State,
+    held: VecDeque<u8>,
+    pieces: VecDeque<&'a [u8]>,
+    ended: bool,
+    stop: bool,
+    room: usize,
+    queued: usize,
+    closed: bool,
+    last_status: Option<u64>,
+    wait_began: u64,
+    record: Record,
+}
+
+impl<R: Steps> Side for Stepped<R> {
+    fn name(&self) -> &'static str {
+        self.name
+    }
+
+    fn run(&mut self, scenario: &Scenario, client_times: &[i64]) -> Record {
+        let query = self.run.begin(scenario);
+        let mut host = Host {
+            scenario,
+            client_times,
+            statuses: 0,
+            state: if scenario.open { State::Turn } else { State::Opening },
+            held: VecDeque::new(),
+            pieces: VecDeque::new(),
+            ended: false,
+            stop: false,
+            room: scenario.queue,
+            queued: 0,
+            closed: false,
+            last_status: None,
+            wait_began: 0,
+            record: Record::default(),
+        };
+        if !scenario.open {
+            host.record.lines.push((0, Line::Write(query)));
+        }
+        let mut now = 0;
+        for (i, round) in scenario.rounds.iter().enumerate() {
+            while let Some(due) = host.due(now).filter(|due| i > 0 && *due < round.at) {
+                now = due;
+                self.settle(&mut host, now);
+            }
+            if host.state == State::Ended {
+                break;
+            }
+            now = round.at;
+            for what in &round.what {
+                match what {
+                    Happening::Bytes(bytes) => host.pieces.push_back(bytes),
+                    Happening::End => host.ended = true,
+                    Happening::Stop => host.stop = true,
+                    Happening::Report(position) => self.run.report(*position, moment_of(now)),
+                    Happening::Take(n) => host.queued -= host.queued.min(*n),
+                    Happening::Close => host.closed = true,
+                }
+            }
+            self.settle(&mut host, now);
+            host.record.metrics.push(self.run.metrics());
+        }
+        host.record
+    }
+}
+
+impl<R: Steps> Stepped<R> {
+    /// Makes steps until one does nothing.
+    fn settle(&mut self, host: &mut Host, now: u64) {
+        for _ in 0..MOST_STEPS {
+            if host.state == State::Ended {
+                return;
+            }
+            let reads = matches!(host.state, State::Opening | State::Reading | State::Waiting);
+            let next = reads && host.held.is_empty();
+            let piece = if next { host.pieces.front().copied() } else { None };
+            let unread: &[u8] = match piece {
+                Some(piece) => piece,
+                None => host.held.make_contiguous(),
+            };
+            let queue = match (host.closed, host.queued < host.room) {
+                (true, _) => Queue::Closed,
+                (_, true) => Queue::Free,
+                _ => Queue::Full,
+            };
+            let input = Input {
+                moment: moment_of(now),
+                client_time: host.client_times.get(host.statuses).copied().unwrap_or(0),
+                stop: host.stop,
+                queue,
+                unread,
+                ended: host.ended && host.pieces.is_empty() && unread.is_empty(),
+            };
+            let answer = self.run.step(&input);
+            self.steps += 1;
+            self.coverage.step(host.state, &input, &answer);
+            if let (Some(piece), true) = (piece, answer.taken > 0) {
+                host.record.lines.push((now, Line::Piece(piece.len())));
+                host.held.extend(piece);
+                host.pieces.pop_front();
+            }
+            // An offer to a closed queue drops an event, which does not show where StoppedAt is next.
+            let offers = host.state == State::Offering && queue != Queue::Full;
+            let idle = answer.taken == 0 && answer.state == host.state && answer.written.is_empty() && !offers;
+            host.take_in(answer, now);
+            if idle && host.state != State::Ended {
+                return;
+            }
+        }
+        panic!("the run makes steps without end");
+    }
+}
+
+impl Host<'_> {
+    fn take_in(&mut self, answer: Answer, now: u64) {
+        self.held.drain(..answer.taken);
+        // Of a step's doings the event comes first, save in the answer to a keepalive, where it is a later step's.
+        if let Some(event) = answer.event {
+            self.queued += 1;
+            self.record.lines.push((now, Line::Event(event)));
+        }
+        if !answer.written.is_empty() {
+            if crate::record::client_time(&answer.written).is_some() {
+                self.statuses += 1;
+                self.last_status = Some(now);
+            }
+            self.record.lines.push((now, Line::Write(answer.written)));
+        }
+        if let Some(time) = answer.waited {
+            self.record.lines.push((now, Line::Waited(time)));
+        }
+        if answer.state == State::Waiting && self.state != State::Waiting {
+            self.wait_began = now;
+        }
+        self.state = answer.state;
+        if self.state == State::Ended {
+            let text = if answer.refusal == 19 { answer.error } else { Vec::new() };
+            self.record.lines.push((now, Line::End(answer.refusal, text)));
+        }
+    }
+
+    /// The next moment at which a time may be up.
+    fn due(&self, now: u64) -> Option<u64> {
+        let status = self.last_status.map(|last| last + self.scenario.status);
+        let idle = Some(self.wait_began + self.scenario.idle);
+        let times = match self.state {
+            State::Offering => [status, None],
+            State::Waiting => [status, idle],
+            _ => [None, None],
+        };
+        times.into_iter().flatten().filter(|due| *due > now).min()
+    }
+}
