@@ -118,6 +118,16 @@ pub fn simple_query(server: &[u8], limit: usize) -> Query {
 
 // ---- writers
 
+/// What a writer wrote into a buffer, which is always ready and takes everything.
+macro_rules! written {
+    ($out:ident, $write:expr) => {{
+        let mut buffer = Vec::new();
+        let $out = &mut buffer;
+        polled($write).expect("ready").expect("written");
+        buffer
+    }};
+}
+
 pub fn write_startup(version: i32, parameters: &[(&str, &str)]) -> Vec<u8> {
     written!(out, write_startup_message(out, version, parameters))
 }
@@ -235,14 +245,3 @@ fn polled<T>(future: impl Future<Output = T>) -> Option<T> {
         Poll::Pending => None,
     }
 }
-
-/// What a writer wrote into a buffer, which is always ready and takes everything.
-macro_rules! written {
-    ($out:ident, $write:expr) => {{
-        let mut buffer = Vec::new();
-        let $out = &mut buffer;
-        polled($write).expect("ready").expect("written");
-        buffer
-    }};
-}
-use written;

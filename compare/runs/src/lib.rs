@@ -4,6 +4,7 @@ pub mod compare;
 pub mod coverage;
 pub mod draw;
 pub mod generate;
+pub mod leaf;
 pub mod leaves;
 pub mod original;
 pub mod record;

@@ -1,6 +1,6 @@
 //! The Rust, unchanged, on a scripted stream under tokio's paused clock.
 
-use crate::record::{Event, Line, Metrics, Record};
+use crate::record::{client_time, put_client_time, Event, Line, Metrics, Record};
 use crate::scenario::{Happening, Scenario};
 use crate::side::Side;
 use original::client::metrics::ReplicationMetrics;
@@ -329,6 +329,8 @@ fn fix_origin() {
 pub struct Original {
     /// The text of the error that ended the last run.
     pub said: Option<String>,
+    /// The number with which the last run ended.
+    pub ended: Option<u8>,
 }
 
 impl Side for Original {
@@ -338,7 +340,32 @@ impl Side for Original {
 
     fn run(&mut self, scenario: &Scenario, _client_times: &[i64]) -> Record {
         fix_origin();
-        paused().block_on(self.play(scenario))
+        let record = paused().block_on(self.play(scenario));
+        self.ended = record.end();
+        record
+    }
+}
+
+/// The Rust once more, with client times that it was handed in the place of its own.
+#[derive(Default)]
+pub struct Copied(Original);
+
+impl Side for Copied {
+    fn name(&self) -> &'static str {
+        "rust again"
+    }
+
+    fn run(&mut self, scenario: &Scenario, client_times: &[i64]) -> Record {
+        let mut record = self.0.run(scenario, &[]);
+        let mut times = client_times.iter();
+        for (_, line) in &mut record.lines {
+            if let Line::Write(bytes) = line {
+                if client_time(bytes).is_some() {
+                    put_client_time(bytes, times.next().copied().unwrap_or(0));
+                }
+            }
+        }
+        record
     }
 }
 
@@ -405,11 +432,10 @@ impl Original {
         self.said = worker.outcome.as_ref().and_then(|o| o.as_ref().err()).map(|e| e.to_string());
         drop(worker);
         let notes = std::mem::take(&mut wire.lock().unwrap().notes);
-        let line = |noted| match noted {
+        let mut line = |noted| match noted {
             Noted::Line(line) => line,
             Noted::Event => Line::Event(taken.pop_front().expect("as many events as were counted")),
         };
-        let mut line = line;
         record.lines = notes.into_iter().map(|(at, noted)| (at, line(noted))).collect();
         assert!(taken.is_empty(), "more events than were counted");
         record

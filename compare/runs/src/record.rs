@@ -40,9 +40,13 @@ pub struct Record {
 
 pub const STATUS: usize = 39;
 
-/// A status's client time: eight bytes behind the header, the letter and three positions.
+/// A status's client time: eight bytes behind the header, the letter and three positions. None where it is no status.
 pub fn client_time(write: &[u8]) -> Option<i64> {
-    (write.len() == STATUS && write[5] == b'r').then(|| i64::from_be_bytes(write[30..38].try_into().unwrap()))
+    (write.len() == STATUS && write[0] == b'd').then(|| i64::from_be_bytes(write[30..38].try_into().unwrap()))
+}
+
+pub fn put_client_time(status: &mut [u8], time: i64) {
+    status[30..38].copy_from_slice(&time.to_be_bytes());
 }
 
 impl Record {

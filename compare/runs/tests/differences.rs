@@ -1,0 +1,133 @@
+//! The comparison itself: equal sides agree, sides that differ are found out, and what is shown is small.
+
+use runs::compare::{compare, shrink};
+use runs::generate::scenario;
+use runs::leaf::{compare_leaves, Leaves, OriginalLeaves, Spelling};
+use runs::original::{Copied, Original};
+use runs::record::{Event, Line, Record};
+use runs::scenario::{Happening, Scenario};
+use runs::side::Side;
+use std::time::Duration;
+
+/// The Rust with its records changed.
+struct Changed(Copied, fn(&mut Record));
+
+impl Side for Changed {
+    fn name(&self) -> &'static str {
+        "changed"
+    }
+
+    fn run(&mut self, scenario: &Scenario, client_times: &[i64]) -> Record {
+        let mut record = self.0.run(scenario, client_times);
+        self.1(&mut record);
+        record
+    }
+}
+
+fn size(s: &Scenario) -> usize {
+    let weight = |what: &Happening| if let Happening::Bytes(b) = what { b.len() } else { 1 };
+    s.rounds.iter().map(|round| 1 + round.what.iter().map(weight).sum::<usize>()).sum()
+}
+
+/// The smallest scenario that shows the change.
+fn found(change: fn(&mut Record)) -> Scenario {
+    let (mut first, mut second) = (Original::default(), Changed(Copied::default(), change));
+    for seed in 1..20_000 {
+        let s = scenario(seed);
+        if compare(&mut first, &mut second, &s).is_some() {
+            let small = shrink(&mut first, &mut second, &s, Duration::from_secs(60));
+            assert!(compare(&mut first, &mut second, &small).is_some());
+            assert!(size(&small) <= size(&s));
+            return small;
+        }
+    }
+    panic!("not found out");
+}
+
+#[test]
+fn the_rust_agrees_with_itself() {
+    let (mut first, mut second) = (Original::default(), Copied::default());
+    for seed in 1..3_000 {
+        let s = scenario(seed);
+        assert_eq!(compare(&mut first, &mut second, &s), None, "seed {seed}");
+    }
+}
+
+#[test]
+fn generated_scenarios_are_sound_and_read_back() {
+    for seed in 1..3_000 {
+        let s = scenario(seed);
+        assert_eq!(s.sound(), Ok(()), "seed {seed}");
+        assert!(s.in_domain(), "seed {seed}");
+        assert_eq!(Scenario::parse(&s.print()).as_ref(), Ok(&s), "seed {seed}");
+    }
+}
+
+#[test]
+fn a_changed_reply_byte_is_shown_by_one_keepalive() {
+    let small = found(|record| {
+        for (_, line) in &mut record.lines {
+            if let Line::Write(bytes) = line {
+                if bytes.len() == 39 {
+                    bytes[38] = 0;
+                }
+            }
+        }
+    });
+    // One round with one keepalive of 23 bytes.
+    assert_eq!(size(&small), 24, "{}", small.print());
+}
+
+#[test]
+fn a_lost_stopped_at_is_shown_by_one_message() {
+    let small = found(|record| record.lines.retain(|(_, line)| !matches!(line, Line::Event(Event::StoppedAt { .. }))));
+    assert!(size(&small) <= 32, "{}", small.print());
+}
+
+#[test]
+fn a_changed_metric_is_shown() {
+    let small = found(|record| record.metrics.iter_mut().for_each(|m| m[4] = 0));
+    assert!(size(&small) <= 63, "{}", small.print());
+}
+
+#[test]
+fn a_waiting_time_is_compared() {
+    let small = found(|record| {
+        for (_, line) in &mut record.lines {
+            if let Line::Waited(time) = line {
+                *time = (*time).min(2_000_000);
+            }
+        }
+    });
+    assert!(small.timing && size(&small) <= 40, "{}", small.print());
+}
+
+#[test]
+fn a_changed_moment_is_compared() {
+    let small = found(|record| record.lines.iter_mut().for_each(|(at, _)| *at = (*at).min(40)));
+    assert!(size(&small) <= 6, "{}", small.print());
+}
+
+/// Takes a lone plus sign for zero.
+struct Lax;
+
+impl Leaves for Lax {
+    fn name(&self) -> &'static str {
+        "lax"
+    }
+
+    fn answer(&mut self, kind: u8, input: &[u8], out: &mut Spelling) {
+        if kind == b'p' && input == b"+/0" {
+            out.refusal(0);
+            out.number(0);
+            return;
+        }
+        OriginalLeaves.answer(kind, input, out)
+    }
+}
+
+#[test]
+fn a_leaf_that_differs_is_found() {
+    let said = compare_leaves(&mut OriginalLeaves, &mut Lax, 0, 1).unwrap_err();
+    assert_eq!(said, "leaf p 2b2f30\nrust: 17\nlax: 000000000000000000");
+}
