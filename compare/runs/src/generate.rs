@@ -360,10 +360,50 @@ fn rounds(draw: &mut Draw, s: &Scenario, pieces: Vec<Vec<u8>>) -> Vec<Round> {
     rounds
 }
 
+/// More messages than one drain takes, cut inside some of them, so that a stop, a report or a time that is up meets the drain midway.
+fn long_drain(draw: &mut Draw, mut s: Scenario) -> Scenario {
+    (s.open, s.limit) = (true, 65_536);
+    s.queue = draw.pick(&[1_000, 1_000, 300, 250, 256]);
+    (s.status, s.idle) = (draw.pick(&[1, 3, 5]), draw.pick(&[1, 5, 50]));
+    s.stop_at = None;
+    let n = if draw.once_in(2) { 250 + draw.size(14) } else { 250 + draw.size(320) };
+    let quiet = draw.below(5);
+    let all: Vec<Vec<u8>> = (0..n).map(|_| if draw.below(5) < quiet { framed(b'N', &[]) } else { keepalive(position(draw), 0, 0) }).collect();
+    let whole = all.concat();
+    let mut cuts: Vec<usize> = (0..1 + draw.size(3)).map(|i| draw.size(if i == 0 { 400.min(whole.len()) } else { whole.len() })).collect();
+    cuts.sort();
+    cuts.push(whole.len());
+    let (mut from, mut at) = (0, 0);
+    let stop_in = draw.size(8);
+    for (i, cut) in cuts.into_iter().enumerate() {
+        let mut what = Vec::new();
+        if from < cut {
+            what.push(Happening::Bytes(whole[from..cut].to_vec()));
+            from = cut;
+        }
+        if draw.once_in(3) {
+            what.push(Happening::Report(position(draw)));
+        }
+        if draw.once_in(4) {
+            what.push(Happening::Take(draw.size(300)));
+        }
+        if i == stop_in {
+            what.push(Happening::Stop);
+        }
+        s.rounds.push(Round { at, what });
+        at += gap(draw, &s);
+        s.rounds.extend(draw.once_in(2).then(|| Round { at, what: vec![Happening::Take(1 + draw.size(200))] }));
+    }
+    s
+}
+
 pub fn scenario(seed: u64) -> Scenario {
     let mut draw = Draw::new(seed);
     let draw = &mut draw;
     let mut s = settings(draw);
+    if draw.once_in(40) {
+        return long_drain(draw, s);
+    }
     let mut all = Vec::new();
     if !s.open {
         s.limit = s.limit.max(60);

@@ -63,8 +63,12 @@ fn moment_of(millis: u64) -> u64 {
     (millis + 1) * 1_000_000
 }
 
-/// No scenario in the domain makes so many steps at one moment: a run that does goes round for ever.
-const MOST_STEPS: usize = 2_000_000;
+/// Every message has 5 bytes at least and takes fewer than 20 steps: a run that makes more at one moment goes round for ever.
+fn most_steps(scenario: &Scenario) -> usize {
+    let pieces = scenario.rounds.iter().flat_map(|round| &round.what);
+    let bytes = pieces.map(|what| if let Happening::Bytes(bytes) = what { bytes.len() } else { 0 });
+    1_000 + 4 * bytes.sum::<usize>()
+}
 
 pub struct Stepped<R: Steps> {
     pub name: &'static str,
@@ -77,6 +81,7 @@ pub struct Stepped<R: Steps> {
 /// What the host of a run keeps beside it.
 struct Host<'a> {
     scenario: &'a Scenario,
+    most_steps: usize,
     client_times: &'a [i64],
     statuses: usize,
     state: State,
@@ -101,6 +106,7 @@ impl<R: Steps> Side for Stepped<R> {
         let query = self.run.begin(scenario);
         let mut host = Host {
             scenario,
+            most_steps: most_steps(scenario),
             client_times,
             statuses: 0,
             state: if scenario.open { State::Turn } else { State::Opening },
@@ -148,7 +154,7 @@ impl<R: Steps> Side for Stepped<R> {
 impl<R: Steps> Stepped<R> {
     /// Makes steps until one does nothing.
     fn settle(&mut self, host: &mut Host, now: u64) {
-        for _ in 0..MOST_STEPS {
+        for _ in 0..host.most_steps {
             if host.state == State::Ended {
                 return;
             }
