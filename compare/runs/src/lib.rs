@@ -6,6 +6,7 @@ pub mod draw;
 pub mod generate;
 pub mod leaf;
 pub mod leaves;
+pub mod modelled;
 pub mod original;
 pub mod record;
 pub mod scenario;

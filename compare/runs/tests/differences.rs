@@ -3,6 +3,7 @@
 use runs::compare::{compare, shrink};
 use runs::generate::scenario;
 use runs::leaf::{compare_leaves, Leaves, OriginalLeaves, Spelling};
+use runs::modelled;
 use runs::original::{Copied, Original};
 use runs::record::{Event, Line, Record};
 use runs::scenario::{Happening, Scenario};
@@ -47,6 +48,15 @@ fn found(change: fn(&mut Record)) -> Scenario {
 #[test]
 fn the_rust_agrees_with_itself() {
     let (mut first, mut second) = (Original::default(), Copied::default());
+    for seed in 1..3_000 {
+        let s = scenario(seed);
+        assert_eq!(compare(&mut first, &mut second, &s), None, "seed {seed}");
+    }
+}
+
+#[test]
+fn the_model_agrees_with_the_rust() {
+    let (mut first, mut second) = (Original::default(), modelled::side());
     for seed in 1..3_000 {
         let s = scenario(seed);
         assert_eq!(compare(&mut first, &mut second, &s), None, "seed {seed}");

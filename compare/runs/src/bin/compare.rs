@@ -1,11 +1,12 @@
 //! Compares two sides: compare [SCENARIOS [LEAF INPUTS [SEED]]]
 //!
-//! Until the project's own side is linked, the second side is the Rust once more.
+//! Until the project's own side is linked, the second side is the model of a run in `vectors/`, and for the leaves the Rust once more.
 
 use runs::compare::{compare, shrink};
 use runs::generate::scenario;
 use runs::leaf::{compare_leaves, OriginalLeaves};
-use runs::original::{Copied, Original};
+use runs::modelled;
+use runs::original::Original;
 use runs::scenario::Scenario;
 use runs::side::Side;
 use std::collections::BTreeMap;
@@ -34,7 +35,7 @@ fn main() {
     };
     let (scenarios, leaves, seed) = (number(1, 100_000), number(2, 10_000_000), number(3, 1));
 
-    let (mut first, mut second) = (Original::default(), Copied::default());
+    let (mut first, mut second) = (Original::default(), modelled::side());
     let mut ends: BTreeMap<String, u64> = BTreeMap::new();
     let begun = Instant::now();
     for i in seed..seed + scenarios {
@@ -44,8 +45,13 @@ fn main() {
         }
         *ends.entry(first.ended.map_or("none".to_string(), |n| n.to_string())).or_insert(0) += 1;
     }
-    println!("{scenarios} scenarios in {:.0} s, no difference", begun.elapsed().as_secs_f64());
+    let (reached, missing) = second.coverage.print();
+    println!("{reached}");
+    println!("{scenarios} scenarios, {} steps, in {:.0} s, no difference", second.steps, begun.elapsed().as_secs_f64());
     println!("ends: {}", ends.iter().map(|(end, n)| format!("{end}: {n}")).collect::<Vec<_>>().join(", "));
+    if scenarios >= 100_000 && !missing.is_empty() {
+        fails(format!("not reached: {}", missing.join("; ")));
+    }
 
     let begun = Instant::now();
     match compare_leaves(&mut OriginalLeaves, &mut OriginalLeaves, leaves, seed) {

@@ -1,0 +1,120 @@
+//! The model of `vectors/`, which was read off document 01, as a side.
+
+use crate::leaves::error_text;
+use crate::record::{Event, Metrics, STATUS};
+use crate::scenario::Scenario;
+use crate::stepped::{Answer, Input, Queue, State, Stepped, Steps};
+
+#[derive(Default)]
+pub struct Modelled {
+    run: Option<model::Run>,
+    payload: Vec<u8>,
+    /// The message being read, and the last whole one's payload: its error's text is not the model's matter.
+    reading: Vec<u8>,
+    whole: Vec<u8>,
+}
+
+pub fn side() -> Stepped<Modelled> {
+    Stepped { name: "model", run: Modelled::default(), coverage: Default::default(), steps: 0 }
+}
+
+impl Modelled {
+    fn run(&mut self) -> &mut model::Run {
+        self.run.as_mut().expect("a run that was begun")
+    }
+
+    fn read(&mut self, taken: &[u8]) {
+        self.reading.extend_from_slice(taken);
+        let length = self.reading.get(1..5).map(|l| i32::from_be_bytes(l.try_into().unwrap()));
+        if length.is_some_and(|n| n as i64 + 1 == self.reading.len() as i64) {
+            self.whole = self.reading.split_off(5);
+            self.reading.clear();
+        }
+    }
+}
+
+impl Steps for Modelled {
+    fn begin(&mut self, s: &Scenario) -> Vec<u8> {
+        let millis = 1_000_000;
+        let settings = model::Settings {
+            status: s.status * millis,
+            idle: s.idle * millis,
+            limit: s.limit,
+            stop_at: s.stop_at,
+            timing: s.timing,
+            binary: s.binary,
+        };
+        let names: Vec<Vec<u8>> = s.publications.iter().map(|p| p.as_bytes().to_vec()).collect();
+        let query = if s.open { Vec::new() } else { model::query(&settings, s.slot.as_bytes(), &names, s.query) };
+        let state = if s.open { model::State::Turn } else { model::State::Opening };
+        self.run = Some(model::Run::new(settings, s.start, state));
+        self.payload = vec![0; s.limit as usize];
+        self.reading.clear();
+        query
+    }
+
+    fn step(&mut self, input: &Input) -> Answer {
+        let queue = match input.queue {
+            Queue::Free => model::Queue::Free,
+            Queue::Full => model::Queue::Full,
+            Queue::Closed => model::Queue::Closed,
+        };
+        let lent = model::Input {
+            moment: input.moment,
+            client_time: input.client_time,
+            stop: input.stop,
+            queue,
+            unread: input.unread,
+            ended: input.ended,
+        };
+        let mut out = [0; STATUS];
+        let run = self.run.as_mut().expect("a run that was begun");
+        let answer = run.step(&lent, &mut self.payload, &mut out);
+        let state = state_of(run.state);
+        self.read(&input.unread[..answer.taken]);
+        Answer {
+            refusal: answer.refusal,
+            taken: answer.taken,
+            state,
+            written: out[..answer.written].to_vec(),
+            waited: answer.waited,
+            event: answer.event.map(event_of),
+            error: if answer.refusal == 19 { error_text(&self.whole) } else { Vec::new() },
+        }
+    }
+
+    fn report(&mut self, position: u64, moment: u64) {
+        self.run().report(position, moment)
+    }
+
+    fn metrics(&self) -> Metrics {
+        let m = &self.run.as_ref().expect("a run that was begun").metrics;
+        [m.events, m.statuses, m.replies, m.stalls, m.stall_micros, m.last_applied, m.last_wal_end]
+    }
+}
+
+fn state_of(state: model::State) -> State {
+    match state {
+        model::State::Opening => State::Opening,
+        model::State::Turn => State::Turn,
+        model::State::Drain => State::Drain,
+        model::State::Reading => State::Reading,
+        model::State::Waiting => State::Waiting,
+        model::State::Handling => State::Handling,
+        model::State::Offering => State::Offering,
+        model::State::Ended => State::Ended,
+    }
+}
+
+fn event_of(event: model::Event) -> Event {
+    match event {
+        model::Event::KeepAlive { end, time, reply } => Event::KeepAlive { end, time, reply },
+        model::Event::Begin { end, time, xid } => Event::Begin { last: end, time, xid },
+        model::Event::Commit { position, end, time } => Event::Commit { position, end, time },
+        model::Event::Message { flag, position, prefix, content } => {
+            Event::Message { flag, position, prefix: crate::leaves::lossy(&prefix).into_bytes(), content }
+        }
+        model::Event::Other { start, end, time, data } => Event::Data { start, end, time, data },
+        model::Event::StoppedAt { reached } => Event::StoppedAt { reached },
+    }
+}
