@@ -28,6 +28,7 @@ const ROWS: &[&str] = &[
     "Reading: whole",
     "Reading: unfinished",
     "Reading: unfinished, stop seen",
+    "Reading: unfinished, status interval up",
     "Waiting: stop",
     "Waiting: stop and bytes",
     "Waiting: stop and the end",
@@ -39,6 +40,15 @@ const ROWS: &[&str] = &[
     "Waiting: signalled and bytes",
     "Waiting: signalled and the end",
     "Waiting: whole",
+    "Waiting: whole, idle interval up",
+    "Waiting: refusal, idle interval up",
+    "Waiting: stop, idle interval up",
+    "Waiting: stop, status interval up",
+    "Waiting: signalled, idle interval up",
+    "Waiting: pending status",
+    "Waiting: idle status",
+    "Waiting: status, both intervals up",
+    "Waiting: not pending, status interval up",
     "Waiting: stays",
     "Waiting: stays, bytes taken",
     "Handling: skipped, to drain",
@@ -56,6 +66,7 @@ const ROWS: &[&str] = &[
     "Offering: stalled, full, status",
     "Offering: stalled, full, stop",
     "Offering: stalled, free",
+    "Offering: stalled, free, status interval up",
     "Offering: stalled, free, stop",
     "Offering: stalled, closed",
     "Offering: stalled, closed, stop",
@@ -88,12 +99,20 @@ fn name(state: State) -> &'static str {
     }
 }
 
+/// Which times are up.
+pub struct Up {
+    pub status: bool,
+    /// Since the wait began.
+    pub idle: bool,
+}
+
 impl Coverage {
     fn seen(&mut self, what: &'static str) {
         *self.reached.entry(what).or_insert(0) += 1;
     }
 
-    pub fn step(&mut self, before: State, input: &Input, answer: &Answer) {
+    pub fn step(&mut self, before: State, input: &Input, answer: &Answer, up: Up) {
+        self.times(before, answer, up);
         if answer.refusal != 0 {
             *self.refusals.entry((name(before), answer.refusal)).or_insert(0) += 1;
             return;
@@ -124,6 +143,25 @@ impl Coverage {
             State::Offering => self.offering(input, answer, status),
             State::Ended => {}
         }
+    }
+
+    fn times(&mut self, before: State, answer: &Answer, up: Up) {
+        let status = answer.written.len() == crate::record::STATUS;
+        let found = match (before, answer.state) {
+            (State::Reading, State::Reading) if up.status => "Reading: unfinished, status interval up",
+            (State::Waiting, State::Handling) if up.idle => "Waiting: whole, idle interval up",
+            (State::Waiting, State::Ended) if up.idle && answer.refusal != 0 => "Waiting: refusal, idle interval up",
+            (State::Waiting, State::Ended) if up.idle => "Waiting: stop, idle interval up",
+            (State::Waiting, State::Ended) if up.status && answer.refusal == 0 => "Waiting: stop, status interval up",
+            (State::Waiting, State::Turn) if up.idle && !status => "Waiting: signalled, idle interval up",
+            (State::Waiting, State::Turn) if status && up.idle && up.status => "Waiting: status, both intervals up",
+            (State::Waiting, State::Turn) if status && up.idle => "Waiting: idle status",
+            (State::Waiting, State::Turn) if status => "Waiting: pending status",
+            (State::Waiting, State::Waiting) if up.status => "Waiting: not pending, status interval up",
+            (State::Offering, _) if self.stalled && up.status && answer.event.is_some() => "Offering: stalled, free, status interval up",
+            _ => return,
+        };
+        self.seen(found);
     }
 
     fn drain(&mut self, input: &Input, answer: &Answer) {

@@ -397,10 +397,64 @@ fn long_drain(draw: &mut Draw, mut s: Scenario) -> Scenario {
     s
 }
 
+/// A run that waits, reads or is stalled, and a moment at which a time is up and several things happen at once.
+fn together(draw: &mut Draw, mut s: Scenario) -> Scenario {
+    (s.open, s.limit, s.queue) = (true, 65_536, 1);
+    (s.status, s.idle) = (draw.pick(&[2, 3, 4, 6]), draw.pick(&[2, 3, 4, 6, 50]));
+    let all: Vec<Vec<u8>> = (0..1 + draw.size(4)).map(|_| good(draw)).collect();
+    let whole = all.concat();
+    // Where the first piece ends: nowhere, in a header, behind one, behind a message, inside another.
+    let first = all[0].len();
+    let cut = draw.pick(&[0, 0, 1, 4, 5, 6, first, first + 1, first + 4, first + 5, first + 6, whole.len()]).min(whole.len());
+    let mut begin = Vec::new();
+    if cut > 0 {
+        begin.push(Happening::Bytes(whole[..cut].to_vec()));
+    }
+    s.rounds.push(Round { at: 0, what: begin });
+    let mut at = 0;
+    if draw.once_in(2) {
+        at += draw.pick(&[0, 1, s.status - 1]);
+        s.rounds.push(Round { at, what: vec![Happening::Report(position(draw))] });
+    }
+    at = at.max(draw.pick(&[s.status, s.idle, s.idle, s.status + s.idle, 2 * s.status, s.status - 1]));
+    let mut what = Vec::new();
+    let mut rest = (cut < whole.len()).then(|| Happening::Bytes(whole[cut..].to_vec()));
+    let mut stopped = false;
+    for _ in 0..draw.pick(&[1, 1, 2]) {
+        what.extend(if draw.once_in(2) { rest.take() } else { None });
+        if !stopped && draw.once_in(3) {
+            stopped = true;
+            what.push(Happening::Stop);
+        }
+        what.extend(draw.once_in(2).then(|| Happening::Report(position(draw))));
+        what.extend(draw.once_in(2).then(|| Happening::Take(1 + draw.size(3))));
+        what.extend(draw.once_in(4).then_some(Happening::Close));
+        s.rounds.push(Round { at, what: std::mem::take(&mut what) });
+        at += draw.pick(&[0, 0, 1, s.status, s.idle]);
+    }
+    if draw.once_in(2) {
+        // The end comes with the last of it, where all bytes are there; else behind them.
+        what.extend(rest.take());
+        let last = s.rounds.last_mut().unwrap();
+        if what.is_empty() && draw.once_in(2) {
+            last.what.push(Happening::End);
+        } else {
+            what.push(Happening::End);
+        }
+    }
+    what.extend(rest.take());
+    s.rounds.push(Round { at, what });
+    s.rounds.push(Round { at: at + s.status.max(s.idle).min(6), what: vec![Happening::Take(2)] });
+    s
+}
+
 pub fn scenario(seed: u64) -> Scenario {
     let mut draw = Draw::new(seed);
     let draw = &mut draw;
     let mut s = settings(draw);
+    if draw.once_in(5) {
+        return together(draw, s);
+    }
     if draw.once_in(40) {
         return long_drain(draw, s);
     }

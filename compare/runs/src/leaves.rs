@@ -7,9 +7,7 @@ use original::client::worker::reach;
 pub use original::client::worker::reach::Cell;
 use original::error::PgWireError;
 use original::lsn::Lsn;
-use original::protocol::framing::{
-    write_copy_data, write_copy_done, write_query, write_startup_message, MessageReader, MAX_MESSAGE_SIZE,
-};
+use original::protocol::framing::{write_copy_data, write_copy_done, write_query, write_startup_message, MessageReader, MAX_MESSAGE_SIZE};
 use original::protocol::messages::{parse_auth_request, parse_error_response, ErrorFields};
 use original::protocol::replication::{encode_standby_status_update, parse_copy_data, ReplicationCopyData};
 use std::future::Future;
@@ -50,8 +48,21 @@ pub fn lossy(text: &[u8]) -> String {
 pub fn error_fields(payload: &[u8]) -> [Option<String>; 15] {
     let f = ErrorFields::parse(payload);
     [
-        f.severity, f.code, f.message, f.detail, f.hint, f.position, f.where_, f.schema, f.table, f.column, f.data_type, f.constraint, f.file,
-        f.line, f.routine,
+        f.severity,
+        f.code,
+        f.message,
+        f.detail,
+        f.hint,
+        f.position,
+        f.where_,
+        f.schema,
+        f.table,
+        f.column,
+        f.data_type,
+        f.constraint,
+        f.file,
+        f.line,
+        f.routine,
     ]
 }
 

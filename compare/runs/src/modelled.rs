@@ -59,14 +59,8 @@ impl Steps for Modelled {
             Queue::Full => model::Queue::Full,
             Queue::Closed => model::Queue::Closed,
         };
-        let lent = model::Input {
-            moment: input.moment,
-            client_time: input.client_time,
-            stop: input.stop,
-            queue,
-            unread: input.unread,
-            ended: input.ended,
-        };
+        let lent =
+            model::Input { moment: input.moment, client_time: input.client_time, stop: input.stop, queue, unread: input.unread, ended: input.ended };
         let mut out = [0; STATUS];
         let run = self.run.as_mut().expect("a run that was begun");
         let answer = run.step(&lent, &mut self.payload, &mut out);

@@ -224,10 +224,9 @@ pub fn number_of(error: &PgWireError) -> u8 {
     match error {
         PgWireError::MessageTooLarge { .. } => 7,
         PgWireError::Server(_) => 19,
-        PgWireError::Io(e) if e.kind() == io::ErrorKind::UnexpectedEof => begins(
-            &e.to_string(),
-            &[("EOF while reading backend message header", 8), ("EOF while reading backend message payload", 9)],
-        ),
+        PgWireError::Io(e) if e.kind() == io::ErrorKind::UnexpectedEof => {
+            begins(&e.to_string(), &[("EOF while reading backend message header", 8), ("EOF while reading backend message payload", 9)])
+        }
         PgWireError::Protocol(text) => begins(
             text,
             &[
@@ -266,15 +265,11 @@ pub fn event_of(event: ReplicationEvent) -> Event {
         ReplicationEvent::KeepAlive { wal_end, reply_requested, server_time_micros } => {
             Event::KeepAlive { end: wal_end.0, time: server_time_micros, reply: reply_requested }
         }
-        ReplicationEvent::Begin { final_lsn, xid, commit_time_micros } => {
-            Event::Begin { last: final_lsn.0, time: commit_time_micros, xid }
-        }
+        ReplicationEvent::Begin { final_lsn, xid, commit_time_micros } => Event::Begin { last: final_lsn.0, time: commit_time_micros, xid },
         ReplicationEvent::XLogData { wal_start, wal_end, server_time_micros, data } => {
             Event::Data { start: wal_start.0, end: wal_end.0, time: server_time_micros, data: data.to_vec() }
         }
-        ReplicationEvent::Commit { lsn, end_lsn, commit_time_micros } => {
-            Event::Commit { position: lsn.0, end: end_lsn.0, time: commit_time_micros }
-        }
+        ReplicationEvent::Commit { lsn, end_lsn, commit_time_micros } => Event::Commit { position: lsn.0, end: end_lsn.0, time: commit_time_micros },
         ReplicationEvent::Message { transactional, lsn, prefix, content } => {
             Event::Message { flag: transactional, position: lsn.0, prefix: prefix.into_bytes(), content: content.to_vec() }
         }

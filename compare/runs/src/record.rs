@@ -4,13 +4,37 @@ use crate::text::{hex, position};
 
 #[derive(Clone, Debug, PartialEq)]
 pub enum Event {
-    KeepAlive { end: u64, time: i64, reply: bool },
-    Begin { last: u64, time: i64, xid: u32 },
-    Commit { position: u64, end: u64, time: i64 },
+    KeepAlive {
+        end: u64,
+        time: i64,
+        reply: bool,
+    },
+    Begin {
+        last: u64,
+        time: i64,
+        xid: u32,
+    },
+    Commit {
+        position: u64,
+        end: u64,
+        time: i64,
+    },
     /// The prefix as its lossy text.
-    Message { flag: bool, position: u64, prefix: Vec<u8>, content: Vec<u8> },
-    Data { start: u64, end: u64, time: i64, data: Vec<u8> },
-    StoppedAt { reached: u64 },
+    Message {
+        flag: bool,
+        position: u64,
+        prefix: Vec<u8>,
+        content: Vec<u8>,
+    },
+    Data {
+        start: u64,
+        end: u64,
+        time: i64,
+        data: Vec<u8>,
+    },
+    StoppedAt {
+        reached: u64,
+    },
 }
 
 #[derive(Clone, Debug, PartialEq)]

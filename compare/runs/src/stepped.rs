@@ -1,7 +1,7 @@
 //! A side that is played step by step, as document 01 maps it: unread bytes are what the read buffer holds, or in a read the next piece;
 //! a step is made as long as one does something, then at the next moment at which something happens or a time is up.
 
-use crate::coverage::Coverage;
+use crate::coverage::{Coverage, Up};
 use crate::record::{Event, Line, Metrics, Record};
 use crate::scenario::{Happening, Scenario};
 use crate::side::Side;
@@ -180,7 +180,11 @@ impl<R: Steps> Stepped<R> {
             };
             let answer = self.run.step(&input);
             self.steps += 1;
-            self.coverage.step(host.state, &input, &answer);
+            let up = Up {
+                status: host.last_status.is_none_or(|last| now - last >= host.scenario.status),
+                idle: now - host.wait_began >= host.scenario.idle,
+            };
+            self.coverage.step(host.state, &input, &answer, up);
             if let (Some(piece), true) = (piece, answer.taken > 0) {
                 host.record.lines.push((now, Line::Piece(piece.len())));
                 host.held.extend(piece);

@@ -24,6 +24,11 @@ fn main() {
         *ends.entry(record.end()).or_insert(0) += 1;
     }
     let took = begun.elapsed();
-    println!("{count} scenarios, {lines} lines, {:.1} s, {:.0} a second; making them alone {:.1} s", took.as_secs_f64(), count as f64 / took.as_secs_f64(), made.as_secs_f64());
+    println!(
+        "{count} scenarios, {lines} lines, {:.1} s, {:.0} a second; making them alone {:.1} s",
+        took.as_secs_f64(),
+        count as f64 / took.as_secs_f64(),
+        made.as_secs_f64()
+    );
     println!("ends: {ends:?}");
 }
