@@ -156,10 +156,20 @@ impl Shrinking<'_> {
             Happening::Bytes(b) => b.len(),
             _ => 0,
         };
+        if length(&self.best) == 0 {
+            return;
+        }
         fn of(s: &mut Scenario, i: usize, j: usize) -> &mut Vec<u8> {
             match &mut s.rounds[i].what[j] {
                 Happening::Bytes(b) => b,
                 _ => unreachable!(),
+            }
+        }
+        // Whole messages, where the piece begins with one.
+        let mut from = 0;
+        while let Some(end) = message_end(of(&mut self.best, i, j), from) {
+            if !self.with(|s| drop(of(s, i, j).drain(from..end))) {
+                from = end;
             }
         }
         let mut size = length(&self.best);
@@ -208,27 +218,40 @@ impl Shrinking<'_> {
         self.with(|s| s.slot = plain.slot.clone());
         self.with(|s| s.publications = plain.publications.clone());
         self.with(|s| s.limit = plain.limit);
-        self.with(|s| s.queue = plain.queue);
-        self.with(|s| s.queue = 1);
-        for interval in [86_400_000, 1_000, 10, 5, 2, 1] {
-            self.with(|s| s.status = interval);
-            self.with(|s| s.idle = interval);
+        // Of these the first that will do.
+        for queue in [plain.queue, 1] {
+            if self.best.queue == queue || self.with(|s| s.queue = queue) {
+                break;
+            }
+        }
+        let intervals = [86_400_000, 1_000, 10, 5, 2, 1];
+        for interval in intervals {
+            if self.best.status == interval || self.with(|s| s.status = interval) {
+                break;
+            }
+        }
+        for interval in intervals {
+            if self.best.idle == interval || self.with(|s| s.idle = interval) {
+                break;
+            }
         }
     }
+}
+
+/// Where the message ends that begins at a place; None where it is not whole.
+fn message_end(bytes: &[u8], at: usize) -> Option<usize> {
+    let length = u32::from_be_bytes(bytes.get(at + 1..at + 5)?.try_into().unwrap()) as usize;
+    (length >= 4 && at + 1 + length <= bytes.len()).then_some(at + 1 + length)
 }
 
 /// Takes bytes out of a piece and off the length of the message in which they lie, where the piece begins with a message.
 fn shorten(bytes: &mut Vec<u8>, from: usize, to: usize, less: u32) {
     let mut at = 0;
-    while at + 5 <= from {
-        let length = u32::from_be_bytes(bytes[at + 1..at + 5].try_into().unwrap());
-        let end = at + 1 + length as usize;
-        if to <= end && at + 5 <= from && length >= 4 + less {
+    while let Some(end) = message_end(bytes, at) {
+        if at + 5 <= from && to <= end {
+            let length = (end - at - 1) as u32;
             bytes[at + 1..at + 5].copy_from_slice(&(length - less).to_be_bytes());
             bytes.drain(from..to);
-            return;
-        }
-        if length < 4 {
             return;
         }
         at = end;
