@@ -1,0 +1,14 @@
+use mir.Syntax.{w64}
+use mir.ValLaws.{toZ-ofZ}
+use borrow.Author.Needs.{needs}
+use Rattle.export.proofs.answers.input_of.Statement.{statement}
+use Rattle.export.proofs.answers.input_of.Tie as tie
+
+queue-of-requires : tie.Need-queue-of-requires
+queue-of-requires c κs = search needs
+
+returns : tie.Need-returns
+returns c = rw (c .queue-of .ensures, toZ-ofZ w64 (c .before .args .client-time) (c .before .fits .client-time))
+
+pub input-of-spec : {M : Type 1} → statement M
+input-of-spec = tie.close (tie.spec queue-of-requires returns)

@@ -1,0 +1,221 @@
+// Functions for a host in Rust or C: a run is 48 lent words, bytes are lent slices. No words are refused: any are the words of some run.
+mod answers;
+mod words;
+
+ghost use mathlib.Core.Path.{_≡_};
+ghost use lib.ListN.{length};
+ghost use Rattle.error.specs.Writer.{writing};
+ghost use Rattle.lossy.specs.Lossy.{lossyOf};
+ghost use Rattle.lsn.specs.Position.{displayOf, positionOf};
+ghost use Rattle.messages.specs.ErrorText.{errorText};
+ghost use Rattle.messages.specs.Fields.{fieldsOf};
+ghost use Rattle.schedule.specs.NextStep.{nextStepOf};
+ghost use Rattle.worker.specs.Answer.{errorPartOf, lent};
+ghost use Rattle.worker.specs.Opening.{alreadyOpenOf, openOf, reportOf};
+ghost use Rattle.worker.specs.Run.{lsn};
+ghost use Rattle.worker.specs.Step.{stepOf};
+ghost use Rattle.export.specs.Answers.{queueOf, inputOf, steppedWords, openedWords, alreadyOpenWords, nextWords, errorWords};
+ghost use Rattle.export.specs.Words.{moment as momentOf, stateWord, settingsOf, metricsWords, lastStatusWords, runOf, wordsOf};
+use answers::answer_words;
+use answers::error_words;
+use answers::input_of;
+use answers::lossy_reply;
+use answers::next_words;
+use answers::parsed_reply;
+use answers::queue_of;
+use answers::verdict_word;
+use answers::written_reply;
+use lsn::Lsn;
+use moment::Moment;
+use words::last_status_of;
+use words::last_status_words;
+use words::metrics_of;
+use words::metrics_words;
+use words::run_of;
+use words::settings_of;
+use words::state_of;
+use words::state_word;
+use words::words_of;
+
+// Writes the query that opens a stream. Refused, the run's words are as they were.
+#[no_mangle]
+pub extern "C" fn rufflesquash_open(
+    settings: &[u64; 7],
+    slot: &[u8],
+    publications: &[&[u8]],
+    position: u64,
+    start: u64,
+    run: &mut [u64; 48],
+    out: &mut [u8],
+    written: &mut u64,
+) -> u64
+    ensures { λ r. ⌜ (r, now (run .exit), now (written .exit), now (out .exit)) ≡ openedWords (now (run .entry)) (openOf (settingsOf (now (settings .entry))) (now (slot .entry)) (now (publications .entry)) (lsn position) (lsn start) (now (out .entry))) ⌝ }
+{
+    let s = settings_of(*settings);
+    let o = worker::session::open(s, slot, publications, Lsn(position), Lsn(start), out);
+    let answer = o.written;
+    let reply = written_reply(answer);
+    *written = reply.value;
+    if reply.refusal == 0 {
+        let opened = o.run;
+        *run = words_of(opened);
+    }
+    reply.refusal
+}
+
+// The stream has begun already: no query is sent. Refused, the run's words are as they were.
+#[no_mangle]
+pub extern "C" fn rufflesquash_already_open(
+    settings: &[u64; 7],
+    start: u64,
+    run: &mut [u64; 48],
+) -> u64
+    ensures { λ r. ⌜ (r, now (run .exit)) ≡ alreadyOpenWords (now (run .entry)) (alreadyOpenOf (settingsOf (now (settings .entry))) (lsn start)) ⌝ }
+{
+    let s = settings_of(*settings);
+    let o = worker::session::already_open(s, Lsn(start));
+    let verdict = o.verdict;
+    let refusal = verdict_word(verdict);
+    if refusal == 0 {
+        let opened = o.run;
+        *run = words_of(opened);
+    }
+    refusal
+}
+
+// One step. The answer: the refusal's number, taken, written, whether a wait is told, the wait, seven words of the event.
+#[no_mangle]
+pub extern "C" fn rufflesquash_step(
+    run: &mut [u64; 48],
+    moment: u64,
+    client_time: i64,
+    stop: bool,
+    queue: u64,
+    ended: bool,
+    unread: &[u8],
+    payload: &mut [u8],
+    out: &mut [u8],
+    answer: &mut [u64; 12],
+)
+    ensures { λ _. ⌜ (now (run .exit), now (answer .exit), now (payload .exit), now (out .exit)) ≡ steppedWords (stepOf (runOf (now (run .entry))) (inputOf moment «client_time» stop queue ended) (lent (now (unread .entry)) (now (payload .entry)) (now (out .entry)))) ⌝ }
+{
+    let before = run_of(*run);
+    let input = input_of(moment, client_time, stop, queue, ended);
+    let s = worker::steps::step(before, input, unread, payload, out);
+    let after = s.run;
+    *run = words_of(after);
+    *answer = answer_words(s);
+}
+
+// The consumer has applied all before a position.
+#[no_mangle]
+pub extern "C" fn rufflesquash_report(run: &mut [u64; 48], position: u64, moment: u64)
+    ensures { λ _. ⌜ now (run .exit) ≡ wordsOf (reportOf (runOf (now (run .entry))) (lsn position) (momentOf moment)) ⌝ }
+{
+    let before = run_of(*run);
+    *run = words_of(worker::session::report(before, Lsn(position), Moment(moment)));
+}
+
+// When to step again while nothing new comes: 0 at once, 1 from a moment on, 2 when something comes, 3 never; and the moment.
+#[no_mangle]
+pub extern "C" fn rufflesquash_next_step(
+    run: &[u64; 48],
+    payload_len: usize,
+    queue: u64,
+    next: &mut [u64; 2],
+)
+    ensures { λ _. ⌜ now (next .exit) ≡ nextWords (nextStepOf (runOf (now (run .entry))) «payload_len» (queueOf queue)) ⌝ }
+{
+    let r = run_of(*run);
+    let q = queue_of(queue);
+    *next = next_words(schedule::next_step(r, payload_len, q));
+}
+
+// 0 Opening, 1 Turn, 2 Drain, 3 Reading, 4 Waiting, 5 Handling, 6 Offering, 7 Ended.
+#[no_mangle]
+pub extern "C" fn rufflesquash_state(run: &[u64; 48]) -> u64
+    ensures { λ r. ⌜ r ≡ stateWord (runOf (now (run .entry)) .state) ⌝ }
+{
+    let w = *run;
+    state_word(state_of(w[7]))
+}
+
+// Events handed on, statuses, replies, stalls, microseconds of stalls, position last confirmed, the server's end last told.
+#[no_mangle]
+pub extern "C" fn rufflesquash_metrics(run: &[u64; 48], counters: &mut [u64; 7])
+    ensures { λ _. ⌜ now (counters .exit) ≡ metricsWords (runOf (now (run .entry)) .metrics) ⌝ }
+{
+    let m = metrics_of(*run);
+    *counters = metrics_words(m);
+}
+
+// What a status would confirm now.
+#[no_mangle]
+pub extern "C" fn rufflesquash_position(run: &[u64; 48]) -> u64
+    ensures { λ r. ⌜ r ≡ runOf (now (run .entry)) .progress .applied .0 ⌝ }
+{
+    let w = *run;
+    w[19]
+}
+
+// Whether a status was sent, the position that the last one confirmed, its moment.
+#[no_mangle]
+pub extern "C" fn rufflesquash_last_sent(run: &[u64; 48], status: &mut [u64; 3])
+    ensures { λ _. ⌜ now (status .exit) ≡ lastStatusWords (runOf (now (run .entry)) .status) ⌝ }
+{
+    let s = last_status_of(*run);
+    *status = last_status_words(s);
+}
+
+// Whether a server error ended the run, and how many bytes it has at the payload buffer's front.
+#[no_mangle]
+pub extern "C" fn rufflesquash_error_part(run: &[u64; 48], part: &mut [u64; 2])
+    ensures { λ _. ⌜ now (part .exit) ≡ errorWords (errorPartOf (runOf (now (run .entry)))) ⌝ }
+{
+    let r = run_of(*run);
+    *part = error_words(worker::session::error_part(r));
+}
+
+// The lossy text of bytes, such as a prefix.
+#[no_mangle]
+pub extern "C" fn rufflesquash_lossy(text: &[u8], out: &mut [u8], written: &mut u64) -> u64
+    ensures { λ r. ⌜ ((r, now (written .exit)), now (out .exit)) ≡ writing (length (now (text .entry))) (lossyOf (now (text .entry))) (now (out .entry)) ⌝ }
+{
+    let reply = lossy_reply(lossy::write_lossy(text, out));
+    *written = reply.value;
+    reply.refusal
+}
+
+// The text of the error that a payload holds.
+#[no_mangle]
+pub extern "C" fn rufflesquash_error_text(payload: &[u8], out: &mut [u8], written: &mut u64) -> u64
+    ensures { λ r. ⌜ ((r, now (written .exit)), now (out .exit)) ≡ writing (length (now (payload .entry))) (errorText (fieldsOf (now (payload .entry))) (now (payload .entry))) (now (out .entry)) ⌝ }
+{
+    let reply = lossy_reply(messages::parse_error_response(payload, out));
+    *written = reply.value;
+    reply.refusal
+}
+
+// The position that a text names, 0 where it is refused.
+#[no_mangle]
+pub extern "C" fn rufflesquash_parse_position(text: &[u8], position: &mut u64) -> u64
+    ensures { λ r. ⌜ (r, now (position .exit)) ≡ positionOf (now (text .entry)) ⌝ }
+{
+    let reply = parsed_reply(Lsn::parse(text));
+    *position = reply.value;
+    reply.refusal
+}
+
+// A position's text.
+#[no_mangle]
+pub extern "C" fn rufflesquash_display_position(
+    position: u64,
+    out: &mut [u8],
+    written: &mut u64,
+) -> u64
+    ensures { λ r. ⌜ ((r, now (written .exit)), now (out .exit)) ≡ writing 0 (displayOf position) (now (out .entry)) ⌝ }
+{
+    let reply = written_reply(Lsn(position).display(out));
+    *written = reply.value;
+    reply.refusal
+}

@@ -1,0 +1,322 @@
+//! What a run is given and what it answers.
+
+use crate::ffi;
+use crate::Refusal;
+use std::fmt;
+use std::str::FromStr;
+use std::time::Duration;
+
+/// A position in the server's log.
+#[derive(Clone, Copy, Debug, Default, PartialEq, Eq, PartialOrd, Ord, Hash)]
+pub struct Lsn(pub u64);
+
+/// Nanoseconds of a clock of the host's, 1 to 9,223,372,036,854,775,807. Another type than a position, so that none is taken for the other.
+#[derive(Clone, Copy, Debug, Default, PartialEq, Eq, PartialOrd, Ord, Hash)]
+pub struct Moment(pub u64);
+
+impl Lsn {
+    /// The position that a text names, as `16/B374D848`; refusals 22, 23 and 24.
+    pub fn parse(text: &[u8]) -> Result<Lsn, Refusal> {
+        let mut position = 0;
+        // SAFETY: the slice is lent whole.
+        let number =
+            unsafe { ffi::rufflesquash_parse_position(text.as_ptr(), text.len(), &mut position) };
+        Refusal::checked(number).map(|()| Lsn(position))
+    }
+
+    /// Writes the position's text, at most 17 bytes, over the front of `out`, and answers its length. Refused (4), `out` is as it was.
+    pub fn write(self, out: &mut [u8]) -> Result<usize, Refusal> {
+        let mut written = 0;
+        // SAFETY: the slice is lent whole.
+        let number = unsafe {
+            ffi::rufflesquash_display_position(self.0, out.as_mut_ptr(), out.len(), &mut written)
+        };
+        Refusal::checked(number).map(|()| written as usize)
+    }
+}
+
+impl FromStr for Lsn {
+    type Err = Refusal;
+
+    fn from_str(text: &str) -> Result<Lsn, Refusal> {
+        Lsn::parse(text.as_bytes())
+    }
+}
+
+impl fmt::Display for Lsn {
+    fn fmt(&self, f: &mut fmt::Formatter<'_>) -> fmt::Result {
+        let mut text = [0; 17];
+        let n = self.write(&mut text).map_err(|_| fmt::Error)?;
+        f.write_str(std::str::from_utf8(&text[..n]).map_err(|_| fmt::Error)?)
+    }
+}
+
+/// The settings of a run.
+#[derive(Clone, Copy, Debug, PartialEq, Eq)]
+pub struct Settings {
+    /// How long after a status the next is due; at most 86,400 seconds.
+    pub status_interval: Duration,
+    /// How long a wait lasts until a status is sent; at most 86,400 seconds.
+    pub idle_wakeup_interval: Duration,
+    /// The longest payload of a message, held to 1,073,741,824.
+    pub max_message_size: usize,
+    /// The run ends behind the event that reaches this position.
+    pub stop_at_lsn: Option<Lsn>,
+    /// Whether statuses tell how long a confirmed position had waited.
+    pub timing: bool,
+    /// Whether the query asks for binary values.
+    pub binary: bool,
+}
+
+impl Default for Settings {
+    fn default() -> Settings {
+        Settings {
+            status_interval: Duration::from_secs(10),
+            idle_wakeup_interval: Duration::from_secs(10),
+            max_message_size: 1_073_741_824,
+            stop_at_lsn: None,
+            timing: false,
+            binary: false,
+        }
+    }
+}
+
+impl Settings {
+    /// The shortest payload buffer that a step of such a run takes.
+    pub fn payload_len(&self) -> usize {
+        self.max_message_size.min(1_073_741_824)
+    }
+
+    pub(crate) fn words(&self) -> [u64; ffi::SETTINGS_WORDS] {
+        [
+            nanos(self.status_interval),
+            nanos(self.idle_wakeup_interval),
+            self.max_message_size as u64,
+            self.stop_at_lsn.is_some() as u64,
+            self.stop_at_lsn.unwrap_or_default().0,
+            self.timing as u64,
+            self.binary as u64,
+        ]
+    }
+}
+
+// An interval past 64 bits is too long as well.
+fn nanos(interval: Duration) -> u64 {
+    u64::try_from(interval.as_nanos()).unwrap_or(u64::MAX)
+}
+
+/// The queue to the consumer, as a step finds it.
+#[derive(Clone, Copy, Debug, PartialEq, Eq)]
+pub enum Queue {
+    /// An event is taken.
+    Free,
+    /// No event is taken now.
+    Full,
+    /// Events are dropped.
+    Closed,
+}
+
+impl Queue {
+    pub(crate) fn word(self) -> u64 {
+        match self {
+            Queue::Free => 0,
+            Queue::Full => 1,
+            Queue::Closed => 2,
+        }
+    }
+}
+
+/// What a step is given beside the lent bytes.
+#[derive(Clone, Copy, Debug, PartialEq, Eq)]
+pub struct Input {
+    /// Now; never before that of an accepted step.
+    pub moment: Moment,
+    /// The client's time for a status: microseconds from 2000-01-01.
+    pub client_time: i64,
+    /// Whether the run is to stop.
+    pub stop: bool,
+    /// The queue now.
+    pub queue: Queue,
+    /// Whether the server's bytes have ended; counts only where none are unread.
+    pub ended: bool,
+}
+
+/// The state of a run.
+#[derive(Clone, Copy, Debug, PartialEq, Eq)]
+pub enum State {
+    /// The server has not yet begun the stream.
+    Opening,
+    /// A round begins.
+    Turn,
+    /// Messages at hand are looked for.
+    Drain,
+    /// A message is read.
+    Reading,
+    /// Nothing was at hand.
+    Waiting,
+    /// A whole message is there.
+    Handling,
+    /// An event is offered to the queue.
+    Offering,
+    /// No further step is accepted.
+    Ended,
+}
+
+impl State {
+    pub(crate) fn of_word(word: u64) -> State {
+        match word {
+            0 => State::Opening,
+            1 => State::Turn,
+            2 => State::Drain,
+            3 => State::Reading,
+            4 => State::Waiting,
+            5 => State::Handling,
+            6 => State::Offering,
+            _ => State::Ended,
+        }
+    }
+}
+
+/// An event for the consumer. Its parts lie in the payload buffer that was lent to the step. Times are microseconds from 2000-01-01.
+#[derive(Clone, Copy, Debug, PartialEq, Eq)]
+#[allow(missing_docs)]
+pub enum Event<'a> {
+    /// The server's end of log.
+    KeepAlive {
+        wal_end: Lsn,
+        server_time: i64,
+        reply_requested: bool,
+    },
+    /// A transaction begins.
+    Begin {
+        final_lsn: Lsn,
+        commit_time: i64,
+        xid: u32,
+    },
+    /// A transaction ends.
+    Commit {
+        lsn: Lsn,
+        end_lsn: Lsn,
+        commit_time: i64,
+    },
+    /// A logical message; [`crate::lossy`] makes a text of its prefix.
+    Message {
+        transactional: bool,
+        lsn: Lsn,
+        prefix: &'a [u8],
+        content: &'a [u8],
+    },
+    /// Any other data of the plugin.
+    XLogData {
+        wal_start: Lsn,
+        wal_end: Lsn,
+        server_time: i64,
+        data: &'a [u8],
+    },
+    /// The stop position was reached; the run ends with this event.
+    StoppedAt { reached: Lsn },
+}
+
+impl<'a> Event<'a> {
+    // The event of seven words, with its parts in the payload buffer.
+    pub(crate) fn of_words(words: &[u64], payload: &'a [u8]) -> Option<Event<'a>> {
+        let [kind, a, b, c, d, e, f] = *words else {
+            return None;
+        };
+        Some(match kind {
+            1 => Event::KeepAlive {
+                wal_end: Lsn(a),
+                server_time: b as i64,
+                reply_requested: c != 0,
+            },
+            2 => Event::Begin {
+                final_lsn: Lsn(a),
+                commit_time: b as i64,
+                xid: c as u32,
+            },
+            3 => Event::Commit {
+                lsn: Lsn(a),
+                end_lsn: Lsn(b),
+                commit_time: c as i64,
+            },
+            4 => Event::Message {
+                transactional: a != 0,
+                lsn: Lsn(b),
+                prefix: part(payload, c, d),
+                content: part(payload, e, f),
+            },
+            5 => Event::XLogData {
+                wal_start: Lsn(a),
+                wal_end: Lsn(b),
+                server_time: c as i64,
+                data: part(payload, d, e),
+            },
+            6 => Event::StoppedAt { reached: Lsn(a) },
+            _ => return None,
+        })
+    }
+}
+
+// A part, as far as the buffer has it: words that no call made, or a buffer other than before, may name bytes behind its end.
+pub(crate) fn part(payload: &[u8], from: u64, len: u64) -> &[u8] {
+    let end = payload.len() as u64;
+    let from = from.min(end);
+    let to = from.saturating_add(len).min(end);
+    &payload[from as usize..to as usize]
+}
+
+/// What a step answers.
+#[derive(Clone, Copy, Debug, PartialEq, Eq)]
+pub struct Step<'a> {
+    /// Why the step was refused. 2 to 5 change nothing; 6 to 19 end the run.
+    pub refusal: Option<Refusal>,
+    /// How many of the unread bytes were taken.
+    pub taken: usize,
+    /// How many bytes at the output's front are to be sent.
+    pub written: usize,
+    /// The event that is handed on.
+    pub event: Option<Event<'a>>,
+    /// How long the position that a status confirmed had waited, where that is told.
+    pub waited: Option<Duration>,
+}
+
+/// When to step again while nothing new comes: no byte, no end of the input, no stop request, no change of the queue, no report.
+#[derive(Clone, Copy, Debug, PartialEq, Eq)]
+pub enum NextStep {
+    /// The next step moves.
+    AtOnce,
+    /// Steps from this moment on move; it may lie at or before the last accepted one.
+    From(Moment),
+    /// None moves until something comes.
+    OnInput,
+    /// The run has ended.
+    Never,
+}
+
+/// The counters of a run; each starts again at zero after its largest value.
+#[derive(Clone, Copy, Debug, Default, PartialEq, Eq)]
+pub struct Metrics {
+    /// Events handed on.
+    pub events_forwarded: u64,
+    /// Statuses sent.
+    pub feedback_sent: u64,
+    /// Of these, those in reply to a keepalive.
+    pub keepalive_replies: u64,
+    /// Stalls begun.
+    pub stall_count: u64,
+    /// Microseconds of stalls that ended.
+    pub stall_micros_total: u64,
+    /// The position last confirmed.
+    pub last_applied_lsn: Lsn,
+    /// The server's end last told.
+    pub last_wal_end: Lsn,
+}
+
+/// The last status that a run sent.
+#[derive(Clone, Copy, Debug, PartialEq, Eq)]
+pub struct LastStatus {
+    /// The position that it confirmed.
+    pub position: Lsn,
+    /// The moment of its step.
+    pub at: Moment,
+}
