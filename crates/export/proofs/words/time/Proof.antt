@@ -11,13 +11,13 @@ use Rattle.export.proofs.words.time.Statement.{statement}
 use Rattle.export.proofs.words.time.Tie as tie
 
 cast-result : tie.Need-cast-result
-cast-result c = 
+cast-result c =
     let e : toZ w64 (ofZ w64 (c .before .args .v)) ≡ c .before .args .v = toZ-ofZ w64 (c .before .args .v) (c .before .fits .v) in
     let k = not-negative half (c .before .args .v) (omega arith) (c .before .fits .v .sfits) (rw e at (c .if1 .taken)) in
     rw e (k .0, k .1 .0)
 
 sub-result : tie.Need-sub-result
-sub-result c = 
+sub-result c =
     let e : toZ w64 (ofZ w64 (c .before .args .v)) ≡ c .before .args .v = toZ-ofZ w64 (c .before .args .v) (c .before .fits .v) in
     let k = negated half (c .before .args .v) (omega arith) (c .before .fits .v .sfits) (rw e at (c .if1 .left)) in
     let f : SFits w64 (pos (k .0)) = record { sfits = k .2 } in
@@ -25,7 +25,7 @@ sub-result c =
     rw (e, k .1) f
 
 cast-result-2 : tie.Need-cast-result-2
-cast-result-2 c = 
+cast-result-2 c =
     let e : toZ w64 (ofZ w64 (c .before .args .v)) ≡ c .before .args .v = toZ-ofZ w64 (c .before .args .v) (c .before .fits .v) in
     let k = negated half (c .before .args .v) (omega arith) (c .before .fits .v .sfits) (rw e at (c .if1 .left)) in
     let f : SFits w64 (pos (k .0)) = record { sfits = k .2 } in
@@ -33,7 +33,7 @@ cast-result-2 c =
     rw (e, k .1, g) (tt, record { fits = omega (arith, k .2) })
 
 sub-result-2 : tie.Need-sub-result-2
-sub-result-2 c = 
+sub-result-2 c =
     let e : toZ w64 (ofZ w64 (c .before .args .v)) ≡ c .before .args .v = toZ-ofZ w64 (c .before .args .v) (c .before .fits .v) in
     let k = negated half (c .before .args .v) (omega arith) (c .before .fits .v .sfits) (rw e at (c .if1 .left)) in
     let f : SFits w64 (pos (k .0)) = record { sfits = k .2 } in
@@ -44,13 +44,13 @@ add-result : tie.Need-add-result
 add-result c = search needs
 
 returns : tie.Need-returns
-returns c = 
+returns c =
     let e : toZ w64 (ofZ w64 (c .before .args .v)) ≡ c .before .args .v = toZ-ofZ w64 (c .before .args .v) (c .before .fits .v) in
     let k = not-negative half (c .before .args .v) (omega arith) (c .before .fits .v .sfits) (rw e at (c .if1 .taken)) in
     rw e (k .1 .1)
 
 returns-2 : tie.Need-returns-2
-returns-2 c = 
+returns-2 c =
     let e : toZ w64 (ofZ w64 (c .before .args .v)) ≡ c .before .args .v = toZ-ofZ w64 (c .before .args .v) (c .before .fits .v) in
     let k = negated half (c .before .args .v) (omega arith) (c .before .fits .v .sfits) (rw e at (c .if1 .left)) in
     let f : SFits w64 (pos (k .0)) = record { sfits = k .2 } in
