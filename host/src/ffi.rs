@@ -60,10 +60,7 @@ extern "C" {
 
     pub fn rufflesquash_state(run: *const [u64; RUN_WORDS]) -> u64;
 
-    pub fn rufflesquash_metrics(
-        run: *const [u64; RUN_WORDS],
-        counters: *mut [u64; METRICS_WORDS],
-    );
+    pub fn rufflesquash_metrics(run: *const [u64; RUN_WORDS], counters: *mut [u64; METRICS_WORDS]);
 
     pub fn rufflesquash_position(run: *const [u64; RUN_WORDS]) -> u64;
 

@@ -1,0 +1,279 @@
+//! What the calls give where nothing is refused.
+
+mod common;
+
+use common::*;
+use rufflesquash::{lossy, Event, Lsn, Metrics, Moment, NextStep, Queue, Run, Settings, State};
+use std::time::Duration;
+
+#[test]
+fn opening_writes_the_query() {
+    let s = Settings {
+        binary: true,
+        ..settings()
+    };
+    let mut out = [FILL; 256];
+    let (run, n) = Run::open(
+        &s,
+        b"slot",
+        &[b"a'b", b"c"],
+        Lsn(0x1_0000_0002),
+        Lsn(7),
+        &mut out,
+    )
+    .unwrap();
+    let text = "START_REPLICATION SLOT slot LOGICAL 1/2 (proto_version '1', publication_names 'a''b,c', messages 'true', binary 'true')\0";
+    assert_eq!(out[..n], message(b'Q', text.as_bytes()));
+    assert!(out[n..].iter().all(|&b| b == FILL));
+    assert_eq!((run.state(), run.position()), (State::Opening, Lsn(7)));
+    assert_eq!((run.last_sent(), run.metrics()), (None, Metrics::default()));
+}
+
+#[test]
+fn a_stream_is_opened_and_read() {
+    let bytes = [
+        message(b'N', b"notice"),
+        message(b'W', b"\0\0\0"),
+        xlog_data(1, 2, 3, &begin(0x20, -5, 77)),
+        xlog_data(1, 2, -3, b"Rdata"),
+        xlog_data(4, 5, 6, &logical(1, 9, b"pre\xff", 3, b"abc")),
+        xlog_data(1, 2, 3, &commit(0x20, 0x28, 6)),
+        keepalive(0x30, -9, 0),
+    ]
+    .concat();
+    let mut fed = Fed::opening(&bytes);
+    let expected = [
+        Event::Begin {
+            final_lsn: Lsn(0x20),
+            commit_time: -5,
+            xid: 77,
+        },
+        Event::XLogData {
+            wal_start: Lsn(1),
+            wal_end: Lsn(2),
+            server_time: -3,
+            data: b"Rdata",
+        },
+        Event::Message {
+            transactional: true,
+            lsn: Lsn(9),
+            prefix: b"pre\xff",
+            content: b"abc",
+        },
+        Event::Commit {
+            lsn: Lsn(0x20),
+            end_lsn: Lsn(0x28),
+            commit_time: 6,
+        },
+        Event::KeepAlive {
+            wal_end: Lsn(0x30),
+            server_time: -9,
+            reply_requested: false,
+        },
+    ];
+    assert_eq!(fed.events(), expected.map(|event| format!("{event:?}")));
+    let metrics = fed.run.metrics();
+    assert_eq!(
+        (metrics.events_forwarded, metrics.last_wal_end),
+        (5, Lsn(0x30))
+    );
+}
+
+#[test]
+fn the_same_bytes_in_any_pieces_give_the_same_events() {
+    let bytes = [
+        xlog_data(1, 2, 3, &begin(0x20, -5, 77)),
+        keepalive(0x30, 1, 0),
+    ]
+    .concat();
+    let whole = Fed::reading(&bytes).events();
+    assert_eq!(whole.len(), 2);
+    for size in 1..bytes.len() {
+        let mut fed = Fed::reading(b"");
+        let mut events = Vec::new();
+        for piece in bytes.chunks(size) {
+            fed.bytes.extend(piece);
+            for _ in 0..20 {
+                events.extend(fed.step().event);
+            }
+        }
+        assert_eq!(events, whole, "pieces of {size}");
+    }
+}
+
+fn status(position: u64, reply: u8) -> Vec<u8> {
+    let mut body = vec![b'r'];
+    for _ in 0..3 {
+        body.extend(position.to_be_bytes());
+    }
+    body.extend((-7i64).to_be_bytes());
+    body.push(reply);
+    message(b'd', &body)
+}
+
+#[test]
+fn a_status_confirms_the_largest_report() {
+    let s = Settings {
+        timing: true,
+        ..settings()
+    };
+    let mut fed = Fed::new(Run::already_open(&s, Lsn(0x10)).unwrap(), b"");
+    assert_eq!(fed.step().written, 39);
+    assert_eq!(fed.out[..39], status(0x10, 0));
+    assert!(fed.out[39..].iter().all(|&b| b == FILL));
+    assert_eq!(
+        fed.run.last_sent().map(|l| (l.position, l.at)),
+        Some((Lsn(0x10), Moment(1000)))
+    );
+    fed.run.report(Lsn(0x50), Moment(3000));
+    fed.run.report(Lsn(0x40), Moment(4000));
+    assert_eq!(fed.run.position(), Lsn(0x50));
+    fed.moment = 30_000_000;
+    let answer = (0..9)
+        .map(|_| fed.step())
+        .find(|answer| answer.written > 0)
+        .unwrap();
+    assert_eq!(fed.out[..39], status(0x50, 0));
+    assert_eq!(answer.waited, Some(Duration::from_nanos(fed.moment - 3000)));
+    assert_eq!(fed.run.metrics().last_applied_lsn, Lsn(0x50));
+}
+
+#[test]
+fn a_keepalive_that_asks_is_answered_before_its_event() {
+    let mut fed = Fed::reading(&keepalive(0x30, 1, 1));
+    fed.step();
+    let answer = (0..9)
+        .map(|_| fed.step())
+        .find(|answer| answer.written > 0)
+        .unwrap();
+    assert_eq!(
+        (fed.out[..39].to_vec(), answer.event),
+        (status(0x10, 1), None)
+    );
+    assert!(fed.step().event.unwrap().starts_with("KeepAlive"));
+    assert_eq!(fed.run.metrics().keepalive_replies, 1);
+}
+
+#[test]
+fn a_full_queue_stalls_and_a_closed_one_drops() {
+    let mut fed = Fed::reading(&keepalive(0x30, 1, 0));
+    fed.queue = Queue::Full;
+    while fed.run.metrics().stall_count == 0 {
+        assert_eq!(fed.step().event, None);
+    }
+    assert_eq!(fed.run.state(), State::Offering);
+    fed.queue = Queue::Free;
+    assert!(fed.step().event.is_some());
+    assert_eq!(fed.run.metrics().stall_micros_total, 1);
+    let mut fed = Fed::reading(&keepalive(0x30, 1, 0));
+    fed.queue = Queue::Closed;
+    assert_eq!(fed.events(), Vec::<String>::new());
+    assert_eq!(fed.run.metrics().events_forwarded, 0);
+}
+
+#[test]
+fn the_stop_position_ends_a_run_with_an_event() {
+    let s = Settings {
+        stop_at_lsn: Some(Lsn(0x100)),
+        ..settings()
+    };
+    let bytes = [
+        xlog_data(1, 2, 3, &begin(0xFF, 0, 1)),
+        xlog_data(1, 2, 3, &begin(0x100, 0, 2)),
+        xlog_data(1, 2, 3, &begin(0x101, 0, 3)),
+    ]
+    .concat();
+    let mut fed = Fed::new(Run::already_open(&s, Lsn(0)).unwrap(), &bytes);
+    let mut events = Vec::new();
+    while fed.run.state() != State::Ended {
+        let answer = fed.step();
+        events.extend(answer.event);
+        if fed.run.state() == State::Ended {
+            assert_eq!((answer.written, &fed.out[..5]), (5, &b"c\0\0\0\x04"[..]));
+        }
+    }
+    assert_eq!(events.len(), 3);
+    assert_eq!(
+        events[2],
+        format!(
+            "{:?}",
+            Event::StoppedAt {
+                reached: Lsn(0x100)
+            }
+        )
+    );
+    assert_eq!(fed.run.error(&fed.payload), None);
+}
+
+#[test]
+fn a_stop_request_writes_copy_done() {
+    let mut fed = Fed::reading(b"");
+    fed.events();
+    fed.stop = true;
+    assert_eq!(fed.step().written, 5);
+    assert_eq!(fed.run.state(), State::Ended);
+    assert_eq!(fed.run.next_step(LIMIT, Queue::Free), NextStep::Never);
+}
+
+#[test]
+fn the_next_step_is_told() {
+    let mut fed = Fed::reading(b"");
+    assert_eq!(fed.run.next_step(LIMIT, Queue::Free), NextStep::AtOnce);
+    fed.events();
+    let began = fed.moment;
+    let idle = NextStep::From(Moment(began + 20_000_000));
+    assert_eq!(fed.run.next_step(LIMIT, Queue::Free), idle);
+    fed.moment = began + 20_000_000 - 2000;
+    assert_eq!(fed.step().written, 0);
+    assert_eq!(fed.step().written, 39);
+    let opening = Fed::opening(b"");
+    assert_eq!(opening.run.next_step(LIMIT, Queue::Free), NextStep::OnInput);
+}
+
+#[test]
+fn leaves_write_over_the_front() {
+    let mut out = [FILL; 16];
+    let n = lossy(b"a\xE2\x82b", &mut out).unwrap();
+    assert_eq!(out[..n], *String::from_utf8_lossy(b"a\xE2\x82b").as_bytes());
+    assert!(out[n..].iter().all(|&b| b == FILL));
+    assert_eq!("16/B374D848".parse(), Ok(Lsn(0x16_B374_D848)));
+    assert_eq!(Lsn(0x16_B374_D848).to_string(), "16/B374D848");
+    assert_eq!(Lsn(u64::MAX).to_string(), "FFFFFFFF/FFFFFFFF");
+}
+
+// Any words are the words of some run: every call takes them and answers something of document 01.
+#[test]
+fn any_words_are_a_run() {
+    let mut seed = 1u64;
+    let mut word = || {
+        seed ^= seed << 13;
+        seed ^= seed >> 7;
+        seed ^= seed << 17;
+        seed
+    };
+    for _ in 0..20_000 {
+        let words = std::array::from_fn(|_| {
+            let w = word();
+            w >> (word() % 64)
+        });
+        let bytes: Vec<u8> = (0..word() % 64).map(|_| word() as u8).collect();
+        let mut fed = Fed::new(Run::from_words(words), &bytes);
+        fed.payload.resize(4096, FILL);
+        fed.queue = [Queue::Free, Queue::Full, Queue::Closed][(word() % 3) as usize];
+        fed.moment = word() >> 1;
+        for _ in 0..4 {
+            let answer = fed.step();
+            assert!(answer
+                .refusal
+                .is_none_or(|r| (2..=19).contains(&r.number())));
+            assert!(matches!(answer.written, 0 | 5 | 39));
+            fed.run.report(Lsn(word()), Moment(word()));
+            let _ = (
+                fed.run.next_step(4096, fed.queue),
+                fed.run.error(&fed.payload),
+            );
+            assert_eq!(fed.run, Run::from_words(*fed.run.as_words()));
+            assert!(format!("{:?}", fed.run).starts_with("Run { state: "));
+        }
+    }
+}
