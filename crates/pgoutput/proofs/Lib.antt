@@ -3,3 +3,5 @@ pub mod LayoutFields
 pub mod LayoutBegin
 pub mod LayoutCommit
 pub mod LayoutMessage
+pub mod Thin
+pub mod Through

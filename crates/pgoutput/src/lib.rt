@@ -1,6 +1,9 @@
 // The boundaries in the data of an XLogData.
 ghost use mathlib.Core.Path.{_≡_};
 ghost use Rattle.pgoutput.specs.Boundary.{boundaryOf, saidBy, beginAt, commitAt, messageAt};
+
+mod reader;
+
 use error::Refusal;
 use lsn::Lsn;
 use wire::field::I64Field;
@@ -37,13 +40,13 @@ pub enum Boundary {
 fn begin_at(bytes: &[u8], at: usize) -> Boundary
     ensures { λ r. ⌜ saidBy r ≡ beginAt (now (bytes .entry)) at ⌝ }
 {
-    let U64Field::Value(lsn) = wire::field::read_u64(bytes, at) else {
+    let U64Field::Value(lsn) = reader::u64_at(bytes, at) else {
         return Boundary::Refused(Refusal::TruncatedI64);
     };
-    let I64Field::Value(commit_time) = wire::field::read_i64(bytes, at + 8) else {
+    let I64Field::Value(commit_time) = reader::i64_at(bytes, at + 8) else {
         return Boundary::Refused(Refusal::TruncatedI64);
     };
-    let U32Field::Value(xid) = wire::field::read_u32(bytes, at + 16) else {
+    let U32Field::Value(xid) = reader::u32_at(bytes, at + 16) else {
         return Boundary::Refused(Refusal::TruncatedI32);
     };
     Boundary::Begin {
@@ -57,16 +60,16 @@ fn begin_at(bytes: &[u8], at: usize) -> Boundary
 fn commit_at(bytes: &[u8], at: usize) -> Boundary
     ensures { λ r. ⌜ saidBy r ≡ commitAt (now (bytes .entry)) at ⌝ }
 {
-    let U8Field::Value(_) = wire::field::read_u8(bytes, at) else {
+    let U8Field::Value(_) = reader::u8_at(bytes, at) else {
         return Boundary::Refused(Refusal::TruncatedI8);
     };
-    let U64Field::Value(lsn) = wire::field::read_u64(bytes, at + 1) else {
+    let U64Field::Value(lsn) = reader::u64_at(bytes, at + 1) else {
         return Boundary::Refused(Refusal::TruncatedI64);
     };
-    let U64Field::Value(end) = wire::field::read_u64(bytes, at + 9) else {
+    let U64Field::Value(end) = reader::u64_at(bytes, at + 9) else {
         return Boundary::Refused(Refusal::TruncatedI64);
     };
-    let I64Field::Value(commit_time) = wire::field::read_i64(bytes, at + 17) else {
+    let I64Field::Value(commit_time) = reader::i64_at(bytes, at + 17) else {
         return Boundary::Refused(Refusal::TruncatedI64);
     };
     Boundary::Commit {
@@ -80,26 +83,26 @@ fn commit_at(bytes: &[u8], at: usize) -> Boundary
 fn message_at(bytes: &[u8], at: usize) -> Boundary
     ensures { λ r. ⌜ saidBy r ≡ messageAt (now (bytes .entry)) at ⌝ }
 {
-    let U8Field::Value(flags) = wire::field::read_u8(bytes, at) else {
+    let U8Field::Value(flags) = reader::u8_at(bytes, at) else {
         return Boundary::Refused(Refusal::TruncatedI8);
     };
-    let U64Field::Value(lsn) = wire::field::read_u64(bytes, at + 1) else {
+    let U64Field::Value(lsn) = reader::u64_at(bytes, at + 1) else {
         return Boundary::Refused(Refusal::TruncatedI64);
     };
     let from = at + 9;
-    let Found::At(len) = wire::find::find_zero(&bytes[from..]) else {
+    let Found::At(len) = reader::zero_at(bytes, from) else {
         return Boundary::Refused(Refusal::UnterminatedPrefix);
     };
     let count = from + len + 1;
-    let U32Field::Value(n) = wire::field::read_u32(bytes, count) else {
+    let U32Field::Value(n) = reader::u32_at(bytes, count) else {
         return Boundary::Refused(Refusal::TruncatedI32);
     };
     // a signed length, of which this is the negative half
     if 2147483648 <= n {
         return Boundary::Refused(Refusal::ContentTooShort);
     }
-    let content = count + 4;
-    if bytes.len() - content < n as usize {
+    let rest = reader::rest_at(bytes, count + 4);
+    if rest.len < n as usize {
         return Boundary::Refused(Refusal::ContentTooShort);
     }
     Boundary::Message {
@@ -107,7 +110,7 @@ fn message_at(bytes: &[u8], at: usize) -> Boundary
         lsn: Lsn(lsn),
         prefix_from: from,
         prefix_len: len,
-        content_from: content,
+        content_from: rest.from,
         content_len: n as usize,
     }
 }

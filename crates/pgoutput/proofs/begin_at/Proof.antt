@@ -16,18 +16,18 @@ use Rattle.pgoutput.proofs.begin_at.Tie as tie
 -- ---- the fields that were read
 
 lsn-read : (c : tie.After-known-told) → fieldAt 8 (c .before .before .before .before .before .args .bytes .now) (c .before .before .before .before .before .args .at) ≡ some (c .before .lsn .given .0 .0)
-lsn-read c = sym (c .before .before .before .read-u64 .ensures) ∙ ap u64Of (c .before .lsn .given .1)
+lsn-read c = sym (c .before .before .before .u64-at .ensures) ∙ ap u64Of (c .before .lsn .given .1)
 
 time-read : (c : tie.After-known-told2) → signedOf 9223372036854775808 (fieldAt 8 (c .before .before .before .before .before .before .before .before .before .args .bytes .now) (c .before .before .before .before .before .before .before .before .before .args .at + 8)) ≡ some (c .before .commit-time .given .0 .0)
-time-read c = sym (c .before .before .before .read-i64 .ensures) ∙ ap i64Of (c .before .commit-time .given .1)
+time-read c = sym (c .before .before .before .i64-at .ensures) ∙ ap i64Of (c .before .commit-time .given .1)
 
 xid-read : (c : tie.After-known-told3) → fieldAt 4 (c .before .before .before .before .before .before .before .before .before .before .before .before .before .args .bytes .now) (c .before .before .before .before .before .before .before .before .before .before .before .before .before .args .at + 16) ≡ some (c .before .xid .given .0 .0)
-xid-read c = sym (c .before .before .before .read-u32 .ensures) ∙ ap u32Of (c .before .xid .given .1)
+xid-read c = sym (c .before .before .before .u32-at .ensures) ∙ ap u32Of (c .before .xid .given .1)
 
 -- ---- the needs
 
-read-u64-requires : tie.Need-read-u64-requires
-read-u64-requires c κs = search needs
+u64-at-requires : tie.Need-u64-at-requires
+u64-at-requires c κs = search needs
 
 enum-known-lsn : tie.Need-enum-known-lsn
 enum-known-lsn c = search needs
@@ -36,13 +36,13 @@ enum-told : tie.Need-enum-told
 enum-told c = search needs
 
 returns : tie.Need-returns
-returns c = simp (sym (c .before .before .read-u64 .ensures) ∙ ap u64Of (c .enum-told .given .1))
+returns c = simp (sym (c .before .before .u64-at .ensures) ∙ ap u64Of (c .enum-told .given .1))
 
-add-read-i64 : tie.Need-add-read-i64
-add-read-i64 c = let h = field-within 8 _ _ _ (lsn-read c) in omega arith
+add-i64-at : tie.Need-add-i64-at
+add-i64-at c = let h = field-within 8 _ _ _ (lsn-read c) in omega arith
 
-read-i64-requires : tie.Need-read-i64-requires
-read-i64-requires c κs = search needs
+i64-at-requires : tie.Need-i64-at-requires
+i64-at-requires c κs = search needs
 
 enum-known-commit-time : tie.Need-enum-known-commit-time
 enum-known-commit-time c = search needs
@@ -51,13 +51,13 @@ enum-told-2 : tie.Need-enum-told-2
 enum-told-2 c = search needs
 
 returns-2 : tie.Need-returns-2
-returns-2 c = begin-time-cut _ _ _ (lsn-read (c .before .before .before)) (sym (c .before .before .read-i64 .ensures) ∙ ap i64Of (c .enum-told2 .given .1))
+returns-2 c = begin-time-cut _ _ _ (lsn-read (c .before .before .before)) (sym (c .before .before .i64-at .ensures) ∙ ap i64Of (c .enum-told2 .given .1))
 
-add-read-u32 : tie.Need-add-read-u32
-add-read-u32 c = let h = time-within _ _ _ (time-read c) in omega arith
+add-u32-at : tie.Need-add-u32-at
+add-u32-at c = let h = time-within _ _ _ (time-read c) in omega arith
 
-read-u32-requires : tie.Need-read-u32-requires
-read-u32-requires c κs = search needs
+u32-at-requires : tie.Need-u32-at-requires
+u32-at-requires c κs = search needs
 
 enum-known-xid : tie.Need-enum-known-xid
 enum-known-xid c = search needs
@@ -66,7 +66,7 @@ enum-told-3 : tie.Need-enum-told-3
 enum-told-3 c = search needs
 
 returns-3 : tie.Need-returns-3
-returns-3 c = begin-xid-cut _ _ _ _ (lsn-read (c .before .before .before .before .before .before .before)) (time-read (c .before .before .before)) (sym (c .before .before .read-u32 .ensures) ∙ ap u32Of (c .enum-told3 .given .1))
+returns-3 c = begin-xid-cut _ _ _ _ (lsn-read (c .before .before .before .before .before .before .before)) (time-read (c .before .before .before)) (sym (c .before .before .u32-at .ensures) ∙ ap u32Of (c .enum-told3 .given .1))
 
 returns-4 : tie.Need-returns-4
 returns-4 c =
@@ -79,17 +79,17 @@ pub begin-at-spec : {M : Type 1} → statement M
 begin-at-spec =
     tie.close
     (tie.spec
-    read-u64-requires
+    u64-at-requires
     enum-known-lsn
     enum-told
     returns
-    add-read-i64
-    read-i64-requires
+    add-i64-at
+    i64-at-requires
     enum-known-commit-time
     enum-told-2
     returns-2
-    add-read-u32
-    read-u32-requires
+    add-u32-at
+    u32-at-requires
     enum-known-xid
     enum-told-3
     returns-3

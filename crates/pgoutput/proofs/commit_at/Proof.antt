@@ -16,21 +16,21 @@ use Rattle.pgoutput.proofs.commit_at.Tie as tie
 -- ---- the fields that were read
 
 flags-read : (c : tie.After-enum-told) → fieldAt 1 (c .before .before .before .before .args .bytes .now) (c .before .before .before .before .args .at) ≡ some (c .enum-told .given .0 .0)
-flags-read c = sym (c .before .before .read-u8 .ensures) ∙ ap u8Of (c .enum-told .given .1)
+flags-read c = sym (c .before .before .u8-at .ensures) ∙ ap u8Of (c .enum-told .given .1)
 
 lsn-read : (c : tie.After-known-told) → fieldAt 8 (c .before .before .before .before .before .before .before .before .args .bytes .now) (c .before .before .before .before .before .before .before .before .args .at + 1) ≡ some (c .before .lsn .given .0 .0)
-lsn-read c = sym (c .before .before .before .read-u64 .ensures) ∙ ap u64Of (c .before .lsn .given .1)
+lsn-read c = sym (c .before .before .before .u64-at .ensures) ∙ ap u64Of (c .before .lsn .given .1)
 
 end-read : (c : tie.After-known-told2) → fieldAt 8 (c .before .before .before .before .before .before .before .before .before .before .before .before .args .bytes .now) (c .before .before .before .before .before .before .before .before .before .before .before .before .args .at + 9) ≡ some (c .before .end .given .0 .0)
-end-read c = sym (c .before .before .before .read-u642 .ensures) ∙ ap u64Of (c .before .end .given .1)
+end-read c = sym (c .before .before .before .u64-at2 .ensures) ∙ ap u64Of (c .before .end .given .1)
 
 time-read : (c : tie.After-known-told3) → signedOf 9223372036854775808 (fieldAt 8 (c .before .before .before .before .before .before .before .before .before .before .before .before .before .before .before .before .args .bytes .now) (c .before .before .before .before .before .before .before .before .before .before .before .before .before .before .before .before .args .at + 17)) ≡ some (c .before .commit-time .given .0 .0)
-time-read c = sym (c .before .before .before .read-i64 .ensures) ∙ ap i64Of (c .before .commit-time .given .1)
+time-read c = sym (c .before .before .before .i64-at .ensures) ∙ ap i64Of (c .before .commit-time .given .1)
 
 -- ---- the needs
 
-read-u8-requires : tie.Need-read-u8-requires
-read-u8-requires c κs = search needs
+u8-at-requires : tie.Need-u8-at-requires
+u8-at-requires c κs = search needs
 
 enum-told : tie.Need-enum-told
 enum-told c = search needs
@@ -39,13 +39,13 @@ enum-told-2 : tie.Need-enum-told-2
 enum-told-2 c = search needs
 
 returns : tie.Need-returns
-returns c = simp (sym (c .before .before .read-u8 .ensures) ∙ ap u8Of (c .enum-told2 .given .1))
+returns c = simp (sym (c .before .before .u8-at .ensures) ∙ ap u8Of (c .enum-told2 .given .1))
 
-add-read-u64 : tie.Need-add-read-u64
-add-read-u64 c = let h = field-within 1 _ _ _ (flags-read c) in omega arith
+add-u64-at : tie.Need-add-u64-at
+add-u64-at c = let h = field-within 1 _ _ _ (flags-read c) in omega arith
 
-read-u64-requires : tie.Need-read-u64-requires
-read-u64-requires c κs = search needs
+u64-at-requires : tie.Need-u64-at-requires
+u64-at-requires c κs = search needs
 
 enum-known-lsn : tie.Need-enum-known-lsn
 enum-known-lsn c = search needs
@@ -54,13 +54,13 @@ enum-told-3 : tie.Need-enum-told-3
 enum-told-3 c = search needs
 
 returns-2 : tie.Need-returns-2
-returns-2 c = simp (flags-read (c .before .before .before), sym (c .before .before .read-u64 .ensures) ∙ ap u64Of (c .enum-told3 .given .1))
+returns-2 c = simp (flags-read (c .before .before .before), sym (c .before .before .u64-at .ensures) ∙ ap u64Of (c .enum-told3 .given .1))
 
-add-read-u64-2 : tie.Need-add-read-u64-2
-add-read-u64-2 c = let h = field-within 8 _ _ _ (lsn-read c) in omega arith
+add-u64-at-2 : tie.Need-add-u64-at-2
+add-u64-at-2 c = let h = field-within 8 _ _ _ (lsn-read c) in omega arith
 
-read-u64-requires-2 : tie.Need-read-u64-requires-2
-read-u64-requires-2 c κs = search needs
+u64-at-requires-2 : tie.Need-u64-at-requires-2
+u64-at-requires-2 c κs = search needs
 
 enum-known-end : tie.Need-enum-known-end
 enum-known-end c = search needs
@@ -71,13 +71,13 @@ enum-told-4 c = search needs
 returns-3 : tie.Need-returns-3
 returns-3 c =
     let l = c .before .before .before in
-    simp (flags-read (l .before .before .before .before), lsn-read l, sym (c .before .before .read-u642 .ensures) ∙ ap u64Of (c .enum-told4 .given .1))
+    simp (flags-read (l .before .before .before .before), lsn-read l, sym (c .before .before .u64-at2 .ensures) ∙ ap u64Of (c .enum-told4 .given .1))
 
-add-read-i64 : tie.Need-add-read-i64
-add-read-i64 c = let h = field-within 8 _ _ _ (end-read c) in omega arith
+add-i64-at : tie.Need-add-i64-at
+add-i64-at c = let h = field-within 8 _ _ _ (end-read c) in omega arith
 
-read-i64-requires : tie.Need-read-i64-requires
-read-i64-requires c κs = search needs
+i64-at-requires : tie.Need-i64-at-requires
+i64-at-requires c κs = search needs
 
 enum-known-commit-time : tie.Need-enum-known-commit-time
 enum-known-commit-time c = search needs
@@ -89,7 +89,7 @@ returns-4 : tie.Need-returns-4
 returns-4 c =
     let e = c .before .before .before in
     let l = e .before .before .before .before in
-    commit-time-cut _ _ _ _ _ (flags-read (l .before .before .before .before)) (lsn-read l) (end-read e) (sym (c .before .before .read-i64 .ensures) ∙ ap i64Of (c .enum-told5 .given .1))
+    commit-time-cut _ _ _ _ _ (flags-read (l .before .before .before .before)) (lsn-read l) (end-read e) (sym (c .before .before .i64-at .ensures) ∙ ap i64Of (c .enum-told5 .given .1))
 
 returns-5 : tie.Need-returns-5
 returns-5 c =
@@ -103,22 +103,22 @@ pub commit-at-spec : {M : Type 1} → statement M
 commit-at-spec =
     tie.close
     (tie.spec
-    read-u8-requires
+    u8-at-requires
     enum-told
     enum-told-2
     returns
-    add-read-u64
-    read-u64-requires
+    add-u64-at
+    u64-at-requires
     enum-known-lsn
     enum-told-3
     returns-2
-    add-read-u64-2
-    read-u64-requires-2
+    add-u64-at-2
+    u64-at-requires-2
     enum-known-end
     enum-told-4
     returns-3
-    add-read-i64
-    read-i64-requires
+    add-i64-at
+    i64-at-requires
     enum-known-commit-time
     enum-told-5
     returns-4

@@ -1,0 +1,135 @@
+// A reader over the lent data, in place of `&mut &[u8]`: the data and a place in them. What it reads is read by functions on the two.
+ghost use mathlib.Core.Path.{_≡_};
+ghost use Prim.Native.Nat.{_-_};
+ghost use lib.ListN.{drop, length};
+ghost use Rattle.wire.specs.Field.{fieldAt, signedOf, u8Of, u32Of, u64Of, i64Of};
+ghost use Rattle.wire.specs.Find.{indexOf};
+use wire::field::I64Field;
+use wire::field::U8Field;
+use wire::field::U32Field;
+use wire::field::U64Field;
+use wire::find::Found;
+
+pub struct Reader<'a> {
+    pub bytes: &'a [u8],
+    pub place: usize,
+}
+
+// The bytes behind a place: where they begin, and how many.
+pub struct Rest {
+    pub from: usize,
+    pub len: usize,
+}
+
+// ---- on the data and a place
+
+fn zero_from(bytes: &[u8], at: usize) -> Found
+    ensures { λ r. ⌜ r ≡ indexOf 0 (drop at (now (bytes .entry))) ⌝ }
+{
+    if bytes.len() < at {
+        return Found::Nothing;
+    }
+    wire::find::find_zero(&bytes[at..])
+}
+
+fn left_from(bytes: &[u8], at: usize) -> usize
+    ensures { λ r. ⌜ r ≡ length (now (bytes .entry)) - at ⌝ }
+{
+    if bytes.len() < at {
+        return 0;
+    }
+    bytes.len() - at
+}
+
+// ---- over the reader: few and thin, since the toolchain covers no function over such a struct
+
+pub fn new<'a>(bytes: &'a [u8], at: usize) -> Reader<'a>
+    ensures { λ r. ⌜ (r .bytes ≡ bytes .entry) × (r .place ≡ at) ⌝ }
+{
+    Reader { bytes, place: at }
+}
+
+pub fn place<'a>(r: Reader<'a>) -> usize
+    ensures { λ n. ⌜ n ≡ r .entry .place ⌝ }
+{
+    r.place
+}
+
+pub fn take_u8<'a>(r: Reader<'a>) -> U8Field
+    ensures { λ n. ⌜ u8Of n ≡ fieldAt 1 (now (r .entry .bytes)) (r .entry .place) ⌝ }
+{
+    wire::field::read_u8(r.bytes, r.place)
+}
+
+pub fn take_u32<'a>(r: Reader<'a>) -> U32Field
+    ensures { λ n. ⌜ u32Of n ≡ fieldAt 4 (now (r .entry .bytes)) (r .entry .place) ⌝ }
+{
+    wire::field::read_u32(r.bytes, r.place)
+}
+
+pub fn take_u64<'a>(r: Reader<'a>) -> U64Field
+    ensures { λ n. ⌜ u64Of n ≡ fieldAt 8 (now (r .entry .bytes)) (r .entry .place) ⌝ }
+{
+    wire::field::read_u64(r.bytes, r.place)
+}
+
+pub fn take_i64<'a>(r: Reader<'a>) -> I64Field
+    ensures { λ n. ⌜ i64Of n ≡ signedOf 9223372036854775808 (fieldAt 8 (now (r .entry .bytes)) (r .entry .place)) ⌝ }
+{
+    wire::field::read_i64(r.bytes, r.place)
+}
+
+// The first zero byte, counted from the place.
+pub fn take_zero<'a>(r: Reader<'a>) -> Found
+    ensures { λ n. ⌜ n ≡ indexOf 0 (drop (r .entry .place) (now (r .entry .bytes))) ⌝ }
+{
+    zero_from(r.bytes, r.place)
+}
+
+pub fn left<'a>(r: Reader<'a>) -> usize
+    ensures { λ n. ⌜ n ≡ length (now (r .entry .bytes)) - r .entry .place ⌝ }
+{
+    left_from(r.bytes, r.place)
+}
+
+// ---- with plain parameters: who walks the data calls these, and is covered
+
+pub fn u8_at(bytes: &[u8], at: usize) -> U8Field
+    ensures { λ r. ⌜ u8Of r ≡ fieldAt 1 (now (bytes .entry)) at ⌝ }
+{
+    take_u8(new(bytes, at))
+}
+
+pub fn u32_at(bytes: &[u8], at: usize) -> U32Field
+    ensures { λ r. ⌜ u32Of r ≡ fieldAt 4 (now (bytes .entry)) at ⌝ }
+{
+    take_u32(new(bytes, at))
+}
+
+pub fn u64_at(bytes: &[u8], at: usize) -> U64Field
+    ensures { λ r. ⌜ u64Of r ≡ fieldAt 8 (now (bytes .entry)) at ⌝ }
+{
+    take_u64(new(bytes, at))
+}
+
+pub fn i64_at(bytes: &[u8], at: usize) -> I64Field
+    ensures { λ r. ⌜ i64Of r ≡ signedOf 9223372036854775808 (fieldAt 8 (now (bytes .entry)) at) ⌝ }
+{
+    take_i64(new(bytes, at))
+}
+
+pub fn zero_at(bytes: &[u8], at: usize) -> Found
+    ensures { λ r. ⌜ r ≡ indexOf 0 (drop at (now (bytes .entry))) ⌝ }
+{
+    take_zero(new(bytes, at))
+}
+
+pub fn rest_at(bytes: &[u8], at: usize) -> Rest
+    ensures { λ r. ⌜ (r .from ≡ at) × (r .len ≡ length (now (bytes .entry)) - at) ⌝ }
+{
+    let r = new(bytes, at);
+    Rest {
+        from: place(r),
+        len: left(r),
+    }
+}
