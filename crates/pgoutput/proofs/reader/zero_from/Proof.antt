@@ -1,6 +1,6 @@
 use Rattle.wire.proofs.Laws.{tail-whole}
 use Rattle.wire.specs.Find.{indexOf}
-use mathlib.Core.Path.{_≡_, sym, ap}
+use mathlib.Core.Path.{sym, ap}
 use Prim.Native.Nat.{_≤_}
 use lib.ListN.{length, drop-of-length-le}
 use native.Mathlib.Omega.{arith}
