@@ -2,7 +2,7 @@
 use mathlib.Core.Path.{_≡_, refl, ap, _∙_}
 use mathlib.Core.Bool.{Bool, true, false}
 use mathlib.Core.List.{List, [], _∷_}
-use Prim.Native.Nat.{ℕ, _+_, _*_, _-_, _<_, _≤_, _%_, _^_}
+use Prim.Native.Nat.{ℕ, zero, suc, _+_, _*_, _-_, _<_, _≤_, _%_, _^_}
 use native.Mathlib.Omega.{arith}
 use lib.ListN.{length, getD}
 use lib.IntN.{ℤ, pos, negsuc}
@@ -24,7 +24,7 @@ use Rattle.worker.specs.declared.State.{State}
 use Rattle.worker.specs.declared.State.the-variants.{Opening, Turn, Drain, Reading, Waiting, Handling, Offering, Ended}
 use Rattle.worker.specs.declared.Whole.{Whole}
 use Rattle.worker.specs.Run.{lastStatus, wholeOf, offer, run}
-use Rattle.export.specs.Words.{flagOf, flagWord, byteOf, half, stateOf, stateWord, eventOf, partsOf, eventWords, settingsOf, settingsWords, headerWords, EventFits, Fits, Round-trip}
+use Rattle.export.specs.Words.{flagOf, flagWord, byteOf, half, stateOf, stateWord, eventOf, partsOf, eventWords, settingsOf, settingsWords, headerWords, HeaderFits, EventFits, Fits, Round-trip}
 
 flag-back : (b : Bool) → flagOf (flagWord b) ≡ b
 flag-back true = refl
@@ -71,13 +71,13 @@ event-back (StoppedAt reached) h = refl
 abbrev bytesOf : List ℕ → List ℕ
 bytesOf l = byteOf (getD l 0 0) ∷ byteOf (getD l 1 0) ∷ byteOf (getD l 2 0) ∷ byteOf (getD l 3 0) ∷ byteOf (getD l 4 0) ∷ []
 
-header-back : (l : List ℕ) → length l ≡ 5 → ((k : ℕ) → getD l k 0 < 256) → bytesOf l ≡ l
+header-back : (l : List ℕ) → length l ≡ 5 → ((k : ℕ) → k < 5 → getD l k 0 < 256) → bytesOf l ≡ l
 header-back [] h g = absurd (omega (arith, h))
 header-back (a ∷ []) h g = absurd (omega (arith, h))
 header-back (a ∷ b ∷ []) h g = absurd (omega (arith, h))
 header-back (a ∷ b ∷ c ∷ []) h g = absurd (omega (arith, h))
 header-back (a ∷ b ∷ c ∷ d ∷ []) h g = absurd (omega (arith, h))
-header-back (a ∷ b ∷ c ∷ d ∷ e ∷ []) h g = simp (byte-back a (g 0), byte-back b (g 1), byte-back c (g 2), byte-back d (g 3), byte-back e (g 4))
+header-back (a ∷ b ∷ c ∷ d ∷ e ∷ []) h g = simp (byte-back a (g 0 (omega arith)), byte-back b (g 1 (omega arith)), byte-back c (g 2 (omega arith)), byte-back d (g 3 (omega arith)), byte-back e (g 4 (omega arith)))
 header-back (a ∷ b ∷ c ∷ d ∷ e ∷ f ∷ l) h g = absurd (omega (arith, h))
 
 -- ---- the parts
@@ -88,10 +88,10 @@ settings-back s = rw (flag-back (s .«has_stop»), flag-back (s .timing), flag-b
 abbrev reader : List ℕ → Bool → MessageReader → MessageReader
 reader header refused x = record { header = header; filled = x .filled; «payload_len» = x .«payload_len»; refused = refused }
 
-reader-back : (x : MessageReader) → length (x .header) ≡ 5 → ((k : ℕ) → getD (x .header) k 0 < 256)
+reader-back : (x : MessageReader) → HeaderFits (x .header)
     → reader (bytesOf (x .header)) (flagOf (flagWord (x .refused))) x ≡ x
-reader-back x h g =
-    ap (λ (l : List ℕ). reader l (flagOf (flagWord (x .refused))) x) (header-back (x .header) h g)
+reader-back x h =
+    ap (λ (l : List ℕ). reader l (flagOf (flagWord (x .refused))) x) (header-back (x .header) (h .0) (h .1))
     ∙ ap (λ (b : Bool). reader (x .header) b x) (flag-back (x .refused))
 
 progress-back : (p : ProgressCell) → cell (p .applied) (flagOf (flagWord (p .signalled))) (p .«pending_since») (flagOf (flagWord (p .timed))) ≡ p
@@ -115,5 +115,15 @@ run-by es et ex ep el eb ew eo = rw (es, et, ex, ep, el, eb, ew, eo)
 
 pub round-trip : Round-trip
 round-trip r f =
-    run-by (settings-back (r .settings)) (state-back (r .state)) (reader-back (r .reader) (f .five) (f .bytes)) (progress-back (r .progress))
+    run-by (settings-back (r .settings)) (state-back (r .state)) (reader-back (r .reader) (f .header)) (progress-back (r .progress))
     (status-back (r .status)) (flag-back (r .pending)) (whole-back (r .whole) (f .tag)) (offer-back (r .offer) (f .event))
+
+-- five facts for one
+pub five-bytes : (l : List ℕ) → getD l 0 0 < 256 → getD l 1 0 < 256 → getD l 2 0 < 256 → getD l 3 0 < 256 → getD l 4 0 < 256
+    → (k : ℕ) → k < 5 → getD l k 0 < 256
+five-bytes l a b c d e zero h = a
+five-bytes l a b c d e (suc zero) h = b
+five-bytes l a b c d e (suc (suc zero)) h = c
+five-bytes l a b c d e (suc (suc (suc zero))) h = d
+five-bytes l a b c d e (suc (suc (suc (suc zero)))) h = e
+five-bytes l a b c d e (suc (suc (suc (suc (suc k))))) h = absurd (omega (arith, h))

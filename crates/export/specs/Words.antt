@@ -204,6 +204,9 @@ wordsOf r =
 
 -- ---- a run whose numbers have the widths of their types, as every run of a call has; where a word has the number's whole width nothing is asked
 
+abbrev pub HeaderFits : List ℕ → Type 0
+HeaderFits h = (length h ≡ 5) × ((k : ℕ) → k < 5 → getD h k 0 < 256)
+
 abbrev pub EventFits : Event → Type 0
 EventFits Nothing = Unit {0}
 EventFits (KeepAlive end time reply) = mag time < half
@@ -214,8 +217,7 @@ EventFits (XLogData start end time from len) = mag time < half
 EventFits (StoppedAt reached) = Unit {0}
 
 pub record Fits (r : Run) : Type 0 where
-  pub five : length (r .reader .header) ≡ 5
-  pub bytes : (k : ℕ) → getD (r .reader .header) k 0 < 256
+  pub header : HeaderFits (r .reader .header)
   pub tag : r .whole .tag < 256
   pub event : EventFits (r .offer .event)
 

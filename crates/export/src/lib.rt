@@ -50,6 +50,7 @@ pub extern "C" fn rufflesquash_open(
     written: &mut u64,
 ) -> u64
     ensures { λ r. ⌜ (r, now (run .exit), now (written .exit), now (out .exit)) ≡ openedWords (now (run .entry)) (openOf (settingsOf (now (settings .entry))) (now (slot .entry)) (now (publications .entry)) (lsn position) (lsn start) (now (out .entry))) ⌝ }
+    ensures kept { λ r. ⌜ (r ≡ 0 → runOf (now (run .exit)) ≡ openOf (settingsOf (now (settings .entry))) (now (slot .entry)) (now (publications .entry)) (lsn position) (lsn start) (now (out .entry)) .run) ⌝ }
 {
     let s = settings_of(*settings);
     let o = worker::session::open(s, slot, publications, Lsn(position), Lsn(start), out);
@@ -71,6 +72,7 @@ pub extern "C" fn rufflesquash_already_open(
     run: &mut [u64; 48],
 ) -> u64
     ensures { λ r. ⌜ (r, now (run .exit)) ≡ alreadyOpenWords (now (run .entry)) (alreadyOpenOf (settingsOf (now (settings .entry))) (lsn start)) ⌝ }
+    ensures kept { λ r. ⌜ (r ≡ 0 → runOf (now (run .exit)) ≡ alreadyOpenOf (settingsOf (now (settings .entry))) (lsn start) .1) ⌝ }
 {
     let s = settings_of(*settings);
     let o = worker::session::already_open(s, Lsn(start));
@@ -98,6 +100,7 @@ pub extern "C" fn rufflesquash_step(
     answer: &mut [u64; 12],
 )
     ensures { λ _. ⌜ (now (run .exit), now (answer .exit), now (payload .exit), now (out .exit)) ≡ steppedWords (stepOf (runOf (now (run .entry))) (inputOf moment «client_time» stop queue ended) (lent (now (unread .entry)) (now (payload .entry)) (now (out .entry)))) ⌝ }
+    ensures kept { λ _. ⌜ runOf (now (run .exit)) ≡ stepOf (runOf (now (run .entry))) (inputOf moment «client_time» stop queue ended) (lent (now (unread .entry)) (now (payload .entry)) (now (out .entry))) .run ⌝ }
 {
     let before = run_of(*run);
     let input = input_of(moment, client_time, stop, queue, ended);
@@ -111,6 +114,7 @@ pub extern "C" fn rufflesquash_step(
 #[no_mangle]
 pub extern "C" fn rufflesquash_report(run: &mut [u64; 48], position: u64, moment: u64)
     ensures { λ _. ⌜ now (run .exit) ≡ wordsOf (reportOf (runOf (now (run .entry))) (lsn position) (momentOf moment)) ⌝ }
+    ensures kept { λ _. ⌜ runOf (now (run .exit)) ≡ reportOf (runOf (now (run .entry))) (lsn position) (momentOf moment) ⌝ }
 {
     let before = run_of(*run);
     *run = words_of(worker::session::report(before, Lsn(position), Moment(moment)));

@@ -3,7 +3,7 @@ ghost use mathlib.Core.Path.{_≡_};
 ghost use Prim.Native.Nat.{_<_, _%_, _^_};
 ghost use lib.Signed.{mag};
 ghost use Rattle.wire.specs.Field.{signed, unsigned};
-ghost use Rattle.export.specs.Words.{half, flagOf, flagWord, byteOf, stateOf, stateWord, eventOf, partsOf, eventWords, settingsOf, headerOf, readerOf, clockOf, progressOf, lastStatusOf, wholeMessageOf, offerOf, metricsOf, runOf, metricsWords, lastStatusWords, wordsOf};
+ghost use Rattle.export.specs.Words.{half, flagOf, flagWord, byteOf, stateOf, stateWord, eventOf, partsOf, eventWords, settingsOf, headerOf, readerOf, clockOf, progressOf, lastStatusOf, wholeMessageOf, offerOf, metricsOf, runOf, metricsWords, lastStatusWords, wordsOf, headerWords, HeaderFits, EventFits};
 use framing::MessageReader;
 use lsn::Lsn;
 use metrics::Metrics;
@@ -38,7 +38,7 @@ fn byte_of(n: u64) -> u8
 }
 
 fn wide(b: u8) -> u64
-    ensures { λ r. ⌜ r ≡ b ⌝ }
+    ensures { λ r. ⌜ (r ≡ b) × (b < 256) ⌝ }
 {
     b as u64
 }
@@ -173,7 +173,7 @@ fn parts_of(kind: u64, a: u64, b: u64, c: u64, d: u64, e: u64, f: u64) -> Event
 }
 
 pub(crate) fn event_words(event: Event) -> [u64; 7]
-    ensures { λ r. ⌜ r ≡ eventWords event ⌝ }
+    ensures { λ r. ⌜ (r ≡ eventWords event) × EventFits event ⌝ }
 {
     match event {
         Event::Nothing => [0, 0, 0, 0, 0, 0, 0],
@@ -359,13 +359,20 @@ pub(crate) fn metrics_words(m: Metrics) -> [u64; 7]
     ]
 }
 
-// A table: the words in their order.
+fn header_words(h: [u8; 5]) -> [u64; 5]
+    ensures { λ r. ⌜ (r ≡ headerWords h) × HeaderFits h ⌝ }
+{
+    [wide(h[0]), wide(h[1]), wide(h[2]), wide(h[3]), wide(h[4])]
+}
+
+// A table: the words in their order. They stand for the run that they were made of.
 pub(crate) fn words_of(run: Run) -> [u64; 48]
-    ensures { λ r. ⌜ r ≡ wordsOf run ⌝ }
+    ensures { λ r. ⌜ (r ≡ wordsOf run) × (runOf r ≡ run) ⌝ }
 {
     let s = run.settings;
     let reader = run.reader;
-    let header = reader.header;
+    let bytes = reader.header;
+    let header = header_words(bytes);
     let clock = run.clock;
     let progress = run.progress;
     let status = run.status;
@@ -384,11 +391,11 @@ pub(crate) fn words_of(run: Run) -> [u64; 48]
         flag(s.timing),
         flag(s.binary),
         state_word(state),
-        wide(header[0]),
-        wide(header[1]),
-        wide(header[2]),
-        wide(header[3]),
-        wide(header[4]),
+        header[0],
+        header[1],
+        header[2],
+        header[3],
+        header[4],
         reader.filled as u64,
         reader.payload_len as u64,
         flag(reader.refused),

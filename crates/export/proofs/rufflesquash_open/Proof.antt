@@ -1,5 +1,4 @@
 use Rattle.export.proofs.Laws.{opened, not-opened, open-by}
-use borrow.Author.Tests.{ne-eqb}
 use borrow.Author.Needs.{needs}
 use Rattle.export.proofs.rufflesquash_open.Statement.{statement}
 use Rattle.export.proofs.rufflesquash_open.Tie as tie
@@ -20,13 +19,13 @@ same-length : tie.Need-same-length
 same-length c = search needs
 
 returns : tie.Need-returns
-returns c = opened _ (c .before .before .before .before .before .before .before .«open» .result) (open-by (c .before .before .before .before .before .before .before .before .before .settings-of .ensures) _ _ _ _ _ (c .before .before .before .before .before .before .before .«open» .ensures)) (c .before .before .before .before .written-reply .ensures) (c .before .before .if1 .taken) (c .words-of .ensures)
+returns c = opened (c .before .before .before .before .before .before .before .«open» .result) (open-by (c .before .before .before .before .before .before .before .before .before .settings-of .ensures) _ _ _ _ _ (c .before .before .before .before .before .before .before .«open» .ensures)) (c .before .before .before .before .written-reply .ensures) _ (c .before .before .if1 .taken) (c .words-of .ensures)
 
 same-length-2 : tie.Need-same-length-2
 same-length-2 c = search needs
 
 returns-2 : tie.Need-returns-2
-returns-2 c = not-opened (c .before .before .before .before .before .«open» .result) (open-by (c .before .before .before .before .before .before .before .settings-of .ensures) _ _ _ _ _ (c .before .before .before .before .before .«open» .ensures)) (c .before .before .written-reply .ensures) (ne-eqb _ _ (c .if1 .left))
+returns-2 c = not-opened (c .before .before .before .before .before .«open» .result) (open-by (c .before .before .before .before .before .before .before .settings-of .ensures) _ _ _ _ _ (c .before .before .before .before .before .«open» .ensures)) (c .before .before .written-reply .ensures) (c .if1 .left)
 
 pub rufflesquash-open-spec : {M : Type 1} → statement M
 rufflesquash-open-spec =

@@ -39,7 +39,7 @@ array-read-t38 : tie.Need-array-read-t38
 array-read-t38 c = search needs
 
 returns : tie.Need-returns
-returns c = rw (c .event-words .ensures, c .before .waited-words .ensures, c .before .before .verdict-word .ensures)
+returns c = rw (c .event-words .ensures .0, c .before .waited-words .ensures, c .before .before .verdict-word .ensures)
 
 pub answer-words-spec : {M : Type 1} → statement M
 answer-words-spec =
