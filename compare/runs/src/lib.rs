@@ -8,6 +8,7 @@ pub mod leaf;
 pub mod leaves;
 pub mod modelled;
 pub mod original;
+pub mod ours;
 pub mod record;
 pub mod scenario;
 pub mod server;

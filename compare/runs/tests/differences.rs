@@ -2,8 +2,9 @@
 
 use runs::compare::{compare, shrink};
 use runs::generate::scenario;
-use runs::leaf::{compare_leaves, Leaves, OriginalLeaves, Spelling};
+use runs::leaf::{self, compare_leaves, Leaves, OriginalLeaves};
 use runs::modelled;
+use runs::ours;
 use runs::original::{Copied, Original};
 use runs::record::{Event, Line, Record};
 use runs::scenario::{Happening, Scenario};
@@ -57,6 +58,15 @@ fn the_rust_agrees_with_itself() {
 #[test]
 fn the_model_agrees_with_the_rust() {
     let (mut first, mut second) = (Original::default(), modelled::side());
+    for seed in 1..3_000 {
+        let s = scenario(seed);
+        assert_eq!(compare(&mut first, &mut second, &s), None, "seed {seed}");
+    }
+}
+
+#[test]
+fn the_project_agrees_with_the_rust() {
+    let (mut first, mut second) = (Original::default(), ours::side());
     for seed in 1..3_000 {
         let s = scenario(seed);
         assert_eq!(compare(&mut first, &mut second, &s), None, "seed {seed}");
@@ -118,7 +128,7 @@ fn a_changed_moment_is_compared() {
     assert!(size(&small) <= 6, "{}", small.print());
 }
 
-/// Takes a lone plus sign for zero.
+/// Misses the slash behind a lone plus sign.
 struct Lax;
 
 impl Leaves for Lax {
@@ -126,18 +136,19 @@ impl Leaves for Lax {
         "lax"
     }
 
-    fn answer(&mut self, kind: u8, input: &[u8], out: &mut Spelling) {
-        if kind == b'p' && input == b"+/0" {
-            out.refusal(0);
-            out.number(0);
-            return;
+    fn answer(&mut self, records: &[u8]) -> Vec<u8> {
+        let mut lines = OriginalLeaves.answer(records);
+        for (record, line) in leaf::records(records).zip(lines.split_mut(|b| *b == b'\n')) {
+            if record.kind == b'p' && record.input == b"+/0" {
+                line.copy_from_slice(b"p 22");
+            }
         }
-        OriginalLeaves.answer(kind, input, out)
+        lines
     }
 }
 
 #[test]
 fn a_leaf_that_differs_is_found() {
     let said = compare_leaves(&mut OriginalLeaves, &mut Lax, 0, 1).unwrap_err();
-    assert_eq!(said, "leaf p 2b2f30\nrust: 17\nlax: 000000000000000000");
+    assert_eq!(said, "leaf p 2b2f30\nrust: p 23\nlax: p 22");
 }

@@ -1,14 +1,17 @@
-//! Compares two sides: compare [SCENARIOS [LEAF INPUTS [SEED]]]
+//! Compares the Rust with the project: compare [--model] [SCENARIOS [LEAF INPUTS [SEED]]]
 //!
-//! Until the project's own side is linked, the second side is the model of a run in `vectors/`, and for the leaves the Rust once more.
+//! With --model the runs are compared with the model in `vectors/` instead. LEAVES names the program
+//! `leaves`; unset, it is sought as compare/run leaves it.
 
 use runs::compare::{compare, shrink};
 use runs::generate::scenario;
-use runs::leaf::{compare_leaves, OriginalLeaves};
+use runs::leaf::{compare_leaves, OriginalLeaves, Program};
 use runs::modelled;
 use runs::original::Original;
+use runs::ours;
 use runs::scenario::Scenario;
 use runs::side::Side;
+use runs::stepped::{Stepped, Steps};
 use std::collections::BTreeMap;
 use std::time::{Duration, Instant};
 
@@ -24,18 +27,9 @@ fn show(first: &mut dyn Side, second: &mut dyn Side, seed: u64, shown: &Scenario
     fails(format!("seed {seed} shows a difference; the smallest scenario found:\n\n{}\n{said}", small.print()))
 }
 
-fn main() {
-    let number = |i: usize, usual: u64| {
-        std::env::args().nth(i).map_or(usual, |a| {
-            a.parse().unwrap_or_else(|_| {
-                eprintln!("compare: not a number: {a}");
-                std::process::exit(2)
-            })
-        })
-    };
-    let (scenarios, leaves, seed) = (number(1, 100_000), number(2, 10_000_000), number(3, 1));
-
-    let (mut first, mut second) = (Original::default(), modelled::side());
+/// Plays scenarios on both; how far the second went.
+fn runs<R: Steps>(mut second: Stepped<R>, scenarios: u64, seed: u64) {
+    let mut first = Original::default();
     let mut ends: BTreeMap<String, u64> = BTreeMap::new();
     let begun = Instant::now();
     for i in seed..seed + scenarios {
@@ -47,14 +41,35 @@ fn main() {
     }
     let (reached, missing) = second.coverage.print();
     println!("{reached}");
-    println!("{scenarios} scenarios, {} steps, in {:.0} s, no difference", second.steps, begun.elapsed().as_secs_f64());
+    println!("{scenarios} scenarios, rust and {}, {} steps, in {:.0} s, no difference", second.name, second.steps, begun.elapsed().as_secs_f64());
     println!("ends: {}", ends.iter().map(|(end, n)| format!("{end}: {n}")).collect::<Vec<_>>().join(", "));
     if scenarios >= 100_000 && !missing.is_empty() {
         fails(format!("not reached: {}", missing.join("; ")));
     }
+}
+
+fn main() {
+    let mut words: Vec<String> = std::env::args().skip(1).collect();
+    let model = words.first().is_some_and(|w| w == "--model");
+    words.drain(..model as usize);
+    let number = |i: usize, usual: u64| {
+        words.get(i).map_or(usual, |a| {
+            a.parse().unwrap_or_else(|_| {
+                eprintln!("compare: not a number: {a}");
+                std::process::exit(2)
+            })
+        })
+    };
+    let (scenarios, leaves, seed) = (number(0, 100_000), number(1, 10_000_000), number(2, 1));
+    if model {
+        runs(modelled::side(), scenarios, seed);
+        return;
+    }
+    runs(ours::side(), scenarios, seed);
 
     let begun = Instant::now();
-    match compare_leaves(&mut OriginalLeaves, &mut OriginalLeaves, leaves, seed) {
+    let mut program = Program { path: std::env::var_os("LEAVES").unwrap_or("../bin/leaves".into()).into() };
+    match compare_leaves(&mut OriginalLeaves, &mut program, leaves, seed) {
         Err(difference) => fails(difference),
         Ok(counts) => {
             let all: u64 = counts.iter().map(|c| c.1).sum();

@@ -1,0 +1,131 @@
+//! The project itself as a side: the proved archive, through the crate `host/`.
+
+use crate::record::{Event, Metrics, STATUS};
+use crate::scenario::Scenario;
+use crate::stepped::{Answer, Input, Queue, State, Stepped, Steps};
+use rufflesquash::{Lsn, Moment, Run, Settings};
+use std::time::Duration;
+
+#[derive(Default)]
+pub struct Ours {
+    run: Option<Run>,
+    payload: Vec<u8>,
+    /// For lossy texts.
+    text: Vec<u8>,
+}
+
+pub fn side() -> Stepped<Ours> {
+    Stepped { name: "ours", run: Ours::default(), coverage: Default::default(), steps: 0 }
+}
+
+/// What one of the writers makes of a text; the longest is three bytes for one, and the words around an error's fields.
+fn written(text: &[u8], out: &mut Vec<u8>, write: impl Fn(&[u8], &mut [u8]) -> Result<usize, rufflesquash::Refusal>) -> Vec<u8> {
+    out.resize(out.len().max(3 * text.len() + 64), 0);
+    let n = write(text, out).expect("the text has room");
+    out[..n].to_vec()
+}
+
+impl Steps for Ours {
+    fn begin(&mut self, s: &Scenario) -> Vec<u8> {
+        let settings = Settings {
+            status_interval: Duration::from_millis(s.status),
+            idle_wakeup_interval: Duration::from_millis(s.idle),
+            max_message_size: s.limit as usize,
+            stop_at_lsn: s.stop_at.map(Lsn),
+            timing: s.timing,
+            binary: s.binary,
+        };
+        self.payload.clear();
+        self.payload.resize(settings.payload_len(), 0);
+        if s.open {
+            self.run = Some(Run::already_open(&settings, Lsn(s.start)).expect("settings within their bounds"));
+            return Vec::new();
+        }
+        let names: Vec<&[u8]> = s.publications.iter().map(|p| p.as_bytes()).collect();
+        let length = 256 + s.slot.len() + names.iter().map(|n| 2 * n.len() + 1).sum::<usize>();
+        let mut out = vec![0; length];
+        let (run, n) =
+            Run::open(&settings, s.slot.as_bytes(), &names, Lsn(s.query), Lsn(s.start), &mut out).expect("settings within their bounds, and room");
+        self.run = Some(run);
+        out.truncate(n);
+        out
+    }
+
+    fn step(&mut self, input: &Input) -> Answer {
+        let run = self.run.as_mut().expect("a run that was begun");
+        let queue = match input.queue {
+            Queue::Free => rufflesquash::Queue::Free,
+            Queue::Full => rufflesquash::Queue::Full,
+            Queue::Closed => rufflesquash::Queue::Closed,
+        };
+        let lent = rufflesquash::Input {
+            moment: Moment(input.moment),
+            client_time: input.client_time,
+            stop: input.stop,
+            queue,
+            ended: input.ended,
+        };
+        let mut out = [0; STATUS];
+        let step = run.step(&lent, input.unread, &mut self.payload, &mut out);
+        let text = &mut self.text;
+        let answer = Answer {
+            refusal: step.refusal.map_or(0, |r| r.number()),
+            taken: step.taken,
+            state: state_of(run.state()),
+            written: out[..step.written].to_vec(),
+            waited: step.waited.map(|time| time.as_nanos() as u64),
+            event: step.event.map(|event| event_of(event, text)),
+            error: Vec::new(),
+        };
+        match run.error(&self.payload) {
+            Some(payload) => Answer { error: written(payload, text, rufflesquash::error_text), ..answer },
+            None => answer,
+        }
+    }
+
+    fn report(&mut self, position: u64, moment: u64) {
+        self.run.as_mut().expect("a run that was begun").report(Lsn(position), Moment(moment))
+    }
+
+    fn metrics(&self) -> Metrics {
+        let m = self.run.as_ref().expect("a run that was begun").metrics();
+        [
+            m.events_forwarded,
+            m.feedback_sent,
+            m.keepalive_replies,
+            m.stall_count,
+            m.stall_micros_total,
+            m.last_applied_lsn.0,
+            m.last_wal_end.0,
+        ]
+    }
+}
+
+fn state_of(state: rufflesquash::State) -> State {
+    match state {
+        rufflesquash::State::Opening => State::Opening,
+        rufflesquash::State::Turn => State::Turn,
+        rufflesquash::State::Drain => State::Drain,
+        rufflesquash::State::Reading => State::Reading,
+        rufflesquash::State::Waiting => State::Waiting,
+        rufflesquash::State::Handling => State::Handling,
+        rufflesquash::State::Offering => State::Offering,
+        rufflesquash::State::Ended => State::Ended,
+    }
+}
+
+fn event_of(event: rufflesquash::Event, text: &mut Vec<u8>) -> Event {
+    use rufflesquash::Event as Ours;
+    match event {
+        Ours::KeepAlive { wal_end, server_time, reply_requested } => Event::KeepAlive { end: wal_end.0, time: server_time, reply: reply_requested },
+        Ours::Begin { final_lsn, commit_time, xid } => Event::Begin { last: final_lsn.0, time: commit_time, xid },
+        Ours::Commit { lsn, end_lsn, commit_time } => Event::Commit { position: lsn.0, end: end_lsn.0, time: commit_time },
+        Ours::Message { transactional, lsn, prefix, content } => {
+            Event::Message { flag: transactional, position: lsn.0, prefix: written(prefix, text, rufflesquash::lossy), content: content.to_vec() }
+        }
+        Ours::XLogData { wal_start, wal_end, server_time, data } => {
+            Event::Data { start: wal_start.0, end: wal_end.0, time: server_time, data: data.to_vec() }
+        }
+        Ours::StoppedAt { reached } => Event::StoppedAt { reached: reached.0 },
+    }
+}
