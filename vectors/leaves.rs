@@ -378,9 +378,13 @@ fn main() {
     auths(&mut v, &mut draw);
     name_lists(&mut v, &mut draw);
     messages::all(&mut v, &mut draw);
+    // the Rust's own answers, as they were recorded: a fixed list
+    v.input.extend(std::fs::read("recorded/leaves-stdin").unwrap());
+    v.lines += &std::fs::read_to_string("recorded/leaves-stdout").unwrap();
     // an unknown kind ends the program
     v.input.extend([b'?', 0, 0, 0, 0, 0, 0, 0, 0, 0]);
     v.lines.push_str("BAD\n");
+    assert!(v.input.len().max(v.lines.len()) < 1_000_000, "{} and {} bytes", v.input.len(), v.lines.len());
     std::fs::write(&args[1], &v.input).unwrap();
     std::fs::write(&args[2], &v.lines).unwrap();
     for (kind, n) in &v.counts {

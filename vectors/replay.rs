@@ -30,6 +30,16 @@ impl Vectors {
     }
 }
 
+/// Scripts with the answers of the Rust itself, as they were recorded: a fixed list.
+fn recorded(v: &mut Vectors) -> usize {
+    let lines = std::fs::read_to_string("recorded/replay-stdout").unwrap();
+    let scripts = lines.lines().filter(|line| line.starts_with("END ")).count();
+    v.input.extend(std::fs::read("recorded/replay-stdin").unwrap());
+    v.lines += &lines;
+    v.scripts += scripts;
+    scripts
+}
+
 /// An unknown letter in a call's place ends the program behind the lines already due.
 fn malformed(v: &mut Vectors) {
     let mut script = Script::new(&[]);
@@ -50,6 +60,7 @@ fn main() {
     cases::all(&mut |script| v.add(script));
     let told = v.scripts;
     mixed::all(&mut |script| v.add(script));
+    let recorded = recorded(&mut v);
     malformed(&mut v);
     let (reached, missing) = coverage::counts();
     assert!(missing.is_empty(), "no script reaches {missing:?}");
@@ -59,7 +70,7 @@ fn main() {
     let counts: String = reached.iter().map(|(what, n)| format!("{n} {what}\n")).collect();
     std::fs::write(folder.join("reached"), counts).unwrap();
     let (scripts, lines, tests) = (v.scripts + 1, v.lines.lines().count(), coverage::owed().len());
-    println!("vectors: replay, {scripts} scripts ({told} of cases), {lines} lines, {tests} tests reached");
+    println!("vectors: replay, {scripts} scripts ({told} of cases, {recorded} recorded), {lines} lines, {tests} tests reached");
     events::all(&folder);
     std::fs::write(folder.join("too_long-stdout"), too_long::lines()).unwrap();
 }

@@ -3,7 +3,7 @@
 use crate::stepped::{Answer, Input, Queue, State};
 use std::collections::HashMap;
 
-#[derive(Default)]
+#[derive(Clone, Default)]
 pub struct Coverage {
     reached: HashMap<&'static str, u64>,
     refusals: HashMap<(&'static str, u8), u64>,

@@ -53,7 +53,7 @@ fn room(kind: u8, input: &[u8]) -> usize {
     }
 }
 
-fn put_record(kind: u8, input: &[u8], out: &mut Vec<u8>) {
+pub fn put_record(kind: u8, input: &[u8], out: &mut Vec<u8>) {
     out.push(kind);
     out.extend_from_slice(&(room(kind, input) as u32).to_be_bytes());
     out.push(input.len() as u8 ^ 0x5A);

@@ -10,6 +10,7 @@ pub mod modelled;
 pub mod original;
 pub mod ours;
 pub mod record;
+pub mod recorded;
 pub mod scenario;
 pub mod server;
 pub mod side;

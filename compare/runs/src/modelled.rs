@@ -8,7 +8,9 @@ use crate::stepped::{Answer, Input, Queue, State, Stepped, Steps};
 #[derive(Default)]
 pub struct Modelled {
     run: Option<model::Run>,
-    payload: Vec<u8>,
+    pub(crate) payload: Vec<u8>,
+    /// The event last handed on, with its prefix as it came.
+    pub(crate) event: Option<model::Event>,
     /// The message being read, and the last whole one's payload: its error's text is not the model's matter.
     reading: Vec<u8>,
     whole: Vec<u8>,
@@ -66,6 +68,7 @@ impl Steps for Modelled {
         let answer = run.step(&lent, &mut self.payload, &mut out);
         let state = state_of(run.state);
         self.read(&input.unread[..answer.taken]);
+        self.event.clone_from(&answer.event);
         Answer {
             refusal: answer.refusal,
             taken: answer.taken,
