@@ -152,3 +152,25 @@ fn a_leaf_that_differs_is_found() {
     let said = compare_leaves(&mut OriginalLeaves, &mut Lax, 0, 1).unwrap_err();
     assert_eq!(said, "leaf p 2b2f30\nrust: p 23\nlax: p 22");
 }
+
+/// The table of behaviour that may surprise in docs/DIFFERENCES.md: both sides have it.
+#[test]
+fn behaviour_that_may_surprise_is_both_sides() {
+    let keepalive = "bytes 64000000166b0000000000000000000000000000000000";
+    let cases = [
+        ("run open\nstatus 1\nidle 1\nat 0\nbytes 4e000000046400000005\nat 5\nreport 0/10\nat 10\nstop\nat 20\nend\n", 3, "20 end 9 -"),
+        ("run open\nstatus 1\nidle 10\nat 0\nat 9\n", 1, "0 write 64000000267200"),
+        ("run opened\nstatus 1\nidle 1\nat 0\nstop\nat 50\n", 1, "0 write 51000000"),
+        (&format!("run open\nat 0\nclose\n{keepalive}\nat 5\n"), 2, "0 piece 23"),
+        ("run opened\nat 0\n", 1, "7075626c69636174696f6e5f6e616d6573202727"),
+        ("run open\nstop_at 0/0\nat 0\nbytes 640000001d77000000000000000000000000000000000000000000000000\n", 6, "0 event S 0/0"),
+    ];
+    let (mut first, mut second) = (Original::default(), ours::side());
+    for (text, lines, shown) in cases {
+        let s = Scenario::parse(text).unwrap();
+        assert_eq!(compare(&mut first, &mut second, &s), None, "{text}");
+        let record = first.run(&s, &[]);
+        assert_eq!(record.lines.len(), lines, "{text}{}", record.print());
+        assert!(record.print().contains(shown), "{text}{}", record.print());
+    }
+}
