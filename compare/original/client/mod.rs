@@ -28,38 +28,5 @@ pub mod worker {
         pub fn option_value(names: Vec<String>) -> String {
             crate::config::Publication::from(names).to_option_value()
         }
-
-        /// A `ProgressCell`, its clock handed in.
-        pub struct Cell(ProgressCell);
-
-        impl Cell {
-            pub fn new(start: u64, timed: bool) -> Self {
-                Cell(ProgressCell::new(start, timed))
-            }
-
-            pub fn load(&self) -> u64 {
-                self.0.load()
-            }
-
-            pub fn raise(&self, position: u64, now: u64) -> bool {
-                self.0.raise(position, || now)
-            }
-
-            pub fn take_signal(&self) -> u64 {
-                self.0.take_signal()
-            }
-
-            pub fn take_pending(&self, sent: u64, loaded_at: u64) -> u64 {
-                self.0.take_pending(sent, loaded_at)
-            }
-
-            pub fn pending_since(&self) -> u64 {
-                self.0.pending_since()
-            }
-
-            pub fn carry_pending(&self, since: u64) {
-                self.0.carry_pending(since)
-            }
-        }
     }
 }

@@ -4,7 +4,6 @@ use crate::original::{event_of, number_of};
 use crate::record::Event;
 use bytes::Bytes;
 use original::client::worker::reach;
-pub use original::client::worker::reach::Cell;
 use original::error::PgWireError;
 use original::lsn::Lsn;
 use original::protocol::framing::{write_copy_data, write_copy_done, write_query, write_startup_message, MessageReader, MAX_MESSAGE_SIZE};
