@@ -1,4 +1,6 @@
 use lib.ListN.{length}
+use Rattle.lines.proofs.Laws.{left-less}
+use native.Mathlib.Omega.{arith}
 use borrow.Author.Needs.{needs}
 use mathlib.Core.Path.{_≡_}
 use Rattle.leaves.proofs.run.Statement.{statement}
@@ -20,7 +22,7 @@ left-requires : tie.Need-left-requires Inv-loop μ-loop
 left-requires c κs = search needs
 
 loop-less : tie.Need-loop-less Inv-loop μ-loop
-loop-less c = search needs
+loop-less c = left-less (c .before .before .before .before .before .before .before .before .before .before .before .before .before .before .before .loop .records) (c .before .before .before .before .before .before .before .before .before .one-record .result) (c .left .ensures) (omega arith)
 
 loop-again : tie.Need-loop-again Inv-loop μ-loop
 loop-again c = search needs

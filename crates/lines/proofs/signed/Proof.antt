@@ -1,5 +1,7 @@
 -- 32 bits fit 64.
-use mir.Syntax.{w32}
+use Rattle.lines.proofs.Laws.{pieces-two}
+use mir.Val.{SFits}
+use mir.Syntax.{w32, w64}
 use mir.ValLaws.{toZ-ofZ}
 use native.Mathlib.Omega.{arith}
 use borrow.Author.Needs.{needs}
@@ -22,7 +24,11 @@ same-length : tie.Need-same-length
 same-length c = search needs
 
 returns : tie.Need-returns
-returns c = search needs
+returns c =
+    let a = c .before .before .before .before .before .before .before .before .before .before .args in
+    let f = c .before .before .before .before .before .before .before .before .before .before .fits .n in
+    let g : SFits w64 (a .n) = record { sfits = omega (arith, f .sfits) } in
+    pieces-two (a .line .now) (a .at) _ _ (c .before .before .before .before .before .before .place .ensures) (rw (toZ-ofZ w32 (a .n) f, toZ-ofZ w64 (a .n) g) at (c .before .before .place-signed .ensures))
 
 pub signed-spec : {M : Type 1} → statement M
 signed-spec =

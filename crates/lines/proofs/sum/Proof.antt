@@ -1,17 +1,21 @@
-use lib.ListN.{length}
+use Rattle.lines.specs.Line.{sumFrom, sumOf}
+use Rattle.lines.proofs.Laws.{sum-start, sum-turn, sum-end}
+use lib.ListN.{length, drop}
+use mathlib.Core.Path.{_≡_}
+use native.Mathlib.Omega.{arith}
 use borrow.Author.Needs.{needs}
-use Prim.Native.Nat.{_≤_, _-_}
+use Prim.Native.Nat.{_≤_, _<_, _-_}
 use Rattle.lines.proofs.sum.Statement.{statement}
 use Rattle.lines.proofs.sum.Tie as tie
 
 abbrev Inv-loop : tie.InvT-loop
-Inv-loop s h₀ i₀ h i = (i ≤ length s)
+Inv-loop s h₀ i₀ h i = (i ≤ length s) × ((h < 4294967296) × (sumFrom h (drop i s) ≡ sumOf s))
 
 abbrev μ-loop : tie.MeasureT-loop
 μ-loop s h₀ i₀ h i = length s - i
 
 loop-holds : tie.Need-loop-holds Inv-loop μ-loop
-loop-holds c = search needs
+loop-holds c = (omega arith, (omega arith, sum-start _))
 
 shared-slice-read-next : tie.Need-shared-slice-read-next Inv-loop μ-loop
 shared-slice-read-next c = search needs
@@ -26,10 +30,16 @@ loop-less : tie.Need-loop-less Inv-loop μ-loop
 loop-less c = search needs
 
 loop-again : tie.Need-loop-again Inv-loop μ-loop
-loop-again c = search needs
+loop-again c =
+    let l = c .before .before .before .loop in
+    let s = c .before .before .before .before .before .args .s .now in
+    let e = c .next .ensures in
+    (omega arith, (omega arith, rw e (sum-turn s (l .h) (l .i) _ (omega arith) (l .inv .1 .1))))
 
 returns : tie.Need-returns Inv-loop μ-loop
-returns c = search needs
+returns c =
+    let l = c .before .loop in
+    sum-end _ (l .h) (l .i) _ (omega arith) (l .inv .1 .1)
 
 pub sum-spec : {M : Type 1} → statement M
 sum-spec =
