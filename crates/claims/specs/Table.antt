@@ -92,6 +92,7 @@ waitingSay idle (refused n) = say n nothing
 
 -- ---- the last whole message of the bytes taken
 
+-- the last of a list, or what stands before it
 unfoldable pub lastOr : ℕ × List ℕ → List (ℕ × List ℕ) → ℕ × List ℕ
 lastOr m [] = m
 lastOr m (n ∷ ns) = lastOr n ns

@@ -79,6 +79,7 @@ partsOf kind a b c d e f =
     (pick (eqb kind 6) (StoppedAt (lsn a))
     Nothing))
 
+-- an event by its kind and six numbers; other kinds are none
 unfoldable pub eventOf : ℕ → ℕ → ℕ → ℕ → ℕ → ℕ → ℕ → Event
 eventOf kind a b c d e f =
     pick (eqb kind 1) (KeepAlive (lsn a) (signed half b) (flagOf c))
