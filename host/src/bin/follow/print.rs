@@ -1,0 +1,329 @@
+//! An event as a line, for people or as JSON.
+use rufflesquash::{Event, Lsn};
+use std::fmt::Write;
+
+/// An event with its own bytes, and what the host itself adds to the list.
+#[derive(Clone, Debug, PartialEq)]
+pub enum Item {
+    KeepAlive {
+        wal_end: Lsn,
+        time: i64,
+        reply: bool,
+    },
+    Begin {
+        final_lsn: Lsn,
+        time: i64,
+        xid: u32,
+    },
+    Commit {
+        lsn: Lsn,
+        end_lsn: Lsn,
+        time: i64,
+    },
+    Message {
+        transactional: bool,
+        lsn: Lsn,
+        prefix: Vec<u8>,
+        content: Vec<u8>,
+    },
+    Data {
+        start: Lsn,
+        end: Lsn,
+        time: i64,
+        data: Vec<u8>,
+    },
+    StoppedAt(Lsn),
+    /// The stream begins again from here after a cut: a transaction without its commit is sent again whole.
+    Resumed(Lsn),
+}
+
+impl Item {
+    pub fn of(event: Event) -> Item {
+        match event {
+            Event::KeepAlive {
+                wal_end,
+                server_time,
+                reply_requested: reply,
+            } => Item::KeepAlive {
+                wal_end,
+                time: server_time,
+                reply,
+            },
+            Event::Begin {
+                final_lsn,
+                commit_time: time,
+                xid,
+            } => Item::Begin {
+                final_lsn,
+                time,
+                xid,
+            },
+            Event::Commit {
+                lsn,
+                end_lsn,
+                commit_time: time,
+            } => Item::Commit { lsn, end_lsn, time },
+            Event::StoppedAt { reached } => Item::StoppedAt(reached),
+            Event::Message { .. } | Event::XLogData { .. } => Item::with_bytes(event),
+        }
+    }
+
+    // The events that have bytes of the server; others have been told apart.
+    fn with_bytes(event: Event) -> Item {
+        match event {
+            Event::Message {
+                transactional,
+                lsn,
+                prefix,
+                content,
+            } => Item::Message {
+                transactional,
+                lsn,
+                prefix: prefix.to_vec(),
+                content: content.to_vec(),
+            },
+            Event::XLogData {
+                wal_start: start,
+                wal_end: end,
+                server_time: time,
+                data,
+            } => Item::Data {
+                start,
+                end,
+                time,
+                data: data.to_vec(),
+            },
+            other => Item::of(other),
+        }
+    }
+
+    /// How many bytes of the server it holds.
+    pub fn size(&self) -> usize {
+        match self {
+            Item::Message {
+                prefix, content, ..
+            } => prefix.len() + content.len(),
+            Item::Data { data, .. } => data.len(),
+            _ => 0,
+        }
+    }
+
+    /// A line for people.
+    pub fn text(&self) -> String {
+        match self {
+            Item::KeepAlive { wal_end, time, .. } => {
+                format!("keepalive {wal_end} at {}", date(*time))
+            }
+            Item::Begin {
+                final_lsn,
+                time,
+                xid,
+            } => format!("begin {xid} final {final_lsn} at {}", date(*time)),
+            Item::Commit { lsn, end_lsn, time } => {
+                format!("commit {lsn} end {end_lsn} at {}", date(*time))
+            }
+            Item::Message {
+                transactional,
+                lsn,
+                prefix,
+                content,
+            } => {
+                let kind = if *transactional {
+                    "transactional"
+                } else {
+                    "immediate"
+                };
+                format!(
+                    "message {lsn} {kind} {} {}",
+                    quoted(prefix),
+                    quoted(content)
+                )
+            }
+            Item::Data { start, data, .. } => {
+                format!("data {start} {} {} bytes", kind(data), data.len())
+            }
+            Item::StoppedAt(reached) => format!("stopped at {reached}"),
+            Item::Resumed(from) => format!("resumed from {from}"),
+        }
+    }
+
+    /// A line that is a JSON object; bytes stand as hexadecimal text, positions as PostgreSQL shows them.
+    pub fn json(&self) -> String {
+        let (event, fields) = match self {
+            Item::KeepAlive {
+                wal_end,
+                time,
+                reply,
+            } => (
+                "keepalive",
+                format!(
+                    r#""wal_end":"{wal_end}","time":"{}","reply":{reply}"#,
+                    date(*time)
+                ),
+            ),
+            Item::Begin {
+                final_lsn,
+                time,
+                xid,
+            } => (
+                "begin",
+                format!(
+                    r#""final_lsn":"{final_lsn}","time":"{}","xid":{xid}"#,
+                    date(*time)
+                ),
+            ),
+            Item::Commit { lsn, end_lsn, time } => (
+                "commit",
+                format!(
+                    r#""lsn":"{lsn}","end_lsn":"{end_lsn}","time":"{}""#,
+                    date(*time)
+                ),
+            ),
+            Item::Message { .. } => ("message", self.json_bytes()),
+            Item::Data { .. } => ("data", self.json_bytes()),
+            Item::StoppedAt(reached) => ("stopped", format!(r#""reached":"{reached}""#)),
+            Item::Resumed(from) => ("resumed", format!(r#""from":"{from}""#)),
+        };
+        format!(r#"{{"event":"{event}",{fields}}}"#)
+    }
+
+    // The JSON fields of the items that have bytes of the server.
+    fn json_bytes(&self) -> String {
+        match self {
+            Item::Message {
+                transactional,
+                lsn,
+                prefix,
+                content,
+            } => format!(
+                r#""transactional":{transactional},"lsn":"{lsn}","prefix":{},"content":"{}""#,
+                quoted(prefix),
+                hex(content)
+            ),
+            Item::Data {
+                start,
+                end,
+                time,
+                data,
+            } => format!(
+                r#""kind":"{}","wal_start":"{start}","wal_end":"{end}","time":"{}","data":"{}""#,
+                kind(data),
+                date(*time),
+                hex(data)
+            ),
+            _ => String::new(),
+        }
+    }
+}
+
+// The name of a message of pgoutput by its first byte.
+fn kind(data: &[u8]) -> &'static str {
+    match data.first() {
+        Some(b'R') => "relation",
+        Some(b'Y') => "type",
+        Some(b'O') => "origin",
+        Some(b'I') => "insert",
+        Some(b'U') => "update",
+        Some(b'D') => "delete",
+        Some(b'T') => "truncate",
+        _ => "other",
+    }
+}
+
+fn hex(bytes: &[u8]) -> String {
+    const DIGITS: &[u8; 16] = b"0123456789abcdef";
+    let mut text = String::with_capacity(bytes.len() * 2);
+    for b in bytes {
+        text.push(DIGITS[usize::from(b >> 4)] as char);
+        text.push(DIGITS[usize::from(b & 15)] as char);
+    }
+    text
+}
+
+// The lossy text of bytes as a JSON string.
+fn quoted(bytes: &[u8]) -> String {
+    let mut text = String::from("\"");
+    for c in String::from_utf8_lossy(bytes).chars() {
+        match c {
+            '"' => text.push_str("\\\""),
+            '\\' => text.push_str("\\\\"),
+            '\n' => text.push_str("\\n"),
+            c if c < ' ' || c == '\x7f' => {
+                write!(text, "\\u{:04x}", c as u32).expect("a string takes all")
+            }
+            c => text.push(c),
+        }
+    }
+    text + "\""
+}
+
+// Microseconds from 2000-01-01 as a date of the Gregorian calendar, UTC.
+fn date(micros: i64) -> String {
+    let (days, rest) = (
+        micros.div_euclid(86_400_000_000),
+        micros.rem_euclid(86_400_000_000),
+    );
+    // Days from 0000-03-01, in eras of 400 years; years begin in March, so that a leap day is a year's last.
+    let days = days + 730_425;
+    let (era, day) = (days.div_euclid(146_097), days.rem_euclid(146_097));
+    let year = (day - day / 1_460 + day / 36_524 - day / 146_096) / 365;
+    let day = day - (365 * year + year / 4 - year / 100);
+    let month = (5 * day + 2) / 153;
+    let day = day - (153 * month + 2) / 5 + 1;
+    let (month, next) = if month < 10 {
+        (month + 3, 0)
+    } else {
+        (month - 9, 1)
+    };
+    let seconds = rest / 1_000_000;
+    format!(
+        "{:04}-{month:02}-{day:02}T{:02}:{:02}:{:02}.{:06}Z",
+        year + era * 400 + next,
+        seconds / 3600,
+        seconds / 60 % 60,
+        seconds % 60,
+        rest % 1_000_000
+    )
+}
+
+#[cfg(test)]
+mod tests {
+    use super::*;
+
+    #[test]
+    fn dates() {
+        assert_eq!(date(0), "2000-01-01T00:00:00.000000Z");
+        assert_eq!(date(-1), "1999-12-31T23:59:59.999999Z");
+        assert_eq!(date(5_097_600_000_001), "2000-02-29T00:00:00.000001Z");
+        assert_eq!(date(757_382_400_000_000), "2024-01-01T00:00:00.000000Z");
+        assert_eq!(date(762_479_999_000_000), "2024-02-28T23:59:59.000000Z");
+        assert!(date(i64::MIN).len() > 20 && date(i64::MAX).len() > 20);
+    }
+
+    #[test]
+    fn lines() {
+        let commit = Item::of(Event::Commit {
+            lsn: Lsn(16),
+            end_lsn: Lsn(1 << 32),
+            commit_time: 0,
+        });
+        assert_eq!(
+            commit.text(),
+            "commit 0/10 end 1/0 at 2000-01-01T00:00:00.000000Z"
+        );
+        assert_eq!(
+            commit.json(),
+            r#"{"event":"commit","lsn":"0/10","end_lsn":"1/0","time":"2000-01-01T00:00:00.000000Z"}"#
+        );
+        let message = Item::of(Event::Message {
+            transactional: true,
+            lsn: Lsn(1),
+            prefix: b"a\"\n\x01\xff",
+            content: b"\x00\xfe",
+        });
+        assert_eq!(
+            message.json(),
+            "{\"event\":\"message\",\"transactional\":true,\"lsn\":\"0/1\",\"prefix\":\"a\\\"\\n\\u0001\u{fffd}\",\"content\":\"00fe\"}"
+        );
+    }
+}

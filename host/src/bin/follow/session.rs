@@ -1,0 +1,217 @@
+//! One connection's stream: bytes go into the run, what it writes is sent, its events go to the consumer.
+use crate::consumer::Outbox;
+use crate::failure::Failure;
+use crate::link::Link;
+use crate::print::Item;
+use crate::startup::message;
+use crate::sys;
+use rufflesquash::{
+    Input, Lsn, Moment, NextStep, Queue, Refusal, Run, Settings, State, STEP_OUTPUT,
+};
+use std::time::{Duration, Instant, SystemTime, UNIX_EPOCH};
+
+const PIECE: usize = 131_072;
+/// How long a stop waits for the consumer, and then for the server.
+const CLOSING: Duration = Duration::from_secs(5);
+
+/// The host's clocks: moments for the run, the date for statuses.
+#[derive(Clone, Copy)]
+pub struct Clock(Instant);
+
+impl Clock {
+    pub fn start() -> Clock {
+        Clock(Instant::now())
+    }
+
+    fn now(&self) -> Moment {
+        Moment(self.0.elapsed().as_nanos() as u64 + 1)
+    }
+
+    // Microseconds from 2000-01-01.
+    fn client_time() -> i64 {
+        let since = SystemTime::now()
+            .duration_since(UNIX_EPOCH)
+            .unwrap_or_default();
+        since.as_micros() as i64 - 946_684_800_000_000
+    }
+}
+
+/// What is told at the end.
+#[derive(Default)]
+pub struct Totals {
+    pub streams: u64,
+    pub events: u64,
+    pub statuses: u64,
+    pub stalls: u64,
+    pub last_status: Option<Lsn>,
+}
+
+/// Follows one connection.
+pub struct Session<'a> {
+    link: Link<'a>,
+    settings: Settings,
+    run: Run,
+    payload: &'a mut [u8],
+    clock: Clock,
+    input: Vec<u8>,
+    at: usize,
+    filled: usize,
+    ended: bool,
+}
+
+impl<'a> Session<'a> {
+    /// The run and the query that it has already written are ready; the query is sent here.
+    pub fn new(
+        mut link: Link<'a>,
+        settings: Settings,
+        opened: (Run, &[u8]),
+        payload: &'a mut [u8],
+        clock: Clock,
+    ) -> Result<Session<'a>, Failure> {
+        link.send(opened.1)?;
+        Ok(Session {
+            link,
+            settings,
+            run: opened.0,
+            payload,
+            clock,
+            input: vec![0; PIECE],
+            at: 0,
+            filled: 0,
+            ended: false,
+        })
+    }
+
+    /// Until the stream ends: by the stop position or a stop request well, otherwise with the failure.
+    pub fn stream(&mut self, outbox: &mut Outbox, totals: &mut Totals) -> Result<(), Failure> {
+        let result = self.steps(outbox, totals);
+        let metrics = self.run.metrics();
+        totals.streams += u64::from(self.run.last_sent().is_some());
+        totals.events += metrics.events_forwarded;
+        totals.statuses += metrics.feedback_sent;
+        totals.stalls += metrics.stall_count;
+        result
+    }
+
+    fn steps(&mut self, outbox: &mut Outbox, totals: &mut Totals) -> Result<(), Failure> {
+        let mut out = [0; STEP_OUTPUT];
+        loop {
+            let done = outbox.position();
+            if done > self.run.position() {
+                self.run.report(done, self.clock.now());
+            }
+            let written = self.step(outbox, &mut out)?;
+            if self.run.state() == State::Ended {
+                self.close(outbox, &out[..written], totals);
+                return Ok(());
+            }
+            self.link.send(&out[..written])?;
+            if written > 0 {
+                totals.last_status = self.run.last_sent().map(|status| status.position);
+            }
+            if self.run.state() == State::Opening && sys::stop_requested() {
+                return Err(Failure::cut("stopped while the stream was opened"));
+            }
+            self.pause(outbox);
+        }
+    }
+
+    // One step of the run; answers how many bytes are to be sent.
+    fn step(&mut self, outbox: &mut Outbox, out: &mut [u8]) -> Result<usize, Failure> {
+        let input = Input {
+            moment: self.clock.now(),
+            client_time: Clock::client_time(),
+            stop: sys::stop_requested() || outbox.failed(),
+            queue: outbox.queue(),
+            ended: self.ended,
+        };
+        let unread = &self.input[self.at..self.filled];
+        let step = self.run.step(&input, unread, self.payload, out);
+        self.at += step.taken;
+        let (refusal, written) = (step.refusal, step.written);
+        if let Some(event) = step.event {
+            outbox.hand_on(Item::of(event));
+        }
+        match refusal {
+            None => Ok(written),
+            Some(Refusal::ServerError) => Err(Failure::server(
+                self.run.error(self.payload).unwrap_or_default(),
+            )),
+            Some(refusal) => Err(Failure::refused(refusal, self.settings.max_message_size)),
+        }
+    }
+
+    // Reads where the run takes bytes and has none, and waits where no step would move.
+    fn pause(&mut self, outbox: &Outbox) {
+        let takes = matches!(
+            self.run.state(),
+            State::Opening | State::Reading | State::Waiting
+        );
+        if takes && (self.at < self.filled || self.ended) {
+            return;
+        }
+        if takes {
+            if let Some(n) = self.link.read(&mut self.input) {
+                (self.at, self.filled, self.ended) = (0, n, n == 0);
+                return;
+            }
+        }
+        let timeout = match self.run.next_step(self.payload.len(), outbox.queue()) {
+            NextStep::AtOnce | NextStep::Never => return,
+            NextStep::From(moment) => Some(Duration::from_nanos(
+                moment.0.saturating_sub(self.clock.now().0),
+            )),
+            NextStep::OnInput => None,
+        };
+        self.link.wait(takes, timeout);
+    }
+
+    // The run has written its CopyDone. What the consumer is done with is confirmed before that is sent.
+    fn close(&mut self, outbox: &Outbox, copy_done: &[u8], totals: &mut Totals) {
+        let until = Instant::now() + CLOSING;
+        while !outbox.settled() && Instant::now() < until {
+            self.link
+                .wait(false, Some(until.saturating_duration_since(Instant::now())));
+        }
+        if let Err(failure) = self.say_goodbye(outbox.position(), copy_done, totals) {
+            eprintln!("follow: {failure}; what was printed last may be sent again");
+        }
+    }
+
+    fn say_goodbye(
+        &mut self,
+        done: Lsn,
+        copy_done: &[u8],
+        totals: &mut Totals,
+    ) -> Result<(), Failure> {
+        if totals.last_status.unwrap_or_default() < done {
+            self.link.send(&self.last_status(done))?;
+            totals.last_status = Some(done);
+        }
+        self.link.send(copy_done)?;
+        self.link.send(&message(b'X', b""))?;
+        // The server closes once it has read all of that.
+        self.link.read_out(CLOSING);
+        Ok(())
+    }
+
+    // A run that is already open begins with a status: here the one that an ended run no longer sends.
+    fn last_status(&self, done: Lsn) -> [u8; STEP_OUTPUT] {
+        let mut out = [0; STEP_OUTPUT];
+        let settings = Settings {
+            max_message_size: 0,
+            ..self.settings
+        };
+        if let Ok(mut run) = Run::already_open(&settings, done) {
+            let input = Input {
+                moment: self.clock.now(),
+                client_time: Clock::client_time(),
+                stop: false,
+                queue: Queue::Free,
+                ended: false,
+            };
+            run.step(&input, b"", &mut [], &mut out);
+        }
+        out
+    }
+}

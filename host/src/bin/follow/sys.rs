@@ -1,0 +1,95 @@
+//! The three C functions that std lacks: waiting for several things at once, and signals.
+use std::io::{self, Read};
+use std::os::fd::{AsRawFd, IntoRawFd};
+use std::os::raw::{c_int, c_ulong, c_void};
+use std::os::unix::net::UnixStream;
+use std::sync::atomic::{AtomicBool, AtomicI32, Ordering};
+use std::time::Duration;
+
+#[repr(C)]
+struct PollFd {
+    fd: c_int,
+    events: i16,
+    revents: i16,
+}
+
+const POLLIN: i16 = 1;
+const POLLOUT: i16 = 4;
+const SIGINT: c_int = 2;
+const SIGTERM: c_int = 15;
+
+extern "C" {
+    fn poll(fds: *mut PollFd, count: c_ulong, timeout: c_int) -> c_int;
+    fn signal(number: c_int, handler: extern "C" fn(c_int)) -> *mut c_void;
+    fn write(fd: c_int, bytes: *const u8, len: usize) -> isize;
+    fn _exit(status: c_int) -> !;
+}
+
+static STOP: AtomicBool = AtomicBool::new(false);
+static WAKE: AtomicI32 = AtomicI32::new(-1);
+
+extern "C" fn on_signal(_: c_int) {
+    if STOP.swap(true, Ordering::SeqCst) {
+        // SAFETY: ends the process at once, as the second request asks.
+        unsafe { _exit(130) }
+    }
+    wake();
+}
+
+/// Whether the user asked to stop.
+pub fn stop_requested() -> bool {
+    STOP.load(Ordering::SeqCst)
+}
+
+/// Ends a wait of the main thread; also called by the signal handler, so it only writes a byte.
+pub fn wake() {
+    let fd = WAKE.load(Ordering::SeqCst);
+    if fd >= 0 {
+        // SAFETY: one byte is lent; the descriptor stays open. A full pipe wakes as well.
+        unsafe { write(fd, b"w".as_ptr(), 1) };
+    }
+}
+
+/// Waits for a socket and for `wake`.
+pub struct Waiter {
+    woken: UnixStream,
+}
+
+impl Waiter {
+    /// Takes over Ctrl-C and SIGTERM; there is one waiter in the process.
+    pub fn new() -> io::Result<Waiter> {
+        let (woken, waker) = UnixStream::pair()?;
+        woken.set_nonblocking(true)?;
+        waker.set_nonblocking(true)?;
+        WAKE.store(waker.into_raw_fd(), Ordering::SeqCst);
+        // SAFETY: the handler touches atomics and calls write or _exit alone.
+        unsafe {
+            signal(SIGINT, on_signal);
+            signal(SIGTERM, on_signal);
+        }
+        Ok(Waiter { woken })
+    }
+
+    /// Until the socket can be read (or written, where `out`), a wake comes, or the time has passed.
+    pub fn wait(&self, socket: Option<(c_int, bool)>, timeout: Option<Duration>) {
+        let entry = |fd, events| PollFd {
+            fd,
+            events,
+            revents: 0,
+        };
+        let (fd, out) = socket.unwrap_or((-1, false));
+        let mut fds = [
+            entry(self.woken.as_raw_fd(), POLLIN),
+            entry(fd, if out { POLLOUT } else { POLLIN }),
+        ];
+        let millis = match timeout {
+            None => -1,
+            // Rounded up, so that the moment has come when the wait ends.
+            Some(t) => c_int::try_from(t.as_nanos().div_ceil(1_000_000)).unwrap_or(c_int::MAX),
+        };
+        // SAFETY: the array is lent with its length. An error (a signal) is a wake like any other: the caller looks again.
+        unsafe { poll(fds.as_mut_ptr(), fds.len() as c_ulong, millis) };
+        let mut bytes = [0; 256];
+        while matches!((&self.woken).read(&mut bytes), Ok(n) if n == bytes.len()) {}
+    }
+}
