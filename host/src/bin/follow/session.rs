@@ -1,6 +1,6 @@
 //! One connection's stream: bytes go into the run, what it writes is sent, its events go to the consumer.
 use crate::consumer::Outbox;
-use crate::failure::Failure;
+use crate::failure::{Failure, FAILED};
 use crate::link::Link;
 use crate::print::Item;
 use crate::startup::message;
@@ -100,7 +100,16 @@ impl<'a> Session<'a> {
             if done > self.run.position() {
                 self.run.report(done, self.clock.now());
             }
-            let written = self.step(outbox, &mut out)?;
+            let written = match self.step(outbox, &mut out) {
+                Ok(written) => written,
+                Err(failure) => {
+                    // The connection is still good where the run refused what came: what is printed is confirmed.
+                    if failure.status > FAILED {
+                        self.close(outbox, &message(b'c', b""), totals);
+                    }
+                    return Err(failure);
+                }
+            };
             if self.run.state() == State::Ended {
                 self.close(outbox, &out[..written], totals);
                 return Ok(());
