@@ -207,45 +207,42 @@ type Tables = BTreeMap<String, BTreeMap<i64, Vec<String>>>;
 // Makes a change in copies of the tables. Every table has its number `id` in front.
 fn apply(tables: &mut Tables, relations: &BTreeMap<u32, String>, change: &[u8]) {
     let mut reader = Reader { data: &change[1..] };
-    if change[0] == b'M' {
-        return;
-    }
-    if change[0] == b'T' {
-        let count = reader.u32();
-        reader.u8();
-        for _ in 0..count {
-            tables
-                .entry(relations[&reader.u32()].clone())
-                .or_default()
-                .clear();
+    match change[0] {
+        b'M' => {}
+        b'T' => {
+            let count = reader.u32();
+            reader.u8();
+            for _ in 0..count {
+                let name = relations[&reader.u32()].clone();
+                tables.entry(name).or_default().clear();
+            }
         }
-        return;
+        kind => {
+            let name = relations[&reader.u32()].clone();
+            // The letter of the tuple.
+            reader.u8();
+            change_row(tables.entry(name).or_default(), kind, reader);
+        }
     }
-    let table = tables.entry(relations[&reader.u32()].clone()).or_default();
-    let id = |row: &Vec<String>| row[0].parse::<i64>().expect("a number");
-    if change[0] == b'D' {
-        reader.u8();
-        table
-            .remove(&id(&reader.tuple(None)))
-            .unwrap_or_else(|| fail("a deleted row was not there"));
-        return;
-    }
-    reader.u8();
+}
+
+// The workload leaves keys as they are, so that an update has one tuple.
+fn change_row(table: &mut BTreeMap<i64, Vec<String>>, kind: u8, mut reader: Reader) {
+    let tuple = reader.data;
     let row = reader.tuple(None);
-    let number = id(&row);
-    if change[0] == b'I' {
-        if table.insert(number, row).is_some() {
-            fail("an inserted row was there already");
+    let id = row[0].parse().expect("a number");
+    let old = table.remove(&id);
+    match (kind, old) {
+        (b'I', None) => {
+            table.insert(id, row);
         }
-        return;
+        (b'U', Some(old)) => {
+            let row = Reader { data: tuple }.tuple(Some(&old));
+            table.insert(id, row);
+        }
+        (b'D', Some(_)) => {}
+        _ => fail("an inserted row was there already, or a changed one was not there"),
     }
-    // The same tuple again, with the old values where they are unchanged; the workload leaves keys as they are.
-    let old = table
-        .get(&number)
-        .unwrap_or_else(|| fail("an updated row was not there"))
-        .clone();
-    let mut reader = Reader { data: &change[6..] };
-    table.insert(number, reader.tuple(Some(&old)));
 }
 
 fn compare_commits(ours: &Stream, theirs: &Stream) {

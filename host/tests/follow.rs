@@ -1,0 +1,168 @@
+//! The program `follow` beside a server of the test: what it sends, prints and answers.
+mod common;
+
+use common::{begin, commit, keepalive, message, xlog_data};
+use std::io::{Read, Write};
+use std::net::{TcpListener, TcpStream};
+use std::process::{Command, Output, Stdio};
+use std::thread::{self, JoinHandle};
+
+fn follow(port: u16, arguments: &[&str]) -> Output {
+    let port = port.to_string();
+    let mut command = Command::new(env!("CARGO_BIN_EXE_follow"));
+    command.args(["-h", "127.0.0.1", "-p", &port, "-U", "me", "-d", "db"]);
+    command
+        .args(["-S", "s", "--publication", "P"])
+        .args(arguments);
+    command.env("PGPASSWORD", "geheim").stdin(Stdio::null());
+    command.output().expect("follow runs")
+}
+
+// A message of the client; the startup has no tag.
+fn receive(client: &mut TcpStream, startup: bool) -> (u8, Vec<u8>) {
+    let mut tag = [0];
+    if !startup {
+        client.read_exact(&mut tag).expect("a tag");
+    }
+    let mut length = [0; 4];
+    client.read_exact(&mut length).expect("a length");
+    let mut payload = vec![0; u32::from_be_bytes(length) as usize - 4];
+    client.read_exact(&mut payload).expect("a payload");
+    (tag[0], payload)
+}
+
+// Lets the client in with a cleartext password, and reads its query.
+fn let_in(client: &mut TcpStream) -> String {
+    let (_, startup) = receive(client, true);
+    let text = String::from_utf8_lossy(&startup).into_owned();
+    assert!(text.contains("replication\0database\0") && text.contains("user\0me\0"));
+    client.write_all(&message(b'R', &[0, 0, 0, 3])).unwrap();
+    assert_eq!(receive(client, false), (b'p', b"geheim\0".to_vec()));
+    client.write_all(&message(b'R', &[0; 4])).unwrap();
+    client.write_all(&message(b'S', b"a\0b\0")).unwrap();
+    client.write_all(&message(b'Z', b"I")).unwrap();
+    let (tag, query) = receive(client, false);
+    assert_eq!(tag, b'Q');
+    client.write_all(&message(b'W', &[0; 3])).unwrap();
+    String::from_utf8(query).unwrap()
+}
+
+// The positions of the statuses up to the CopyDone, behind which stands a Terminate.
+fn statuses(client: &mut TcpStream) -> Vec<u64> {
+    let mut positions = Vec::new();
+    loop {
+        match receive(client, false) {
+            (b'd', body) => {
+                assert_eq!((body[0], body.len()), (b'r', 34));
+                positions.push(u64::from_be_bytes(body[9..17].try_into().unwrap()));
+            }
+            (b'c', _) => break,
+            other => panic!("{other:?}"),
+        }
+    }
+    assert_eq!(receive(client, false), (b'X', vec![]));
+    positions
+}
+
+fn serve<T: Send + 'static>(
+    server: impl FnOnce(TcpListener) -> T + Send + 'static,
+) -> (u16, JoinHandle<T>) {
+    let listener = TcpListener::bind("127.0.0.1:0").unwrap();
+    let port = listener.local_addr().unwrap().port();
+    (port, thread::spawn(move || server(listener)))
+}
+
+fn transaction(at: u64, xid: u32) -> Vec<u8> {
+    let mut bytes = xlog_data(at, at, 0, &begin(at, 0, xid));
+    bytes.extend(xlog_data(at, at, 0, b"Insert"));
+    bytes.extend(xlog_data(at, at, 0, &commit(at, at + 8, 0)));
+    bytes
+}
+
+#[test]
+fn a_cut_and_the_last_confirmation() {
+    let (port, server) = serve(|listener| {
+        let (mut client, _) = listener.accept().unwrap();
+        let first = let_in(&mut client);
+        let second = transaction(0x200, 2);
+        client.write_all(&transaction(0x100, 1)).unwrap();
+        client.write_all(&second[..second.len() - 3]).unwrap();
+        drop(client);
+        let (mut client, _) = listener.accept().unwrap();
+        let again = let_in(&mut client);
+        client.write_all(&transaction(0x200, 2)).unwrap();
+        client.write_all(&keepalive(0x300, 0, 0)).unwrap();
+        client.write_all(&transaction(0x400, 3)).unwrap();
+        (first, again, statuses(&mut client))
+    });
+    let output = follow(port, &["--endpos", "0/408"]);
+    let (first, again, positions) = server.join().unwrap();
+    assert!(first.contains("SLOT s LOGICAL 0/0 ") && first.contains("'\"P\"'"));
+    assert!(again.contains("SLOT s LOGICAL 0/108 "));
+    assert_eq!(
+        (positions[0], positions[positions.len() - 1]),
+        (0x108, 0x408)
+    );
+    let text = String::from_utf8(output.stdout).unwrap();
+    let kinds: Vec<&str> = text
+        .lines()
+        .filter_map(|line| line.split(' ').next())
+        .collect();
+    let cut = ["begin", "data", "commit", "begin", "data", "resumed"];
+    let rest = [
+        "begin",
+        "data",
+        "commit",
+        "keepalive",
+        "begin",
+        "data",
+        "commit",
+        "stopped",
+    ];
+    assert_eq!(kinds, [&cut[..], &rest[..]].concat());
+    assert_eq!(output.status.code(), Some(0));
+}
+
+#[test]
+fn a_message_over_the_limit_ends_with_7() {
+    let (port, server) = serve(|listener| {
+        let (mut client, _) = listener.accept().unwrap();
+        let_in(&mut client);
+        client.write_all(&transaction(0x100, 1)).unwrap();
+        client
+            .write_all(&xlog_data(0x200, 0x200, 0, &[b'I'; 3000]))
+            .unwrap();
+        statuses(&mut client)
+    });
+    let output = follow(port, &["--max-message-size", "2000"]);
+    assert_eq!(server.join().unwrap().last(), Some(&0x108));
+    let line = String::from_utf8(output.stderr).unwrap();
+    assert_eq!((output.status.code(), line.lines().count()), (Some(7), 1));
+    assert!(line.contains("--max-message-size") && line.contains("2000"));
+}
+
+#[test]
+fn failures_have_one_line() {
+    let (port, server) = serve(|listener| {
+        let (mut client, _) = listener.accept().unwrap();
+        receive(&mut client, true);
+        client.write_all(&message(b'R', &[0, 0, 0, 10])).unwrap();
+    });
+    for (output, status, part) in [
+        (follow(port, &[]), 1, "SCRAM"),
+        (follow(1, &[]), 1, "cannot connect"),
+        (follow(1, &["--status-interval", "x"]), 2, "seconds"),
+    ] {
+        let line = String::from_utf8(output.stderr).unwrap();
+        assert_eq!(
+            (output.status.code(), line.lines().count()),
+            (Some(status), 1),
+            "{line}"
+        );
+        assert!(
+            line.starts_with("follow: ") && line.contains(part),
+            "{line}"
+        );
+    }
+    server.join().unwrap();
+}
