@@ -52,7 +52,7 @@ fn follow(options: &Options) -> Result<(), Failure> {
     let mut outbox = Outbox::start(options.json);
     let mut totals = Totals::default();
     let mut result = connect_again(options, &waiter, &mut outbox, &mut totals);
-    settle(&outbox, &waiter, Some(Duration::from_secs(5)));
+    settle(&outbox, &waiter, Some(Duration::from_secs(1)));
     if outbox.settled() {
         if let Err(e) = outbox.finish() {
             let line = format!(
