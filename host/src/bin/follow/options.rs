@@ -28,7 +28,7 @@ How:
       --max-message-size BYTES longest message that is taken (default: 1073741824)
       --json                   print each event as a JSON object
   -n, --no-loop                end with the connection instead of connecting again
-  -v, --verbose                tell on standard error what happens, and counters at the end
+  -v, --verbose                print counters on standard error at the end
       --help                   print this
   -V, --version                print the version
 
