@@ -18,6 +18,7 @@ extern "C" {
 #define RUFFLESQUASH_SETTINGS_WORDS 7
 #define RUFFLESQUASH_ANSWER_WORDS 12
 #define RUFFLESQUASH_METRICS_WORDS 7
+#define RUFFLESQUASH_CELL_WORDS 4
 
 /* A name in a list of names. */
 struct rufflesquash_bytes {
@@ -120,6 +121,32 @@ uint64_t rufflesquash_display_position(uint64_t position, uint8_t *out, size_t o
 
 /* Answers the refusal (22, 23, 24); refused, position is 0. */
 uint64_t rufflesquash_parse_position(const uint8_t *text, size_t text_len, uint64_t *position);
+
+/* A progress cell is 4 words, and any words are the words of some cell. A run has one of its own inside; these calls are for a host that keeps
+ * another. Moments are nanoseconds, 0 is none. */
+void rufflesquash_cell_new(uint64_t start, bool timed, uint64_t cell[RUFFLESQUASH_CELL_WORDS]);
+uint64_t rufflesquash_cell_load(const uint64_t cell[RUFFLESQUASH_CELL_WORDS]);
+uint64_t rufflesquash_cell_pending_since(const uint64_t cell[RUFFLESQUASH_CELL_WORDS]);
+/* A report; answers 1 where the signal is new, else 0. */
+uint64_t rufflesquash_cell_raise(uint64_t cell[RUFFLESQUASH_CELL_WORDS], uint64_t position, uint64_t moment);
+/* Clears the signal; answers the position. */
+uint64_t rufflesquash_cell_take_signal(uint64_t cell[RUFFLESQUASH_CELL_WORDS]);
+/* A status was sent with a position that was read at a moment; answers the moment that was pending. */
+uint64_t rufflesquash_cell_take_pending(uint64_t cell[RUFFLESQUASH_CELL_WORDS], uint64_t sent, uint64_t loaded_at);
+/* A pending moment from an earlier session: the older one counts. */
+void rufflesquash_cell_carry_pending(uint64_t cell[RUFFLESQUASH_CELL_WORDS], uint64_t since);
+
+/* An authentication request. Answer: the refusal (21), the code in two's complement, where the rest begins, its length. */
+void rufflesquash_auth_request(const uint8_t *payload, size_t payload_len, uint64_t answer[4]);
+
+/* How many columns a DataRow has. Answers the refusal (20); refused, columns is 0. */
+uint64_t rufflesquash_data_row(const uint8_t *payload, size_t payload_len, uint64_t *columns);
+
+/* Kinds of columns. */
+enum rufflesquash_column_kind { RUFFLESQUASH_ABSENT = 0, RUFFLESQUASH_NULL = 1, RUFFLESQUASH_VALUE = 2 };
+
+/* A column of a DataRow, from 0: its kind, where its value begins, its length. A refused row has none. */
+void rufflesquash_column(const uint8_t *payload, size_t payload_len, size_t index, uint64_t column[3]);
 
 #ifdef __cplusplus
 }

@@ -4,6 +4,7 @@ pub const RUN_WORDS: usize = 48;
 pub const SETTINGS_WORDS: usize = 7;
 pub const ANSWER_WORDS: usize = 12;
 pub const METRICS_WORDS: usize = 7;
+pub const CELL_WORDS: usize = 4;
 
 /// A name in a list of names, as the archive has it.
 #[repr(C)]
@@ -93,4 +94,34 @@ extern "C" {
         out_len: usize,
         written: *mut u64,
     ) -> u64;
+
+    pub fn rufflesquash_cell_new(start: u64, timed: bool, cell: *mut [u64; CELL_WORDS]);
+
+    pub fn rufflesquash_cell_load(cell: *const [u64; CELL_WORDS]) -> u64;
+
+    pub fn rufflesquash_cell_pending_since(cell: *const [u64; CELL_WORDS]) -> u64;
+
+    pub fn rufflesquash_cell_raise(cell: *mut [u64; CELL_WORDS], position: u64, moment: u64)
+        -> u64;
+
+    pub fn rufflesquash_cell_take_signal(cell: *mut [u64; CELL_WORDS]) -> u64;
+
+    pub fn rufflesquash_cell_take_pending(
+        cell: *mut [u64; CELL_WORDS],
+        sent: u64,
+        loaded_at: u64,
+    ) -> u64;
+
+    pub fn rufflesquash_cell_carry_pending(cell: *mut [u64; CELL_WORDS], since: u64);
+
+    pub fn rufflesquash_auth_request(payload: *const u8, payload_len: usize, answer: *mut [u64; 4]);
+
+    pub fn rufflesquash_data_row(payload: *const u8, payload_len: usize, columns: *mut u64) -> u64;
+
+    pub fn rufflesquash_column(
+        payload: *const u8,
+        payload_len: usize,
+        index: usize,
+        column: *mut [u64; 3],
+    );
 }

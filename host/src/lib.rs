@@ -19,13 +19,17 @@
 //! ```
 #![warn(missing_docs)]
 
+mod cell;
 mod ffi;
 mod refusal;
 mod run;
+mod startup;
 mod types;
 
+pub use cell::ProgressCell;
 pub use refusal::Refusal;
 pub use run::Run;
+pub use startup::{AuthRequest, Column, DataRow};
 pub use types::{
     Event, Input, LastStatus, Lsn, Metrics, Moment, NextStep, Queue, Settings, State, Step,
 };

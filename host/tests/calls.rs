@@ -3,7 +3,8 @@
 mod common;
 
 use common::*;
-use rufflesquash::{lossy, Event, Lsn, Metrics, Moment, NextStep, Queue, Run, Settings, State};
+use rufflesquash::{lossy, AuthRequest, Column, DataRow, Event, Lsn, Metrics, Moment, NextStep};
+use rufflesquash::{ProgressCell, Queue, Run, Settings, State};
 use std::time::Duration;
 
 #[test]
@@ -239,6 +240,70 @@ fn leaves_write_over_the_front() {
     assert_eq!("16/B374D848".parse(), Ok(Lsn(0x16_B374_D848)));
     assert_eq!(Lsn(0x16_B374_D848).to_string(), "16/B374D848");
     assert_eq!(Lsn(u64::MAX).to_string(), "FFFFFFFF/FFFFFFFF");
+}
+
+#[test]
+fn an_authentication_request_is_a_code_and_the_rest() {
+    let parsed = |payload| AuthRequest::parse(payload).map(|r| (r.code, r.rest));
+    assert_eq!(parsed(&[0, 0, 0, 0]), Ok((0, &b""[..])));
+    assert_eq!(parsed(b"\0\0\0\x05salt"), Ok((5, &b"salt"[..])));
+    assert_eq!(parsed(&[0xFF; 5]), Ok((-1, &[0xFF][..])));
+    assert_eq!(parsed(&[0x80, 0, 0, 0]), Ok((i32::MIN, &b""[..])));
+}
+
+#[test]
+fn a_row_has_columns() {
+    let payload = [row(&[Some(b"one"), None, Some(b"")]), b"surplus".to_vec()].concat();
+    let r = DataRow::parse(&payload).unwrap();
+    let columns = [0, 1, 2, 3, usize::MAX].map(|i| r.column(i));
+    assert_eq!(
+        columns,
+        [
+            Column::Value(b"one"),
+            Column::Null,
+            Column::Value(b""),
+            Column::Absent,
+            Column::Absent
+        ]
+    );
+    // A negative number of columns is none.
+    let none = DataRow::parse(&[0xFF, 0xFF]).unwrap();
+    assert_eq!((none.columns(), none.column(0)), (0, Column::Absent));
+}
+
+#[test]
+fn a_cell_keeps_the_first_raise_that_no_status_covered() {
+    let mut cell = ProgressCell::new(Lsn(0x10), true);
+    assert_eq!((cell.load(), cell.pending_since()), (Lsn(0x10), None));
+    assert!(!cell.raise(Lsn(0x10), Moment(5)));
+    assert!(cell.raise(Lsn(0x20), Moment(6)));
+    assert!(!cell.raise(Lsn(0x30), Moment(7)));
+    assert_eq!(cell.take_signal(), Lsn(0x30));
+    assert!(cell.raise(Lsn(0x40), Moment(8)));
+    assert_eq!(cell.pending_since(), Some(Moment(6)));
+    // The raise to 0x40 is not covered.
+    assert_eq!(cell.take_pending(Lsn(0x30), Moment(9)), Some(Moment(6)));
+    assert_eq!(cell.take_pending(Lsn(0x40), Moment(10)), Some(Moment(9)));
+    assert_eq!(cell.take_pending(Lsn(0x40), Moment(11)), None);
+    cell.carry_pending(Moment(4));
+    cell.carry_pending(Moment(5));
+    cell.carry_pending(Moment(0));
+    assert_eq!(cell.pending_since(), Some(Moment(4)));
+    assert_eq!(
+        format!("{cell:?}"),
+        "ProgressCell { position: Lsn(64), pending_since: Some(Moment(4)), .. }"
+    );
+}
+
+#[test]
+fn a_cell_without_timing_stores_no_moment() {
+    let mut cell = ProgressCell::new(Lsn(0), false);
+    assert!(cell.raise(Lsn(u64::MAX), Moment(6)));
+    cell.carry_pending(Moment(4));
+    assert_eq!(cell.pending_since(), None);
+    assert_eq!(*cell.as_words(), [u64::MAX, 1, 0, 0]);
+    let any = ProgressCell::from_words([7, u64::MAX, 8, 2]);
+    assert_eq!((any.load(), any.pending_since()), (Lsn(7), Some(Moment(8))));
 }
 
 // Any words are the words of some run: every call takes them and answers something of document 01.

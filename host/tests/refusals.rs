@@ -3,7 +3,8 @@
 mod common;
 
 use common::*;
-use rufflesquash::{error_text, lossy, Lsn, Moment, Refusal, Run, Settings, State};
+use rufflesquash::{error_text, lossy, AuthRequest, DataRow, Lsn, Moment, Refusal, Run};
+use rufflesquash::{Settings, State};
 use std::time::Duration;
 
 const DAY: Duration = Duration::from_secs(86_400);
@@ -287,6 +288,30 @@ fn position_texts_are_refused_in_order() {
     assert_eq!(
         Lsn::parse(b"1/10000000000000000"),
         Err(Refusal::InvalidLowPart)
+    );
+}
+
+#[test]
+fn short_authentication_requests_are_refused() {
+    for n in 0..4 {
+        let refused = AuthRequest::parse(&[0; 4][..n]);
+        assert_eq!(refused, Err(Refusal::AuthRequestTooShort), "{n} bytes");
+    }
+    assert!(AuthRequest::parse(&[0; 4]).is_ok());
+}
+
+#[test]
+fn malformed_rows_are_refused() {
+    let whole = row(&[Some(b"one"), None, Some(b"")]);
+    for n in 0..whole.len() {
+        let refused = DataRow::parse(&whole[..n]);
+        assert_eq!(refused, Err(Refusal::MalformedDataRow), "{n} bytes");
+    }
+    assert_eq!(DataRow::parse(&whole).map(|r| r.columns()), Ok(3));
+    // Of 32,767 columns none is there.
+    assert_eq!(
+        DataRow::parse(&[0x7F, 0xFF]),
+        Err(Refusal::MalformedDataRow)
     );
 }
 

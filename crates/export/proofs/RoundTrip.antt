@@ -94,7 +94,7 @@ reader-back x h =
     ap (λ (l : List ℕ). reader l (flagOf (flagWord (x .refused))) x) (header-back (x .header) (h .0) (h .1))
     ∙ ap (λ (b : Bool). reader (x .header) b x) (flag-back (x .refused))
 
-progress-back : (p : ProgressCell) → cell (p .applied) (flagOf (flagWord (p .signalled))) (p .«pending_since») (flagOf (flagWord (p .timed))) ≡ p
+pub progress-back : (p : ProgressCell) → cell (p .applied) (flagOf (flagWord (p .signalled))) (p .«pending_since») (flagOf (flagWord (p .timed))) ≡ p
 progress-back p = rw (flag-back (p .signalled), flag-back (p .timed))
 
 status-back : (s : LastStatus) → lastStatus (flagOf (flagWord (s .sent))) (s .position) (s .at) ≡ s

@@ -1,6 +1,8 @@
 // Functions for a host in Rust or C: a run is 48 lent words, bytes are lent slices. No words are refused: any are the words of some run.
 // `kept`: the words at exit stand for the run that the call leaves, so calls over words are calls over runs.
 mod answers;
+mod cells;
+mod startup;
 mod words;
 
 ghost use mathlib.Core.Path.{_≡_};

@@ -19,7 +19,7 @@ use worker::State;
 use worker::Whole;
 
 // Every word but 0 is true.
-fn flag_of(n: u64) -> bool
+pub(crate) fn flag_of(n: u64) -> bool
     ensures { λ r. ⌜ r ≡ flagOf n ⌝ }
 {
     if n == 0 { false } else { true }
@@ -54,7 +54,7 @@ fn time_of(v: u64) -> i64
     }
 }
 
-fn time(v: i64) -> u64
+pub(crate) fn time(v: i64) -> u64
     ensures { λ r. ⌜ r ≡ unsigned half v ⌝ }
 {
     if 0 <= v {

@@ -68,6 +68,16 @@ pub fn logical(flags: u8, lsn: u64, prefix: &[u8], len: i32, content: &[u8]) -> 
     data
 }
 
+/// The payload of a DataRow.
+pub fn row(columns: &[Option<&[u8]>]) -> Vec<u8> {
+    let mut payload = (columns.len() as u16).to_be_bytes().to_vec();
+    for column in columns {
+        payload.extend(column.map_or(-1, |c| c.len() as i32).to_be_bytes());
+        payload.extend(column.unwrap_or_default());
+    }
+    payload
+}
+
 /// A run with its buffers, its clock and the server's bytes.
 pub struct Fed {
     pub run: Run,

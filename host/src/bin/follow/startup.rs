@@ -2,6 +2,7 @@
 use crate::failure::{sqlstate, Failure, FAILED};
 use crate::link::Link;
 use crate::options::Options;
+use rufflesquash::AuthRequest;
 use std::env;
 use std::time::{Duration, Instant};
 
@@ -83,15 +84,13 @@ fn answer(link: &mut Link) -> Result<(u8, Vec<u8>), Failure> {
 }
 
 fn authenticate(link: &mut Link, payload: &[u8]) -> Result<(), Failure> {
-    let method = match payload.first_chunk() {
-        Some(code) => match u32::from_be_bytes(*code) {
-            0 => return Ok(()),
-            3 => return send_password(link),
-            5 => "an MD5 password",
-            10..=12 => "SCRAM",
-            _ => "a method that it does not know",
-        },
-        None => "an unreadable method",
+    let method = match AuthRequest::parse(payload).map(|request| request.code) {
+        Ok(0) => return Ok(()),
+        Ok(3) => return send_password(link),
+        Ok(5) => "an MD5 password",
+        Ok(10..=12) => "SCRAM",
+        Ok(_) => "a method that it does not know",
+        Err(_) => "an unreadable method",
     };
     let line = format!(
         "the server asks for {method}; follow speaks trust and cleartext passwords alone: set one of these in pg_hba.conf for this user, \

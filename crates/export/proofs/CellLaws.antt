@@ -1,0 +1,58 @@
+-- The words of a cell, where each call that makes one has answered it.
+use mathlib.Core.Path.{_≡_, ap, _∙_}
+use mathlib.Core.Bool.{Bool, true, false}
+use mathlib.Core.List.{List, [], _∷_}
+use Prim.Native.Nat.{ℕ}
+use Rattle.lsn.specs.declared.Lsn.{Lsn}
+use Rattle.moment.specs.declared.Moment.{Moment}
+use Rattle.progress.specs.declared.Looked.{Looked}
+use Rattle.progress.specs.declared.ProgressCell.{ProgressCell}
+use Rattle.progress.specs.declared.Raised.{Raised}
+use Rattle.progress.specs.declared.Reported.{Reported}
+use Rattle.progress.specs.Progress.{raiseOf, lookedOf, reportedOf, carriedOf}
+use Rattle.export.specs.Cells.{cellOf, raisedWords, lookedWords, reportedWords}
+use Rattle.export.specs.Words.{flagWord, progressWords}
+use Rattle.export.proofs.RoundTrip.{progress-back}
+
+pub cell-words-are : (c : ProgressCell) {f1 f2 : ℕ} → f1 ≡ flagWord (c .signalled) → f2 ≡ flagWord (c .timed)
+    → (_≡_ {A = List ℕ} (c .applied .0 ∷ f1 ∷ c .«pending_since» .0 ∷ f2 ∷ []) (progressWords c))
+    × (cellOf (c .applied .0 ∷ f1 ∷ c .«pending_since» .0 ∷ f2 ∷ []) ≡ c)
+cell-words-are c {f1} {f2} p q =
+    let words : _≡_ {A = List ℕ} (c .applied .0 ∷ f1 ∷ c .«pending_since» .0 ∷ f2 ∷ []) (progressWords c) = rw (p, q) in
+    (words, ap cellOf words ∙ progress-back c)
+
+-- the words that a cell leaves, for an equal cell
+pub made : {c z : ProgressCell} {ws : List ℕ} → c ≡ z → (ws ≡ progressWords c) × (cellOf ws ≡ c) → (ws ≡ progressWords z) × (cellOf ws ≡ z)
+made e pw = (pw .0 ∙ ap progressWords e, pw .1 ∙ e)
+
+module _ {r z : ProgressCell} (pr : r ≡ z) where
+  pub raised : (p : Lsn) (m : Moment) (x : Raised) {w : ℕ} {ws : List ℕ}
+      → x ≡ raiseOf r p m
+      → (ws ≡ progressWords (x .cell)) × (cellOf ws ≡ x .cell)
+      → w ≡ flagWord (x .wake)
+      → ((w, ws) ≡ raisedWords (raiseOf z p m)) × (cellOf ws ≡ raiseOf z p m .cell)
+  raised p m x e pw pf =
+      let h : x ≡ raiseOf z p m = e ∙ ap (λ (y : ProgressCell). raiseOf y p m) pr in
+      (rw (← h, pw .0, pf), pw .1 ∙ ap (λ (y : Raised). y .cell) h)
+
+  pub looked : (x : Looked) {ws : List ℕ}
+      → x ≡ lookedOf r
+      → (ws ≡ progressWords (x .cell)) × (cellOf ws ≡ x .cell)
+      → ((x .applied .0, ws) ≡ lookedWords (lookedOf z)) × (cellOf ws ≡ lookedOf z .cell)
+  looked x e pw =
+      let h : x ≡ lookedOf z = e ∙ ap lookedOf pr in
+      (rw (← h, pw .0), pw .1 ∙ ap (λ (y : Looked). y .cell) h)
+
+  pub reported : (p : Lsn) (m : Moment) (x : Reported) {ws : List ℕ}
+      → x ≡ reportedOf r p m
+      → (ws ≡ progressWords (x .cell)) × (cellOf ws ≡ x .cell)
+      → ((x .since .0, ws) ≡ reportedWords (reportedOf z p m)) × (cellOf ws ≡ reportedOf z p m .cell)
+  reported p m x e pw =
+      let h : x ≡ reportedOf z p m = e ∙ ap (λ (y : ProgressCell). reportedOf y p m) pr in
+      (rw (← h, pw .0), pw .1 ∙ ap (λ (y : Reported). y .cell) h)
+
+  pub carried : (m : Moment) {x : ProgressCell} {ws : List ℕ}
+      → x ≡ carriedOf r m
+      → (ws ≡ progressWords x) × (cellOf ws ≡ x)
+      → (ws ≡ progressWords (carriedOf z m)) × (cellOf ws ≡ carriedOf z m)
+  carried m e pw = made (e ∙ ap (λ (y : ProgressCell). carriedOf y m) pr) pw
