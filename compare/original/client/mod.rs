@@ -25,6 +25,39 @@ pub mod worker {
             write_terminate(stream).await
         }
 
+        /// The progress cell by itself; a moment is handed in where the Rust reads its clock.
+        pub struct Cell(ProgressCell);
+
+        impl Cell {
+            pub fn new(start: u64, timed: bool) -> Self {
+                Cell(ProgressCell::new(start, timed))
+            }
+
+            pub fn load(&self) -> u64 {
+                self.0.load()
+            }
+
+            pub fn raise(&self, position: u64, moment: u64) -> bool {
+                self.0.raise(position, || moment)
+            }
+
+            pub fn take_signal(&self) -> u64 {
+                self.0.take_signal()
+            }
+
+            pub fn take_pending(&self, sent: u64, loaded_at: u64) -> u64 {
+                self.0.take_pending(sent, loaded_at)
+            }
+
+            pub fn pending_since(&self) -> u64 {
+                self.0.pending_since()
+            }
+
+            pub fn carry_pending(&self, since: u64) {
+                self.0.carry_pending(since)
+            }
+        }
+
         pub fn option_value(names: Vec<String>) -> String {
             crate::config::Publication::from(names).to_option_value()
         }

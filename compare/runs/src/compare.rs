@@ -6,13 +6,14 @@ use crate::side::Side;
 use std::panic::{catch_unwind, AssertUnwindSafe};
 use std::time::{Duration, Instant};
 
-/// Plays a scenario on both; the client times of the first are handed to the second. None where the records are equal.
+/// Plays a scenario on both; the client times of the first are handed to the second. None where the records are equal, or where the second
+/// tells that the scenario has led out of the domain of the comparison.
 pub fn compare(first: &mut dyn Side, second: &mut dyn Side, scenario: &Scenario) -> Option<String> {
     let (a, b) = match play(first, second, scenario) {
         Ok(records) => records,
         Err(broken) => return Some(broken),
     };
-    if a == b {
+    if a == b || b.outside {
         return None;
     }
     Some(difference(first.name(), &a, second.name(), &b))
@@ -86,6 +87,9 @@ impl Shrinking<'_> {
         let before = self.best.clone();
         self.rounds();
         self.happenings();
+        self.during();
+        self.messages();
+        self.payloads();
         self.bytes();
         self.times();
         self.settings();
@@ -110,6 +114,8 @@ impl Shrinking<'_> {
             let joined = self.with(|s| {
                 let round = s.rounds.remove(i);
                 s.rounds[i - 1].what.extend(round.what);
+                s.rounds[i - 1].during.extend(round.during);
+                s.rounds[i - 1].during.sort_by_key(|(call, _)| *call);
             });
             i += !joined as usize;
         }
@@ -122,7 +128,7 @@ impl Shrinking<'_> {
                 if !self.with(|s| drop(s.rounds[i].what.remove(j))) {
                     match self.best.rounds[i].what[j] {
                         Happening::Take(n) if n > 1 => drop(self.with(|s| s.rounds[i].what[j] = Happening::Take(1))),
-                        Happening::Report(p) if p > 1 => drop(self.with(|s| s.rounds[i].what[j] = Happening::Report(1))),
+                        Happening::Report(p) => drop((1..p.min(4)).any(|less| self.with(|s| s.rounds[i].what[j] = Happening::Report(less)))),
                         _ => {}
                     }
                     j += 1;
@@ -143,6 +149,80 @@ impl Shrinking<'_> {
         }
     }
 
+    /// What happens during calls: gone, before the calls, or during the first.
+    fn during(&mut self) {
+        for i in 0..self.best.rounds.len() {
+            let mut j = 0;
+            while j < self.best.rounds[i].during.len() {
+                let gone = self.with(|s| drop(s.rounds[i].during.remove(j)))
+                    || self.with(|s| {
+                        let (_, what) = s.rounds[i].during.remove(j);
+                        s.rounds[i].what.push(what);
+                    });
+                if !gone {
+                    self.with(|s| s.rounds[i].during[j].0 = 1);
+                    match self.best.rounds[i].during[j].1 {
+                        Happening::Take(n) if n > 1 => drop(self.with(|s| s.rounds[i].during[j].1 = Happening::Take(1))),
+                        Happening::Report(p) => drop((1..p.min(4)).any(|less| self.with(|s| s.rounds[i].during[j].1 = Happening::Report(less)))),
+                        _ => {}
+                    }
+                    j += 1;
+                }
+            }
+        }
+    }
+
+    /// Whole messages, wherever the pieces cut them: first many of them, then fewer, then each, goes, or becomes the shortest that is skipped.
+    fn messages(&mut self) {
+        let mut size = messages_of(&self.best).len();
+        while size > 0 {
+            let mut from = 0;
+            loop {
+                let all = messages_of(&self.best);
+                let Some(some) = all.get(from..(from + size).min(all.len())).filter(|some| !some.is_empty()) else { break };
+                let gone = self.with(|s| replace(s, some, |_| Vec::new()));
+                if !gone {
+                    self.with(|s| replace(s, some, |_| SKIPPED.to_vec()));
+                    from += size;
+                }
+            }
+            size /= 2;
+        }
+    }
+
+    /// Parts of payloads, with their messages' lengths.
+    fn payloads(&mut self) {
+        let mut which = 0;
+        while let Some(&(from, to)) = messages_of(&self.best).get(which) {
+            let mut size = to - from - 5;
+            while size > 0 {
+                let mut at = 5;
+                loop {
+                    let (from, to) = messages_of(&self.best)[which];
+                    if from + at >= to {
+                        break;
+                    }
+                    let less = size.min(to - from - at);
+                    let shorter = self.with(|s| {
+                        replace(s, &[(from, to)], |whole| {
+                            let mut whole = whole.to_vec();
+                            whole.drain(at..at + less);
+                            let length = whole.len() as u32 - 1;
+                            whole[1..5].copy_from_slice(&length.to_be_bytes());
+                            whole
+                        })
+                    });
+                    if !shorter {
+                        at += size;
+                    }
+                }
+                size /= 2;
+            }
+            which += 1;
+        }
+    }
+
+    /// Bytes of a piece, whatever they belong to.
     fn bytes(&mut self) {
         for i in 0..self.best.rounds.len() {
             for j in 0..self.best.rounds[i].what.len() {
@@ -152,38 +232,23 @@ impl Shrinking<'_> {
     }
 
     fn piece(&mut self, i: usize, j: usize) {
-        let length = |s: &Scenario| match &s.rounds[i].what[j] {
-            Happening::Bytes(b) => b.len(),
-            _ => 0,
-        };
-        if length(&self.best) == 0 {
-            return;
-        }
         fn of(s: &mut Scenario, i: usize, j: usize) -> &mut Vec<u8> {
             match &mut s.rounds[i].what[j] {
                 Happening::Bytes(b) => b,
                 _ => unreachable!(),
             }
         }
-        // Whole messages, where the piece begins with one.
-        let mut from = 0;
-        while let Some(end) = message_end(of(&mut self.best, i, j), from) {
-            if !self.with(|s| drop(of(s, i, j).drain(from..end))) {
-                from = end;
-            }
-        }
+        let length = |s: &Scenario| match &s.rounds[i].what[j] {
+            Happening::Bytes(b) => b.len(),
+            _ => 0,
+        };
         let mut size = length(&self.best);
         while size > 0 {
             let mut from = 0;
             while from < length(&self.best) {
                 let to = (from + size).min(length(&self.best));
                 if !self.with(|s| drop(of(s, i, j).drain(from..to))) {
-                    // A payload's bytes and its length together.
-                    let less = (to - from) as u32;
-                    let shorter = from >= 5 && self.with(|s| shorten(of(s, i, j), from, to, less));
-                    if !shorter {
-                        from += size;
-                    }
+                    from += size;
                 }
             }
             size /= 2;
@@ -211,7 +276,9 @@ impl Shrinking<'_> {
         let plain = Scenario::default();
         self.with(|s| s.timing = false);
         self.with(|s| s.binary = false);
-        self.with(|s| s.stop_at = None);
+        if !self.with(|s| s.stop_at = None) {
+            let _ = self.with(|s| s.stop_at = s.stop_at.and(Some(0))) || self.with(|s| s.stop_at = s.stop_at.map(|p| p.min(0x100)));
+        }
         self.with(|s| s.open = true);
         self.with(|s| s.query = 0);
         self.with(|s| s.start = 0);
@@ -238,22 +305,79 @@ impl Shrinking<'_> {
     }
 }
 
-/// Where the message ends that begins at a place; None where it is not whole.
-fn message_end(bytes: &[u8], at: usize) -> Option<usize> {
-    let length = u32::from_be_bytes(bytes.get(at + 1..at + 5)?.try_into().unwrap()) as usize;
-    (length >= 4 && at + 1 + length <= bytes.len()).then_some(at + 1 + length)
+/// The shortest message that is skipped.
+const SKIPPED: &[u8] = b"N\0\0\0\x04";
+
+fn pieces(s: &Scenario) -> impl Iterator<Item = &Vec<u8>> {
+    s.rounds.iter().flat_map(|round| &round.what).filter_map(|what| if let Happening::Bytes(b) = what { Some(b) } else { None })
 }
 
-/// Takes bytes out of a piece and off the length of the message in which they lie, where the piece begins with a message.
-fn shorten(bytes: &mut Vec<u8>, from: usize, to: usize, less: u32) {
-    let mut at = 0;
-    while let Some(end) = message_end(bytes, at) {
-        if at + 5 <= from && to <= end {
-            let length = (end - at - 1) as u32;
-            bytes[at + 1..at + 5].copy_from_slice(&(length - less).to_be_bytes());
-            bytes.drain(from..to);
-            return;
+/// Where the messages of all the bytes begin and end, whatever the pieces; behind a header that is none, or one that is not whole, there are
+/// no more.
+fn messages_of(s: &Scenario) -> Vec<(usize, usize)> {
+    let bytes = pieces(s).flatten().copied().collect::<Vec<u8>>();
+    let (mut at, mut all) = (0, Vec::new());
+    while let Some(header) = bytes.get(at..at + 5) {
+        let length = u32::from_be_bytes(header[1..].try_into().unwrap()) as usize;
+        if length < 4 || at + 1 + length > bytes.len() {
+            break;
         }
-        at = end;
+        all.push((at, at + 1 + length));
+        at += 1 + length;
+    }
+    all
+}
+
+/// Puts other bytes in the place of messages. A cut between two pieces that lies in one stays as far behind its beginning as it can; pieces
+/// of which nothing is left go.
+fn replace(s: &mut Scenario, messages: &[(usize, usize)], by: impl Fn(&[u8]) -> Vec<u8>) {
+    let whole: Vec<u8> = pieces(s).flatten().copied().collect();
+    let mut done = Vec::with_capacity(whole.len());
+    // For each replaced stretch where it began and ended, and where it does now.
+    let mut moved: Vec<[usize; 4]> = Vec::new();
+    let mut at = 0;
+    for &(from, to) in messages {
+        done.extend_from_slice(&whole[at..from]);
+        let begun = done.len();
+        done.extend(by(&whole[from..to]));
+        moved.push([from, to, begun, done.len()]);
+        at = to;
+    }
+    done.extend_from_slice(&whole[at..]);
+    let place = |old: usize| {
+        let known = moved.partition_point(|m| m[0] < old);
+        match moved[..known].last() {
+            Some(&[from, to, begun, ended]) if old < to => ended.min(begun + old - from),
+            Some(&[_, to, _, ended]) => ended + old - to,
+            None => old,
+        }
+    };
+    let (mut old, mut from) = (0, 0);
+    for round in &mut s.rounds {
+        for what in &mut round.what {
+            if let Happening::Bytes(bytes) = what {
+                old += bytes.len();
+                let to = place(old);
+                *bytes = done[from..to].to_vec();
+                from = to;
+            }
+        }
+        round.what.retain(|what| !matches!(what, Happening::Bytes(bytes) if bytes.is_empty()));
+    }
+}
+
+#[cfg(test)]
+mod tests {
+    use super::*;
+
+    #[test]
+    fn messages_are_replaced_across_pieces() {
+        let text = "at 0\nbytes 4e0000\nbytes 000401\nbytes 0000000602\nat 1\nbytes 0344\n";
+        let mut s = Scenario::parse(text).unwrap();
+        assert_eq!(messages_of(&s), [(0, 5), (5, 12)]);
+        replace(&mut s, &[(5, 12)], |_| SKIPPED.to_vec());
+        assert_eq!(s.print().split_once("at 0\n").unwrap().1, "bytes 4e0000\nbytes 00044e\nbytes 00000004\nat 1\nbytes 44\n");
+        replace(&mut s, &[(0, 5)], |_| Vec::new());
+        assert_eq!(s.print().split_once("at 0\n").unwrap().1, "bytes 4e\nbytes 00000004\nat 1\nbytes 44\n");
     }
 }

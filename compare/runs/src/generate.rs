@@ -1,7 +1,7 @@
 //! Scenarios from a seed, inside the domain that document 01 gives the comparison.
 
 use crate::draw::Draw;
-use crate::scenario::{Happening, Round, Scenario, LONGEST_PIECE};
+use crate::scenario::{Happening, Round, Scenario, LAST_MOMENT, LONGEST_PIECE};
 use crate::server::{accepted, begin, commit, data, framed, headed, keepalive, message};
 
 const POSITIONS: &[u64] = &[0, 1, 0x10, 0xFE, 0xFF, 0x100, 0x101, 0x200, 0xFFFF_FFFF, 0x1_0000_0000, 0x16_B374_D848, u64::MAX - 1, u64::MAX];
@@ -208,9 +208,7 @@ fn opening(draw: &mut Draw, limit: u64) -> Vec<Vec<u8>> {
         4 => framed(b'W', &[]),
         _ => accepted(),
     };
-    if within(&last) || last[0] == b'W' {
-        all.push(last);
-    }
+    all.push(if within(&last) { last } else { framed(b'W', &[]) });
     all
 }
 
@@ -270,6 +268,20 @@ fn interval(draw: &mut Draw) -> u64 {
     }
 }
 
+fn character(draw: &mut Draw) -> char {
+    let bits = draw.pick(&[7, 11, 16, 21]);
+    char::from_u32(draw.below(1 << bits) as u32).unwrap_or('\'')
+}
+
+/// Any text; the Rust takes well-formed ones alone.
+fn name(draw: &mut Draw, usual: &[&str]) -> String {
+    match draw.below(12) {
+        0 => (0..draw.below(9)).map(|_| character(draw)).collect(),
+        1 if draw.once_in(10) => "long '".repeat(1 + draw.size(2_000)),
+        _ => draw.pick(usual).to_string(),
+    }
+}
+
 fn settings(draw: &mut Draw) -> Scenario {
     let names = ["p", "orders", "a,b", "it's", "''", "", "\u{17C}\u{F3}", "x y"];
     let status = interval(draw);
@@ -280,17 +292,22 @@ fn settings(draw: &mut Draw) -> Scenario {
         limit: match draw.below(8) {
             0 => draw.pick(&[0, 1, 3, 16, 17, 18, 24, 25, 26, 40, 46, 50, 60]),
             1 => 60 + draw.below(300),
-            2 => 131_071,
+            2 => draw.pick(&[131_070, 131_071]),
+            3 => draw.below(131_072),
             _ => draw.pick(&[1_000, 4_096, 65_536]),
         },
-        stop_at: draw.once_in(2).then(|| draw.pick(&[0, 0xFF, 0x100, 0x101, 0x200, 0x1_0000_0000, u64::MAX, u64::MAX])),
+        stop_at: match draw.below(16) {
+            0..=7 => None,
+            8 => Some(draw.next()),
+            _ => Some(draw.pick(&[0, 0xFF, 0x100, 0x101, 0x200, 0x1_0000_0000, u64::MAX - 1, u64::MAX])),
+        },
         timing: draw.once_in(2),
         binary: draw.once_in(2),
-        queue: draw.pick(&[1, 1, 1, 2, 2, 3, 8, 8, 1_000]),
+        queue: draw.pick(&[1, 1, 1, 2, 2, 3, 5, 8, 8, 20, 1_000]),
         query: position(draw),
-        start: draw.pick(&[0, 0, 0, 1, 0x10, 0xFF, 0x1_0000_0000, u64::MAX]),
-        slot: draw.pick(&["s", "slot_1", "a b", "\u{142}"]).to_string(),
-        publications: (0..draw.pick(&[0, 1, 1, 1, 2, 3])).map(|_| draw.pick(&names).to_string()).collect(),
+        start: if draw.once_in(10) { position(draw) } else { draw.pick(&[0, 0, 0, 1, 0x10, 0xFF, 0x1_0000_0000, u64::MAX]) },
+        slot: name(draw, &["s", "slot_1", "a b", "\u{142}", ""]),
+        publications: (0..draw.pick(&[0, 1, 1, 1, 2, 3, 9])).map(|_| name(draw, &names)).collect(),
         rounds: Vec::new(),
     }
 }
@@ -307,10 +324,12 @@ fn gap(draw: &mut Draw, s: &Scenario) -> u64 {
         8 => status - 1,
         9 => idle - 1,
         10 => status.abs_diff(idle),
+        11 if draw.once_in(20) => draw.below(86_400_000),
         _ => status.max(idle) + draw.below(3),
     };
     // Not too many statuses in between.
-    wished.min(6 * status.min(idle))
+    let most = if draw.once_in(60) { 300 } else { 6 };
+    wished.min(most * status.min(idle))
 }
 
 fn rounds(draw: &mut Draw, s: &Scenario, pieces: Vec<Vec<u8>>) -> Vec<Round> {
@@ -348,7 +367,7 @@ fn rounds(draw: &mut Draw, s: &Scenario, pieces: Vec<Vec<u8>>) -> Vec<Round> {
         if i == close_in {
             what.push(Happening::Close);
         }
-        rounds.push(Round { at, what });
+        rounds.push(Round::new(at, what));
         if left.is_empty() && !ends {
             if trailing == 0 {
                 break;
@@ -390,9 +409,9 @@ fn long_drain(draw: &mut Draw, mut s: Scenario) -> Scenario {
         if i == stop_in {
             what.push(Happening::Stop);
         }
-        s.rounds.push(Round { at, what });
+        s.rounds.push(Round::new(at, what));
         at += gap(draw, &s);
-        s.rounds.extend(draw.once_in(2).then(|| Round { at, what: vec![Happening::Take(1 + draw.size(200))] }));
+        s.rounds.extend(draw.once_in(2).then(|| Round::new(at, vec![Happening::Take(1 + draw.size(200))])));
     }
     s
 }
@@ -410,11 +429,11 @@ fn together(draw: &mut Draw, mut s: Scenario) -> Scenario {
     if cut > 0 {
         begin.push(Happening::Bytes(whole[..cut].to_vec()));
     }
-    s.rounds.push(Round { at: 0, what: begin });
+    s.rounds.push(Round::new(0, begin));
     let mut at = 0;
     if draw.once_in(2) {
         at += draw.pick(&[0, 1, s.status - 1]);
-        s.rounds.push(Round { at, what: vec![Happening::Report(position(draw))] });
+        s.rounds.push(Round::new(at, vec![Happening::Report(position(draw))]));
     }
     at = at.max(draw.pick(&[s.status, s.idle, s.idle, s.status + s.idle, 2 * s.status, s.status - 1]));
     let mut what = Vec::new();
@@ -429,7 +448,7 @@ fn together(draw: &mut Draw, mut s: Scenario) -> Scenario {
         what.extend(draw.once_in(2).then(|| Happening::Report(position(draw))));
         what.extend(draw.once_in(2).then(|| Happening::Take(1 + draw.size(3))));
         what.extend(draw.once_in(4).then_some(Happening::Close));
-        s.rounds.push(Round { at, what: std::mem::take(&mut what) });
+        s.rounds.push(Round::new(at, std::mem::take(&mut what)));
         at += draw.pick(&[0, 0, 1, s.status, s.idle]);
     }
     if draw.once_in(2) {
@@ -443,14 +462,50 @@ fn together(draw: &mut Draw, mut s: Scenario) -> Scenario {
         }
     }
     what.extend(rest.take());
-    s.rounds.push(Round { at, what });
-    s.rounds.push(Round { at: at + s.status.max(s.idle).min(6), what: vec![Happening::Take(2)] });
+    s.rounds.push(Round::new(at, what));
+    s.rounds.push(Round::new(at + s.status.max(s.idle).min(6), vec![Happening::Take(2)]));
     s
+}
+
+/// What happens while the run is busy: stop, reports and the queue's changes during its calls.
+fn busy(draw: &mut Draw, s: &mut Scenario) {
+    for round in &mut s.rounds {
+        let mut call = 1;
+        for _ in 0..draw.pick(&[0, 0, 1, 1, 2, 3]) {
+            call += draw.pick(&[0, 0, 0, 1, 1, 2, 3, 5]);
+            let what = match draw.below(20) {
+                0 | 1 => Happening::Stop,
+                2 => Happening::Close,
+                3..=10 => Happening::Take(1 + draw.size(3)),
+                _ => Happening::Report(position(draw)),
+            };
+            round.during.push((call, what));
+        }
+    }
+}
+
+/// Moments far from the beginning, up to the last one that a step takes. No time is up before the run has its first bytes.
+fn late(draw: &mut Draw, s: &mut Scenario) {
+    let last = s.rounds.last().map_or(0, |round| round.at);
+    let room = LAST_MOMENT - last;
+    let later = if draw.once_in(3) { room } else { draw.below(room + 1) >> draw.below(40) };
+    s.rounds.iter_mut().for_each(|round| round.at += later);
 }
 
 pub fn scenario(seed: u64) -> Scenario {
     let mut draw = Draw::new(seed);
     let draw = &mut draw;
+    let mut s = base(draw);
+    if draw.once_in(3) {
+        busy(draw, &mut s);
+    }
+    if draw.once_in(30) {
+        late(draw, &mut s);
+    }
+    s
+}
+
+fn base(draw: &mut Draw) -> Scenario {
     let mut s = settings(draw);
     if draw.once_in(5) {
         return together(draw, s);
@@ -460,7 +515,6 @@ pub fn scenario(seed: u64) -> Scenario {
     }
     let mut all = Vec::new();
     if !s.open {
-        s.limit = s.limit.max(60);
         all.extend(opening(draw, s.limit));
     }
     if s.open || !draw.once_in(20) {

@@ -1,5 +1,6 @@
 //! The comparison with the Rust: scenarios, both sides' records of them, and the first difference.
 
+pub mod cell;
 pub mod compare;
 pub mod coverage;
 pub mod draw;

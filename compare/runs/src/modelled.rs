@@ -17,7 +17,7 @@ pub struct Modelled {
 }
 
 pub fn side() -> Stepped<Modelled> {
-    Stepped { name: "model", run: Modelled::default(), coverage: Default::default(), steps: 0 }
+    Stepped { name: "model", run: Modelled::default(), coverage: Default::default(), steps: 0, outside: 0 }
 }
 
 impl Modelled {

@@ -46,6 +46,13 @@ struct Wire {
     metrics: Arc<ReplicationMetrics>,
     forwarded: u64,
     notes: Vec<(u64, Noted)>,
+    /// Calls since the round began, and what happens during later ones.
+    calls: usize,
+    during: VecDeque<(usize, Happening)>,
+    stop: watch::Sender<bool>,
+    progress: Arc<SharedProgress>,
+    queue: ReplicationEventReceiver,
+    taken: VecDeque<Event>,
 }
 
 impl Wire {
@@ -71,6 +78,42 @@ impl Wire {
         self.notes.push((now, Noted::Line(line)));
     }
 
+    /// The run calls: what is to happen during this call happens.
+    fn note_call(&mut self, line: Line) {
+        self.note(line);
+        self.calls += 1;
+        while self.during.front().is_some_and(|(call, _)| *call <= self.calls) {
+            let (_, what) = self.during.pop_front().unwrap();
+            self.happen(&what);
+        }
+    }
+
+    fn happen(&mut self, what: &Happening) {
+        match what {
+            Happening::Bytes(bytes) => {
+                self.pieces.push_back((bytes.clone(), true));
+                self.arrived();
+            }
+            Happening::End => {
+                self.ended = true;
+                self.arrived();
+            }
+            Happening::Stop => drop(self.stop.send_replace(true)),
+            Happening::Report(position) => self.progress.update_applied(Lsn(*position)),
+            Happening::Take(n) => self.take(*n),
+            Happening::Close => self.queue.close(),
+        }
+    }
+
+    fn take(&mut self, n: usize) {
+        for _ in 0..n {
+            match self.queue.try_recv() {
+                Ok(event) => self.taken.push_back(event_of(event.expect("no errors are sent"))),
+                Err(_) => return,
+            }
+        }
+    }
+
     fn arrived(&mut self) {
         if let Some(waker) = self.reading.take() {
             waker.wake();
@@ -93,7 +136,7 @@ impl AsyncRead for Stream {
             buf.put_slice(&piece);
             wire.rests = true;
             if noted {
-                wire.note(Line::Piece(piece.len()));
+                wire.note_call(Line::Piece(piece.len()));
             }
             return Poll::Ready(Ok(()));
         }
@@ -111,7 +154,7 @@ impl AsyncWrite for Stream {
         if wire.unnoted > 0 {
             wire.unnoted -= 1;
         } else {
-            wire.note(Line::Write(bytes.to_vec()));
+            wire.note_call(Line::Write(bytes.to_vec()));
         }
         Poll::Ready(Ok(bytes.len()))
     }
@@ -304,7 +347,7 @@ fn config_of(s: &Scenario, wire: &Arc<Mutex<Wire>>) -> ReplicationConfig {
     if s.timing {
         let wire = wire.clone();
         config = config.with_feedback_observer(FeedbackObserver::new(move |sent| {
-            wire.lock().unwrap().note(Line::Waited(sent.pending_for.as_nanos() as u64));
+            wire.lock().unwrap().note_call(Line::Waited(sent.pending_for.as_nanos() as u64));
         }));
     }
     config
@@ -368,6 +411,9 @@ impl Original {
     async fn play(&mut self, s: &Scenario) -> Record {
         let begun = Instant::now();
         let metrics = Arc::new(ReplicationMetrics::default());
+        let progress = Arc::new(SharedProgress::with_timing(Lsn(s.start), s.timing));
+        let (stop, stop_seen) = watch::channel(false);
+        let (out, queue) = mpsc::channel(s.queue);
         let wire = Arc::new(Mutex::new(Wire {
             begun,
             pieces: VecDeque::from([(AUTHENTICATED.to_vec(), false)]),
@@ -379,15 +425,17 @@ impl Original {
             metrics: metrics.clone(),
             forwarded: 0,
             notes: Vec::new(),
+            calls: 0,
+            during: VecDeque::new(),
+            stop,
+            progress: progress.clone(),
+            queue,
+            taken: VecDeque::new(),
         }));
-        let progress = Arc::new(SharedProgress::with_timing(Lsn(s.start), s.timing));
-        let (stop, stop_seen) = watch::channel(false);
-        let (out, mut queue) = mpsc::channel(s.queue);
-        let mut state = WorkerState::new(config_of(s, &wire), progress.clone(), stop_seen, out, metrics.clone());
+        let mut state = WorkerState::new(config_of(s, &wire), progress, stop_seen, out, metrics.clone());
         let mut stream = Stream(wire.clone());
         let mut worker = Worker::new(state.run_on_stream(&mut stream), wire.clone());
         let mut record = Record::default();
-        let mut taken = VecDeque::new();
 
         worker.settle().await;
         for (i, round) in s.rounds.iter().enumerate() {
@@ -395,38 +443,23 @@ impl Original {
             if worker.outcome.is_some() {
                 break;
             }
-            if s.open && i == 0 {
+            {
                 let mut wire = wire.lock().unwrap();
-                wire.pieces.push_back((ACCEPTED.to_vec(), false));
-                wire.arrived();
-            }
-            for what in &round.what {
-                match what {
-                    Happening::Bytes(bytes) => {
-                        let mut wire = wire.lock().unwrap();
-                        wire.pieces.push_back((bytes.clone(), true));
-                        wire.arrived();
-                    }
-                    Happening::End => {
-                        let mut wire = wire.lock().unwrap();
-                        wire.ended = true;
-                        wire.arrived();
-                    }
-                    Happening::Stop => {
-                        stop.send_replace(true);
-                    }
-                    Happening::Report(position) => progress.update_applied(Lsn(*position)),
-                    Happening::Take(n) => take(&mut queue, *n, &mut taken),
-                    Happening::Close => queue.close(),
+                if s.open && i == 0 {
+                    wire.pieces.push_back((ACCEPTED.to_vec(), false));
+                    wire.arrived();
                 }
+                round.what.iter().for_each(|what| wire.happen(what));
+                (wire.calls, wire.during) = (0, round.during.clone().into());
             }
             worker.settle().await;
             record.metrics.push(metrics_of(&metrics));
         }
-        take(&mut queue, usize::MAX, &mut taken);
         self.said = worker.outcome.as_ref().and_then(|o| o.as_ref().err()).map(|e| e.to_string());
         drop(worker);
-        let notes = std::mem::take(&mut wire.lock().unwrap().notes);
+        let mut wire = wire.lock().unwrap();
+        wire.take(usize::MAX);
+        let (notes, mut taken) = (std::mem::take(&mut wire.notes), std::mem::take(&mut wire.taken));
         let mut line = |noted| match noted {
             Noted::Line(line) => line,
             Noted::Event => Line::Event(taken.pop_front().expect("as many events as were counted")),
@@ -434,14 +467,5 @@ impl Original {
         record.lines = notes.into_iter().map(|(at, noted)| (at, line(noted))).collect();
         assert!(taken.is_empty(), "more events than were counted");
         record
-    }
-}
-
-fn take(queue: &mut ReplicationEventReceiver, n: usize, taken: &mut VecDeque<Event>) {
-    for _ in 0..n {
-        match queue.try_recv() {
-            Ok(event) => taken.push_back(event_of(event.expect("no errors are sent"))),
-            Err(_) => return,
-        }
     }
 }

@@ -15,7 +15,7 @@ pub struct Ours {
 }
 
 pub fn side() -> Stepped<Ours> {
-    Stepped { name: "ours", run: Ours::default(), coverage: Default::default(), steps: 0 }
+    Stepped { name: "ours", run: Ours::default(), coverage: Default::default(), steps: 0, outside: 0 }
 }
 
 /// What one of the writers makes of a text; the longest is three bytes for one, and the words around an error's fields.

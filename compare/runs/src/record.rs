@@ -60,6 +60,8 @@ pub struct Record {
     pub lines: Vec<(u64, Line)>,
     /// After each round; after the end of a run no more.
     pub metrics: Vec<Metrics>,
+    /// A report came inside a step that would have had to see it: outside the domain of the comparison.
+    pub outside: bool,
 }
 
 pub const STATUS: usize = 39;

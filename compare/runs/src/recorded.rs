@@ -125,7 +125,7 @@ impl Steps for Recorder {
 }
 
 pub fn side() -> Stepped<Recorder> {
-    Stepped { name: "model", run: Recorder::default(), coverage: Default::default(), steps: 0 }
+    Stepped { name: "model", run: Recorder::default(), coverage: Default::default(), steps: 0, outside: 0 }
 }
 
 /// Plays a scenario on the Rust and records it; the script and its lines. None where the model differs.

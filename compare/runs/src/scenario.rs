@@ -5,6 +5,8 @@ use crate::text::{hex, position, unhex, unposition};
 
 /// The longest piece that a stream hands over.
 pub const LONGEST_PIECE: usize = 131_072;
+/// The last moment, in milliseconds, that a step takes: moment 0 is a step's millisecond 1.
+pub const LAST_MOMENT: u64 = 9_223_372_036_853;
 
 #[derive(Clone, Debug, PartialEq)]
 pub struct Scenario {
@@ -31,6 +33,15 @@ pub struct Round {
     /// Milliseconds from the beginning, never falling.
     pub at: u64,
     pub what: Vec<Happening>,
+    /// What happens later, while the run is busy: each during a call that it makes, counted from 1 since the round began. A call is a piece
+    /// handed over, a message written, a waiting time told.
+    pub during: Vec<(usize, Happening)>,
+}
+
+impl Round {
+    pub fn new(at: u64, what: Vec<Happening>) -> Round {
+        Round { at, what, during: Vec::new() }
+    }
 }
 
 #[derive(Clone, Debug, PartialEq)]
@@ -80,20 +91,31 @@ impl Scenario {
         if self.queue == 0 {
             return Err("the queue has no room".to_string());
         }
-        let (mut last, mut ended, mut stopped) = (0, false, false);
+        let (mut last, mut ended) = (0, false);
         for round in &self.rounds {
             if round.at < last {
                 return Err(format!("the moment {} lies before {last}", round.at));
             }
             last = round.at;
+            if last > LAST_MOMENT {
+                return Err(format!("the moment {last} lies behind the last, {LAST_MOMENT}"));
+            }
             for what in &round.what {
                 match what {
                     Happening::Bytes(b) if b.is_empty() || b.len() > LONGEST_PIECE => return Err("a piece of no or too many bytes".to_string()),
                     Happening::Bytes(_) | Happening::End if ended => return Err("input behind its end".to_string()),
-                    Happening::Stop if stopped => return Err("two stops".to_string()),
                     Happening::End => ended = true,
-                    Happening::Stop => stopped = true,
                     _ => {}
+                }
+            }
+            let mut call = 1;
+            for (n, what) in &round.during {
+                if *n < call {
+                    return Err("calls that are not in order".to_string());
+                }
+                call = *n;
+                if matches!(what, Happening::Bytes(_) | Happening::End) {
+                    return Err("input during a call".to_string());
                 }
             }
         }
@@ -144,14 +166,8 @@ impl Scenario {
         lines.extend(self.binary.then(|| "binary".to_string()));
         for round in &self.rounds {
             lines.push(format!("at {}", round.at));
-            lines.extend(round.what.iter().map(|what| match what {
-                Happening::Bytes(b) => format!("bytes {}", hex(b)),
-                Happening::End => "end".to_string(),
-                Happening::Stop => "stop".to_string(),
-                Happening::Report(p) => format!("report {}", position(*p)),
-                Happening::Take(n) => format!("take {n}"),
-                Happening::Close => "close".to_string(),
-            }));
+            lines.extend(round.what.iter().map(Happening::print));
+            lines.extend(round.during.iter().map(|(n, what)| format!("during {n} {}", what.print())));
         }
         lines.join("\n") + "\n"
     }
@@ -186,20 +202,39 @@ impl Scenario {
             "stop_at" => self.stop_at = Some(unposition(rest)?),
             "timing" => self.timing = true,
             "binary" => self.binary = true,
-            "at" => self.rounds.push(Round { at: rest.parse().ok()?, what: Vec::new() }),
-            _ => {
-                let what = match word {
-                    "bytes" => Happening::Bytes(unhex(rest)?),
-                    "end" => Happening::End,
-                    "stop" => Happening::Stop,
-                    "report" => Happening::Report(unposition(rest)?),
-                    "take" => Happening::Take(rest.parse().ok()?),
-                    "close" => Happening::Close,
-                    _ => return None,
-                };
-                self.rounds.last_mut()?.what.push(what);
+            "at" => self.rounds.push(Round::new(rest.parse().ok()?, Vec::new())),
+            "during" => {
+                let (call, what) = rest.split_once(' ')?;
+                self.rounds.last_mut()?.during.push((call.parse().ok()?, Happening::parse(what)?));
             }
+            _ => self.rounds.last_mut()?.what.push(Happening::parse(line)?),
         }
         Some(())
+    }
+}
+
+impl Happening {
+    fn print(&self) -> String {
+        match self {
+            Happening::Bytes(b) => format!("bytes {}", hex(b)),
+            Happening::End => "end".to_string(),
+            Happening::Stop => "stop".to_string(),
+            Happening::Report(p) => format!("report {}", position(*p)),
+            Happening::Take(n) => format!("take {n}"),
+            Happening::Close => "close".to_string(),
+        }
+    }
+
+    fn parse(line: &str) -> Option<Happening> {
+        let (word, rest) = line.split_once(' ').unwrap_or((line, ""));
+        Some(match word {
+            "bytes" => Happening::Bytes(unhex(rest)?),
+            "end" => Happening::End,
+            "stop" => Happening::Stop,
+            "report" => Happening::Report(unposition(rest)?),
+            "take" => Happening::Take(rest.parse().ok()?),
+            "close" => Happening::Close,
+            _ => return None,
+        })
     }
 }

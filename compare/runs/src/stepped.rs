@@ -76,6 +76,8 @@ pub struct Stepped<R: Steps> {
     pub coverage: Coverage,
     /// Steps made, all scenarios together.
     pub steps: u64,
+    /// Scenarios that led out of the domain of the comparison.
+    pub outside: u64,
 }
 
 /// What the host of a run keeps beside it.
@@ -94,6 +96,11 @@ struct Host<'a> {
     closed: bool,
     last_status: Option<u64>,
     wait_began: u64,
+    /// Calls since the round began, and what happens during later ones.
+    calls: usize,
+    during: VecDeque<&'a (usize, Happening)>,
+    /// The position of the last status.
+    confirmed: Option<u64>,
     record: Record,
 }
 
@@ -119,6 +126,9 @@ impl<R: Steps> Side for Stepped<R> {
             closed: false,
             last_status: None,
             wait_began: 0,
+            calls: 0,
+            during: VecDeque::new(),
+            confirmed: None,
             record: Record::default(),
         };
         if !scenario.open {
@@ -134,24 +144,46 @@ impl<R: Steps> Side for Stepped<R> {
                 break;
             }
             now = round.at;
-            for what in &round.what {
-                match what {
-                    Happening::Bytes(bytes) => host.pieces.push_back(bytes),
-                    Happening::End => host.ended = true,
-                    Happening::Stop => host.stop = true,
-                    Happening::Report(position) => self.run.report(*position, moment_of(now)),
-                    Happening::Take(n) => host.queued -= host.queued.min(*n),
-                    Happening::Close => host.closed = true,
-                }
-            }
+            round.what.iter().for_each(|what| self.happen(&mut host, what, now));
+            (host.calls, host.during) = (0, round.during.iter().collect());
             self.settle(&mut host, now);
             host.record.metrics.push(self.run.metrics());
         }
+        self.outside += host.record.outside as u64;
         host.record
     }
 }
 
 impl<R: Steps> Stepped<R> {
+    fn happen<'a>(&mut self, host: &mut Host<'a>, what: &'a Happening, now: u64) {
+        match what {
+            Happening::Bytes(bytes) => host.pieces.push_back(bytes),
+            Happening::End => host.ended = true,
+            Happening::Stop => host.stop = true,
+            Happening::Report(position) => self.run.report(*position, moment_of(now)),
+            Happening::Take(n) => host.queued -= host.queued.min(*n),
+            Happening::Close => host.closed = true,
+        }
+    }
+
+    /// What happens during the calls of a step happens behind it: a step is told of the stop and the queue before it, and reports come
+    /// between steps.
+    fn calls(&mut self, host: &mut Host, lines: usize, now: u64) {
+        let made: Vec<Call> = host.record.lines[lines..].iter().filter_map(|(_, line)| call_of(line)).collect();
+        let before = host.calls;
+        host.calls += made.len();
+        while let Some((call, what)) = host.during.front().copied().filter(|(call, _)| *call <= host.calls) {
+            host.during.pop_front();
+            if let Happening::Report(position) = what {
+                let outside = host.reported_inside(&made, call - before - 1, *position);
+                host.record.outside |= outside;
+            }
+            self.happen(host, what, now);
+        }
+        let confirmed = made.iter().find_map(|call| if let Call::Status(position) = call { Some(*position) } else { None });
+        host.confirmed = confirmed.or(host.confirmed);
+    }
+
     /// Makes steps until one does nothing.
     fn settle(&mut self, host: &mut Host, now: u64) {
         for _ in 0..host.most_steps {
@@ -185,6 +217,7 @@ impl<R: Steps> Stepped<R> {
                 idle: now - host.wait_began >= host.scenario.idle,
             };
             self.coverage.step(host.state, &input, &answer, up);
+            let lines = host.record.lines.len();
             if let (Some(piece), true) = (piece, answer.taken > 0) {
                 host.record.lines.push((now, Line::Piece(piece.len())));
                 host.held.extend(piece);
@@ -194,6 +227,7 @@ impl<R: Steps> Stepped<R> {
             let offers = host.state == State::Offering && queue != Queue::Full;
             let idle = answer.taken == 0 && answer.state == host.state && answer.written.is_empty() && !offers;
             host.take_in(answer, now);
+            self.calls(host, lines, now);
             if idle && host.state != State::Ended {
                 return;
             }
@@ -202,7 +236,38 @@ impl<R: Steps> Stepped<R> {
     }
 }
 
+/// A call of a step.
+#[derive(PartialEq)]
+enum Call {
+    Piece,
+    /// With the position that it confirms.
+    Status(u64),
+    Done,
+    Told,
+}
+
+fn call_of(line: &Line) -> Option<Call> {
+    match line {
+        Line::Piece(_) => Some(Call::Piece),
+        Line::Write(bytes) => Some(match crate::record::client_time(bytes) {
+            Some(_) => Call::Status(u64::from_be_bytes(bytes[6..14].try_into().unwrap())),
+            None => Call::Done,
+        }),
+        Line::Waited(_) => Some(Call::Told),
+        _ => None,
+    }
+}
+
 impl Host<'_> {
+    /// Whether a report during a call of a step is one that the step would have to see, which no report between steps is: the status that
+    /// follows the call confirms it, or its moment is taken as the one that the status's own position waited from.
+    fn reported_inside(&self, made: &[Call], call: usize, position: u64) -> bool {
+        let Some(at) = made.iter().position(|call| matches!(call, Call::Status(_))) else { return false };
+        let Call::Status(confirmed) = made[at] else { return false };
+        let new = self.confirmed.is_none_or(|last| confirmed > last);
+        position > confirmed && (call < at || call == at && self.scenario.timing && new && !made.contains(&Call::Told))
+    }
+
     fn take_in(&mut self, answer: Answer, now: u64) {
         self.held.drain(..answer.taken);
         // Of a step's doings the event comes first, save in the answer to a keepalive, where it is a later step's.

@@ -3,6 +3,7 @@
 //! With --model the runs are compared with the model in `vectors/` instead. LEAVES names the program
 //! `leaves`; unset, it is sought as compare/run leaves it.
 
+use runs::cell::compare_with_the_project;
 use runs::compare::{compare, shrink};
 use runs::generate::scenario;
 use runs::leaf::{compare_leaves, OriginalLeaves, Program};
@@ -42,6 +43,7 @@ fn runs<R: Steps>(mut second: Stepped<R>, scenarios: u64, seed: u64) {
     let (reached, missing) = second.coverage.print();
     println!("{reached}");
     println!("{scenarios} scenarios, rust and {}, {} steps, in {:.0} s, no difference", second.name, second.steps, begun.elapsed().as_secs_f64());
+    println!("{} of them with a report inside a step that would have had to see it: not compared", second.outside);
     println!("ends: {}", ends.iter().map(|(end, n)| format!("{end}: {n}")).collect::<Vec<_>>().join(", "));
     if scenarios >= 100_000 && !missing.is_empty() {
         fails(format!("not reached: {}", missing.join("; ")));
@@ -68,12 +70,16 @@ fn main() {
     runs(ours::side(), scenarios, seed);
 
     let begun = Instant::now();
+    let cells = compare_with_the_project(leaves / 5, seed).unwrap_or_else(|difference| fails(difference));
+    println!("{cells} lists of calls on a progress cell in {:.0} s, no difference", begun.elapsed().as_secs_f64());
+
+    let begun = Instant::now();
     let mut program = Program { path: std::env::var_os("LEAVES").unwrap_or("../bin/leaves".into()).into() };
     match compare_leaves(&mut OriginalLeaves, &mut program, leaves, seed) {
         Err(difference) => fails(difference),
         Ok(counts) => {
             let all: u64 = counts.iter().map(|c| c.1).sum();
-            println!("{all} leaf inputs in {:.0} s, no difference", begun.elapsed().as_secs_f64());
+            println!("{all} other leaf inputs in {:.0} s, no difference", begun.elapsed().as_secs_f64());
             println!("kinds: {}", counts.iter().map(|(kind, n)| format!("{}: {n}", *kind as char)).collect::<Vec<_>>().join(", "));
         }
     }
