@@ -1,12 +1,13 @@
 -- What the calls of a host answer, as words.
 use Prim.Native.Nat.{ℕ}
-use mathlib.Core.Bool.{Bool}
+use mathlib.Core.Bool.{Bool, true, not}
 use mathlib.Core.List.{List, [], _∷_}
 use mathlib.Core.Option.{Option, some, none}
 use lib.IntN.{ℤ}
 use lib.ListN.{getD}
 use lib.Dec.{eqb}
 use Rattle.wire.specs.Bytes.{pick}
+use Rattle.metrics.specs.Metrics.{more}
 use Rattle.schedule.specs.NextStep.{Next, atOnce, from, onInput, never}
 use Rattle.worker.specs.declared.ErrorPart.{ErrorPart}
 use Rattle.worker.specs.declared.ErrorPart.the-variants.{Absent, Front}
@@ -40,6 +41,16 @@ answerOf refusal taken written waited e =
 abbrev pub steppedWords : Outcome → List ℕ × List ℕ × List ℕ × List ℕ
 steppedWords o =
     (wordsOf (o .run), answerOf (o .refusal) (o .taken) (o .written) (o .waited) (o .event), o .payload, o .out)
+
+-- whether an answer has a refusal, bytes for the server, or an event
+abbrev pub tellsWords : List ℕ → Bool
+tellsWords a = pick (eqb (getD a 0 0) 0) (pick (eqb (getD a 2 0) 0) (not (eqb (getD a 5 0) 0)) true) true
+
+-- an answer before which so many bytes were taken
+abbrev pub takenWords : ℕ → List ℕ → List ℕ
+takenWords k a =
+    getD a 0 0 ∷ more k (getD a 1 0) ∷ getD a 2 0 ∷ getD a 3 0 ∷ getD a 4 0 ∷ getD a 5 0 ∷ getD a 6 0 ∷ getD a 7 0 ∷ getD a 8 0 ∷ getD a 9 0
+    ∷ getD a 10 0 ∷ getD a 11 0 ∷ []
 
 -- refusal, run and bytes written, and output behind opening; refused, the run's words are as they were
 abbrev pub openedWords : List ℕ → Opened → ℕ × List ℕ × ℕ × List ℕ

@@ -2,6 +2,7 @@
 // `kept`: the words at exit stand for the run that the call leaves, so calls over words are calls over runs.
 mod answers;
 mod cells;
+mod several;
 mod startup;
 mod words;
 
@@ -13,6 +14,7 @@ ghost use Rattle.lsn.specs.Position.{displayOf, positionOf};
 ghost use Rattle.messages.specs.ErrorText.{errorText};
 ghost use Rattle.messages.specs.Fields.{fieldsOf};
 ghost use Rattle.schedule.specs.NextStep.{nextStepOf};
+ghost use Rattle.advance.specs.Advance.{advanceOf};
 ghost use Rattle.worker.specs.Answer.{errorPartOf, lent};
 ghost use Rattle.worker.specs.Opening.{alreadyOpenOf, openOf, reportOf};
 ghost use Rattle.worker.specs.Run.{lsn};
@@ -30,6 +32,8 @@ use answers::verdict_word;
 use answers::written_reply;
 use lsn::Lsn;
 use moment::Moment;
+use several::four_steps;
+use several::handed_words;
 use words::last_status_of;
 use words::last_status_words;
 use words::metrics_of;
@@ -111,6 +115,48 @@ pub extern "C" fn rufflesquash_step(
     let after = s.run;
     *run = words_of(after);
     *answer = answer_words(s);
+}
+
+// Up to four steps with the same input, until one of them has something to tell; taken is their sum. The answer is a step's.
+#[no_mangle]
+pub extern "C" fn rufflesquash_advance(
+    run: &mut [u64; 48],
+    moment: u64,
+    client_time: i64,
+    stop: bool,
+    queue: u64,
+    ended: bool,
+    unread: &[u8],
+    payload: &mut [u8],
+    out: &mut [u8],
+    answer: &mut [u64; 12],
+)
+    ensures { λ _. ⌜ (now (run .exit), now (answer .exit), now (payload .exit), now (out .exit)) ≡ steppedWords (advanceOf (runOf (now (run .entry))) (inputOf moment «client_time» stop queue ended) (lent (now (unread .entry)) (now (payload .entry)) (now (out .entry)))) ⌝ }
+    ensures kept { λ _. ⌜ runOf (now (run .exit)) ≡ advanceOf (runOf (now (run .entry))) (inputOf moment «client_time» stop queue ended) (lent (now (unread .entry)) (now (payload .entry)) (now (out .entry))) .run ⌝ }
+{
+    let before = run_of(*run);
+    let at_hand = advance::at_hand(unread);
+    let q = queue_of(queue);
+    if advance::applies(before, Moment(moment), q, payload.len(), out.len(), at_hand) {
+        let taken = 5 + at_hand.len;
+        wire::store::copy(payload, &unread[5..taken]);
+        let event = at_hand.event;
+        *run = words_of(advance::handed(before, Moment(moment), at_hand));
+        *answer = handed_words(event, taken as u64);
+        return;
+    }
+    four_steps(
+        run,
+        moment,
+        client_time,
+        stop,
+        queue,
+        ended,
+        unread,
+        payload,
+        out,
+        answer,
+    );
 }
 
 // The consumer has applied all before a position.
