@@ -31,7 +31,7 @@ fn main() -> Result<(), Refusal> {
             queue: Queue::Free,
             ended: true,
         };
-        let step = run.step(&input, unread, &mut payload, &mut out);
+        let step = run.advance(&input, unread, &mut payload, &mut out);
         unread = &unread[step.taken..];
         // A host would send out[..step.written] here.
         if let Some(event) = step.event {

@@ -95,6 +95,12 @@ void rufflesquash_step(uint64_t run[RUFFLESQUASH_RUN_WORDS], uint64_t moment, in
                        const uint8_t *unread, size_t unread_len, uint8_t *payload, size_t payload_len, uint8_t *out, size_t out_len,
                        uint64_t answer[RUFFLESQUASH_ANSWER_WORDS]);
 
+/* Up to four steps with the same input, until one of them has a refusal, an event or bytes to send; taken is their sum. Four steps hand
+ * on a message that is unread whole, and are made at once. */
+void rufflesquash_advance(uint64_t run[RUFFLESQUASH_RUN_WORDS], uint64_t moment, int64_t client_time, bool stop, uint64_t queue, bool ended,
+                          const uint8_t *unread, size_t unread_len, uint8_t *payload, size_t payload_len, uint8_t *out, size_t out_len,
+                          uint64_t answer[RUFFLESQUASH_ANSWER_WORDS]);
+
 /* The consumer has applied all before a position. */
 void rufflesquash_report(uint64_t run[RUFFLESQUASH_RUN_WORDS], uint64_t position, uint64_t moment);
 

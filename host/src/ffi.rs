@@ -13,6 +13,23 @@ pub struct Bytes {
     pub len: usize,
 }
 
+/// `rufflesquash_step` and `rufflesquash_advance`.
+pub type Stepping = unsafe extern "C" fn(
+    *mut [u64; RUN_WORDS],
+    u64,
+    i64,
+    bool,
+    u64,
+    bool,
+    *const u8,
+    usize,
+    *mut u8,
+    usize,
+    *mut u8,
+    usize,
+    *mut [u64; ANSWER_WORDS],
+);
+
 extern "C" {
     pub fn rufflesquash_open(
         settings: *const [u64; SETTINGS_WORDS],
@@ -35,6 +52,22 @@ extern "C" {
     ) -> u64;
 
     pub fn rufflesquash_step(
+        run: *mut [u64; RUN_WORDS],
+        moment: u64,
+        client_time: i64,
+        stop: bool,
+        queue: u64,
+        ended: bool,
+        unread: *const u8,
+        unread_len: usize,
+        payload: *mut u8,
+        payload_len: usize,
+        out: *mut u8,
+        out_len: usize,
+        answer: *mut [u64; ANSWER_WORDS],
+    );
+
+    pub fn rufflesquash_advance(
         run: *mut [u64; RUN_WORDS],
         moment: u64,
         client_time: i64,

@@ -73,10 +73,35 @@ impl Run {
         payload: &'a mut [u8],
         out: &mut [u8],
     ) -> Step<'a> {
+        self.stepped(ffi::rufflesquash_step, input, unread, payload, out)
+    }
+
+    /// Up to four steps with the same input, until one has a refusal, an event or bytes to send: what it answers, with all bytes taken.
+    ///
+    /// Four steps hand on a message that lies whole in `unread`; in a drain that is made at once and takes a third of their time.
+    pub fn advance<'a>(
+        &mut self,
+        input: &Input,
+        unread: &[u8],
+        payload: &'a mut [u8],
+        out: &mut [u8],
+    ) -> Step<'a> {
+        self.stepped(ffi::rufflesquash_advance, input, unread, payload, out)
+    }
+
+    #[inline]
+    fn stepped<'a>(
+        &mut self,
+        call: ffi::Stepping,
+        input: &Input,
+        unread: &[u8],
+        payload: &'a mut [u8],
+        out: &mut [u8],
+    ) -> Step<'a> {
         let mut answer = [0; ffi::ANSWER_WORDS];
         // SAFETY: every slice is lent whole, and exclusive references do not overlap.
         unsafe {
-            ffi::rufflesquash_step(
+            call(
                 &mut self.words,
                 input.moment.0,
                 input.client_time,

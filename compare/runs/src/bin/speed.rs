@@ -3,7 +3,8 @@
 //! speed                      the table: time of both, best of several runs; results are compared
 //! speed count SIDE ROW KB    plays one stream once, for callgrind (`played_SIDE`) and for the memory used
 //!
-//! SIDE is rust, ours, queued (ours, each event copied and handed on through the queue that the Rust uses), or none: the stream alone.
+//! SIDE is rust, ours, queued (ours, each event copied and handed on through the queue that the Rust uses), single (ours step by step), or
+//! none: the stream alone.
 
 use original::client::metrics::ReplicationMetrics;
 use original::client::worker::{ReplicationEvent, SharedProgress, WorkerState};
@@ -26,8 +27,17 @@ const PIECE: usize = 65_536;
 const LIMIT: usize = 65_536;
 /// The Rust's usual queue.
 const QUEUE: usize = 8192;
-const STREAM: usize = 32 << 20;
+/// Within a core's cache, as bytes are that were just read from a socket; played again and again.
+const STREAM: usize = 1 << 20;
+const PLAYS: usize = 32;
 const RUNS: usize = 7;
+/// What a server sent; of each stream the CopyData messages are played.
+const RECORDED: [&[u8]; 4] = [
+    include_bytes!("../../../../crates/streams/data/basic-text.bin"),
+    include_bytes!("../../../../crates/streams/data/encoding-sqlascii.bin"),
+    include_bytes!("../../../../crates/streams/data/messages.bin"),
+    include_bytes!("../../../../crates/streams/data/truncate.bin"),
+];
 /// Bytes of a row's message of the plugin, and how many rows a transaction has.
 const SHAPES: [(usize, usize); 7] = [(30, 1), (30, 100), (64, 10), (100, 10), (600, 10), (1024, 10), (8192, 10)];
 
@@ -89,6 +99,25 @@ fn stream(row: usize, rows: usize, length: usize) -> Stream {
         }
     }
     Stream { bytes, messages }
+}
+
+/// The recorded messages again and again, up to a length.
+fn recorded(length: usize) -> Stream {
+    let mut s = Stream { bytes: Vec::new(), messages: 0 };
+    while s.bytes.len() < length {
+        for stream in RECORDED {
+            let mut rest = stream;
+            while rest.len() > 4 {
+                let n = 1 + u32::from_be_bytes(rest[1..5].try_into().unwrap()) as usize;
+                if rest[0] == b'd' {
+                    s.bytes.extend(&rest[..n]);
+                    s.messages += 1;
+                }
+                rest = &rest[n..];
+            }
+        }
+    }
+    s
 }
 
 /// What the consumer makes of the events: all their numbers, and all their bytes or only the first and the last eight of each part.
@@ -154,7 +183,7 @@ impl Sum {
             Event::Commit { lsn, end_lsn, commit_time } => self.event(3, lsn.0, end_lsn.0, commit_time as u64),
             Event::Message { transactional, lsn, prefix, content } => {
                 self.event(4, transactional as u64, lsn.0, 0);
-                self.part(prefix);
+                self.part(String::from_utf8_lossy(prefix).as_bytes());
                 self.part(content);
             }
             Event::XLogData { wal_start, wal_end, server_time, data } => {
@@ -265,15 +294,15 @@ fn played_rust(bytes: &[u8], mut sum: Sum) -> Sum {
     sum
 }
 
-/// The steps of a run over all pieces; each is copied into a buffer first, as one is read from a socket. The clock is read once a piece.
+/// The calls of a run over all pieces; each is copied into a buffer first, as one is read from a socket. The clock is read once a piece.
 #[inline(always)]
-fn steps(bytes: &[u8], mut event: impl FnMut(Event), mut behind_piece: impl FnMut()) -> (u64, u64) {
+fn calls<const SINGLE: bool>(bytes: &[u8], mut event: impl FnMut(Event), mut behind_piece: impl FnMut()) -> (u64, u64) {
     let settings = Settings { max_message_size: LIMIT, ..Settings::default() };
     let mut run = Run::already_open(&settings, Lsn(0)).expect("settings within their bounds");
     let mut payload = vec![0; settings.payload_len()];
     let mut buffer = vec![0; PIECE];
     let mut pieces = bytes.chunks(PIECE);
-    let (mut at, mut filled, mut steps) = (0, 0, 0);
+    let (mut at, mut filled, mut calls) = (0, 0, 0);
     let mut out = [0; STEP_OUTPUT];
     let begun = Instant::now();
     let mut input = Input { moment: Moment(1), client_time: 0, stop: false, queue: Queue::Free, ended: false };
@@ -286,14 +315,15 @@ fn steps(bytes: &[u8], mut event: impl FnMut(Event), mut behind_piece: impl FnMu
             input.moment = Moment(begun.elapsed().as_nanos() as u64 + 1);
             input.ended = piece.is_empty();
         }
-        let step = run.step(&input, &buffer[at..filled], &mut payload, &mut out);
-        steps += 1;
+        let unread = &buffer[at..filled];
+        let step = if SINGLE { run.step(&input, unread, &mut payload, &mut out) } else { run.advance(&input, unread, &mut payload, &mut out) };
+        calls += 1;
         at += step.taken;
         if let Some(e) = step.event {
             event(e);
         }
         if let Some(refusal) = step.refusal {
-            return (refusal.number() as u64, steps);
+            return (refusal.number() as u64, calls);
         }
     }
 }
@@ -301,9 +331,17 @@ fn steps(bytes: &[u8], mut event: impl FnMut(Event), mut behind_piece: impl FnMu
 #[no_mangle]
 #[inline(never)]
 fn played_ours(bytes: &[u8], mut sum: Sum) -> (Sum, u64) {
-    let (end, steps) = steps(bytes, |event| sum.ours(event), || ());
+    let (end, calls) = calls::<false>(bytes, |event| sum.ours(event), || ());
     sum.end = end;
-    (sum, steps)
+    (sum, calls)
+}
+
+/// Ours step by step.
+#[no_mangle]
+#[inline(never)]
+fn played_single(bytes: &[u8], mut sum: Sum) -> Sum {
+    (sum.end, _) = calls::<true>(bytes, |event| sum.ours(event), || ());
+    sum
 }
 
 /// Ours with every event copied and handed on through the queue that the Rust uses.
@@ -318,17 +356,11 @@ fn played_queued(bytes: &[u8], sum: Sum) -> Sum {
             sum.theirs(event.expect("no errors are sent"));
         }
     };
-    let (end, _) = steps(bytes, |event| assert!(out.try_send(Ok(owned(event))).is_ok(), "the queue holds a piece"), drain);
+    let (end, _) = calls::<false>(bytes, |event| assert!(out.try_send(Ok(owned(event))).is_ok(), "the queue holds a piece"), drain);
     drain();
     let mut sum = sum.into_inner().0;
     sum.end = end;
     sum
-}
-
-fn timed<T>(mut play: impl FnMut() -> T) -> (f64, T) {
-    let begun = Instant::now();
-    let result = play();
-    (begun.elapsed().as_secs_f64(), result)
 }
 
 fn table() {
@@ -343,46 +375,65 @@ fn table() {
         "ours, ns a message",
         "ours / Rust",
         "ours with a queue, ns",
-        "steps a message",
+        "ours step by step, ns",
+        "calls a message",
     ];
     println!("| {} |", columns.join(" | "));
     println!("{}|", "|---".repeat(columns.len()));
+    line("recorded", "", &recorded(STREAM));
     for (row, rows) in SHAPES {
-        let s = stream(row, rows, STREAM);
-        let whole = played_rust(&s.bytes, Sum::new(true));
-        let (ours, steps) = played_ours(&s.bytes, Sum::new(true));
-        assert_eq!(whole, ours, "rows of {row}: the events differ");
-        assert_eq!(whole, played_queued(&s.bytes, Sum::new(true)), "rows of {row}: the events differ");
-        assert_eq!((whole.events, whole.end), (s.messages, 8), "rows of {row}: an event a message, then the end of the stream");
-        let mut best = [f64::MAX; 3];
-        for _ in 0..RUNS {
-            let (rust, theirs) = timed(|| played_rust(&s.bytes, Sum::new(false)));
-            let (ours, (mine, _)) = timed(|| played_ours(&s.bytes, Sum::new(false)));
-            let (queued, third) = timed(|| played_queued(&s.bytes, Sum::new(false)));
-            assert!(theirs == mine && mine == third, "rows of {row}: the events differ");
-            best = [best[0].min(rust), best[1].min(ours), best[2].min(queued)];
-        }
-        let n = s.messages as f64;
-        let mb = s.bytes.len() as f64 / 1e6;
-        println!(
-            "| {row} | {rows} | {:.0} | {:.0} | {:.0} | {:.0} | {:.0} | {:.0} | {:.2} | {:.0} | {:.2} |",
-            n / best[0],
-            n / best[1],
-            mb / best[0],
-            mb / best[1],
-            best[0] / n * 1e9,
-            best[1] / n * 1e9,
-            best[1] / best[0],
-            best[2] / n * 1e9,
-            steps as f64 / n
-        );
+        line(&row.to_string(), &rows.to_string(), &stream(row, rows, STREAM));
     }
     println!("\na step that does nothing (of an ended run): {:.0} ns", ended_step());
 }
 
+/// All sides on one stream: compared byte by byte, then timed, best of several runs.
+fn line(row: &str, rows: &str, s: &Stream) {
+    let whole = played_rust(&s.bytes, Sum::new(true));
+    let (ours, calls) = played_ours(&s.bytes, Sum::new(true));
+    assert_eq!(whole, ours, "rows of {row}: the events differ");
+    assert_eq!(whole, played_queued(&s.bytes, Sum::new(true)), "rows of {row}: the events differ");
+    assert_eq!(whole, played_single(&s.bytes, Sum::new(true)), "rows of {row}: the events differ");
+    assert_eq!((whole.events, whole.end), (s.messages, 8), "rows of {row}: an event a message, then the end of the stream");
+    let mut best = [f64::MAX; 4];
+    for _ in 0..RUNS {
+        let (rust, theirs) = timed(|| played_rust(&s.bytes, Sum::new(false)));
+        let (ours, mine) = timed(|| played_ours(&s.bytes, Sum::new(false)).0);
+        let (queued, third) = timed(|| played_queued(&s.bytes, Sum::new(false)));
+        let (single, fourth) = timed(|| played_single(&s.bytes, Sum::new(false)));
+        assert!(theirs == mine && mine == third && third == fourth, "rows of {row}: the events differ");
+        best = [best[0].min(rust), best[1].min(ours), best[2].min(queued), best[3].min(single)];
+    }
+    let n = s.messages as f64;
+    let mb = s.bytes.len() as f64 / 1e6;
+    println!(
+        "| {row} | {rows} | {:.0} | {:.0} | {:.0} | {:.0} | {:.0} | {:.0} | {:.2} | {:.0} | {:.0} | {:.2} |",
+        n / best[0],
+        n / best[1],
+        mb / best[0],
+        mb / best[1],
+        best[0] / n * 1e9,
+        best[1] / n * 1e9,
+        best[1] / best[0],
+        best[2] / n * 1e9,
+        best[3] / n * 1e9,
+        calls as f64 / n
+    );
+}
+
+/// The time of one of several plays, and what each of them gave.
+fn timed<T: PartialEq>(mut play: impl FnMut() -> T) -> (f64, T) {
+    let result = play();
+    let begun = Instant::now();
+    for _ in 0..PLAYS {
+        assert!(play() == result, "two plays differ");
+    }
+    (begun.elapsed().as_secs_f64() / PLAYS as f64, result)
+}
+
 /// A step of an ended run: the run's words in and out, and nothing else. Nanoseconds.
 fn ended_step() -> f64 {
-    const STEPS: u64 = 1_000_000;
+    const STEPS: u64 = 30_000;
     let settings = Settings { max_message_size: 0, ..Settings::default() };
     let mut run = Run::already_open(&settings, Lsn(0)).expect("settings within their bounds");
     let mut out = [0; STEP_OUTPUT];
@@ -421,6 +472,7 @@ fn main() {
         "rust" => played_rust(&s.bytes, sum),
         "ours" => played_ours(&s.bytes, sum).0,
         "queued" => played_queued(&s.bytes, sum),
+        "single" => played_single(&s.bytes, sum),
         _ => sum,
     };
     println!("messages {} peak {} sum {:x}", s.messages, peak(), sum.sum);

@@ -125,7 +125,7 @@ impl<'a> Session<'a> {
         }
     }
 
-    // One step of the run; answers how many bytes are to be sent.
+    // Up to four steps of the run; answers how many bytes are to be sent.
     fn step(&mut self, outbox: &mut Outbox, out: &mut [u8]) -> Result<usize, Failure> {
         let input = Input {
             moment: self.clock.now(),
@@ -135,7 +135,7 @@ impl<'a> Session<'a> {
             ended: self.ended,
         };
         let unread = &self.input[self.at..self.filled];
-        let step = self.run.step(&input, unread, self.payload, out);
+        let step = self.run.advance(&input, unread, self.payload, out);
         self.at += step.taken;
         let (refusal, written) = (step.refusal, step.written);
         if let Some(event) = step.event {
