@@ -1,7 +1,7 @@
 //! The first difference between two sides, and the smallest scenario that still shows one.
 
 use crate::record::{print_line, print_metrics, Record};
-use crate::scenario::{Happening, Scenario};
+use crate::scenario::{Happening, Round, Scenario};
 use crate::side::Side;
 use std::panic::{catch_unwind, AssertUnwindSafe};
 use std::time::{Duration, Instant};
@@ -128,6 +128,8 @@ impl Shrinking<'_> {
                 if !self.with(|s| drop(s.rounds[i].what.remove(j))) {
                     match self.best.rounds[i].what[j] {
                         Happening::Take(n) if n > 1 => drop(self.with(|s| s.rounds[i].what[j] = Happening::Take(1))),
+                        Happening::Fill(n) if n > 1 => drop(self.with(|s| s.rounds[i].what[j] = Happening::Fill(1))),
+                        Happening::ReportFrom(p, _) => drop(self.with(|s| s.rounds[i].what[j] = Happening::Report(p))),
                         Happening::Report(p) => drop((1..p.min(4)).any(|less| self.with(|s| s.rounds[i].what[j] = Happening::Report(less)))),
                         _ => {}
                     }
@@ -163,6 +165,7 @@ impl Shrinking<'_> {
                     self.with(|s| s.rounds[i].during[j].0 = 1);
                     match self.best.rounds[i].during[j].1 {
                         Happening::Take(n) if n > 1 => drop(self.with(|s| s.rounds[i].during[j].1 = Happening::Take(1))),
+                        Happening::Fill(n) if n > 1 => drop(self.with(|s| s.rounds[i].during[j].1 = Happening::Fill(1))),
                         Happening::Report(p) => drop((1..p.min(4)).any(|less| self.with(|s| s.rounds[i].during[j].1 = Happening::Report(less)))),
                         _ => {}
                     }
@@ -266,7 +269,7 @@ impl Shrinking<'_> {
             for wished in [0, 1, self.best.status, self.best.idle, gap(&self.best) / 2, gap(&self.best).saturating_sub(1)] {
                 let now = gap(&self.best);
                 if wished < now {
-                    self.with(|s| s.rounds[i..].iter_mut().for_each(|round| round.at -= now - wished));
+                    self.with(|s| s.rounds[i..].iter_mut().for_each(|round| earlier(round, now - wished)));
                 }
             }
         }
@@ -301,6 +304,16 @@ impl Shrinking<'_> {
             if self.best.idle == interval || self.with(|s| s.idle = interval) {
                 break;
             }
+        }
+    }
+}
+
+/// The round so much earlier, with the moments of its reports.
+fn earlier(round: &mut Round, less: u64) {
+    round.at -= less;
+    for what in &mut round.what {
+        if let Happening::ReportFrom(_, at) = what {
+            *at = at.saturating_sub(less);
         }
     }
 }

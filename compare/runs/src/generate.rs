@@ -332,6 +332,16 @@ fn gap(draw: &mut Draw, s: &Scenario) -> u64 {
     wished.min(most * status.min(idle))
 }
 
+/// Now and then with another moment than the clock's, before it or ahead of it.
+fn report(draw: &mut Draw, at: u64) -> Happening {
+    let p = position(draw);
+    match draw.below(12) {
+        0 => Happening::ReportFrom(p, at.saturating_sub(draw.below(10))),
+        1 => Happening::ReportFrom(p, at + draw.below(20)),
+        _ => Happening::Report(p),
+    }
+}
+
 fn rounds(draw: &mut Draw, s: &Scenario, pieces: Vec<Vec<u8>>) -> Vec<Round> {
     let mut rounds = Vec::new();
     let mut at = if draw.once_in(3) { gap(draw, s) } else { 0 };
@@ -359,7 +369,10 @@ fn rounds(draw: &mut Draw, s: &Scenario, pieces: Vec<Vec<u8>>) -> Vec<Round> {
             _ => {}
         }
         if draw.once_in(reporting) {
-            (0..1 + draw.below(2)).for_each(|_| what.push(Happening::Report(position(draw))));
+            (0..1 + draw.below(2)).for_each(|_| what.push(report(draw, at)));
+        }
+        if draw.once_in(12) {
+            what.push(Happening::Fill(1 + draw.size(3)));
         }
         if i == stop_in {
             what.push(Happening::Stop);
@@ -401,7 +414,7 @@ fn long_drain(draw: &mut Draw, mut s: Scenario) -> Scenario {
             from = cut;
         }
         if draw.once_in(3) {
-            what.push(Happening::Report(position(draw)));
+            what.push(report(draw, at));
         }
         if draw.once_in(4) {
             what.push(Happening::Take(draw.size(300)));
@@ -433,7 +446,7 @@ fn together(draw: &mut Draw, mut s: Scenario) -> Scenario {
     let mut at = 0;
     if draw.once_in(2) {
         at += draw.pick(&[0, 1, s.status - 1]);
-        s.rounds.push(Round::new(at, vec![Happening::Report(position(draw))]));
+        s.rounds.push(Round::new(at, vec![report(draw, at)]));
     }
     at = at.max(draw.pick(&[s.status, s.idle, s.idle, s.status + s.idle, 2 * s.status, s.status - 1]));
     let mut what = Vec::new();
@@ -445,7 +458,8 @@ fn together(draw: &mut Draw, mut s: Scenario) -> Scenario {
             stopped = true;
             what.push(Happening::Stop);
         }
-        what.extend(draw.once_in(2).then(|| Happening::Report(position(draw))));
+        what.extend(draw.once_in(2).then(|| report(draw, at)));
+        what.extend(draw.once_in(6).then(|| Happening::Fill(1 + draw.size(2))));
         what.extend(draw.once_in(2).then(|| Happening::Take(1 + draw.size(3))));
         what.extend(draw.once_in(4).then_some(Happening::Close));
         s.rounds.push(Round::new(at, std::mem::take(&mut what)));
@@ -476,7 +490,8 @@ fn busy(draw: &mut Draw, s: &mut Scenario) {
             let what = match draw.below(20) {
                 0 | 1 => Happening::Stop,
                 2 => Happening::Close,
-                3..=10 => Happening::Take(1 + draw.size(3)),
+                3 => Happening::Fill(1 + draw.size(2)),
+                4..=10 => Happening::Take(1 + draw.size(3)),
                 _ => Happening::Report(position(draw)),
             };
             round.during.push((call, what));
@@ -489,7 +504,14 @@ fn late(draw: &mut Draw, s: &mut Scenario) {
     let last = s.rounds.last().map_or(0, |round| round.at);
     let room = LAST_MOMENT - last;
     let later = if draw.once_in(3) { room } else { draw.below(room + 1) >> draw.below(40) };
-    s.rounds.iter_mut().for_each(|round| round.at += later);
+    for round in &mut s.rounds {
+        round.at += later;
+        for what in &mut round.what {
+            if let Happening::ReportFrom(_, at) = what {
+                *at = LAST_MOMENT.min(*at + later);
+            }
+        }
+    }
 }
 
 pub fn scenario(seed: u64) -> Scenario {

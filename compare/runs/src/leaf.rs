@@ -54,8 +54,13 @@ fn room(kind: u8, input: &[u8]) -> usize {
 }
 
 pub fn put_record(kind: u8, input: &[u8], out: &mut Vec<u8>) {
+    put_record_in(kind, room(kind, input), input, out);
+}
+
+/// With an output of a length.
+pub fn put_record_in(kind: u8, room: usize, input: &[u8], out: &mut Vec<u8>) {
     out.push(kind);
-    out.extend_from_slice(&(room(kind, input) as u32).to_be_bytes());
+    out.extend_from_slice(&(room as u32).to_be_bytes());
     out.push(input.len() as u8 ^ 0x5A);
     out.extend_from_slice(&(input.len() as u32).to_be_bytes());
     out.extend_from_slice(input);

@@ -20,7 +20,7 @@ use std::time::Duration;
 use tokio::io::{AsyncRead, AsyncWrite, ReadBuf};
 use tokio::runtime::{Builder, Runtime};
 use tokio::sync::{mpsc, watch};
-use tokio::time::Instant;
+use tokio::time::{Instant, Sleep};
 
 /// AuthenticationOk, ReadyForQuery: what comes before `start_replication`.
 const AUTHENTICATED: &[u8] = b"R\0\0\0\x08\0\0\0\0Z\0\0\0\x05I";
@@ -40,6 +40,10 @@ struct Wire {
     ended: bool,
     /// A piece was handed over: "not ready" once, then the next.
     rests: bool,
+    at_once: bool,
+    /// What a message to the server takes to write, and the one that is being written.
+    write_takes: Duration,
+    writing: Option<Pin<Box<Sleep>>>,
     reading: Option<Waker>,
     /// How many of the next writes are not noted.
     unnoted: usize,
@@ -52,6 +56,7 @@ struct Wire {
     stop: watch::Sender<bool>,
     progress: Arc<SharedProgress>,
     queue: ReplicationEventReceiver,
+    filling: mpsc::Sender<Result<ReplicationEvent, PgWireError>>,
     taken: VecDeque<Event>,
 }
 
@@ -100,7 +105,16 @@ impl Wire {
             }
             Happening::Stop => drop(self.stop.send_replace(true)),
             Happening::Report(position) => self.progress.update_applied(Lsn(*position)),
+            // The Rust stores its clock's moment where none is stored: another is stored before, where the report would store one.
+            Happening::ReportFrom(position, at) => {
+                if self.progress.load_applied() < Lsn(*position) && self.progress.pending_since().is_none() {
+                    self.progress.carry_pending((self.begun + Duration::from_millis(*at)).into_std());
+                }
+                self.progress.update_applied(Lsn(*position));
+            }
             Happening::Take(n) => self.take(*n),
+            // Its events are errors, which the run sends none of.
+            Happening::Fill(n) => drop((0..*n).all(|_| self.filling.try_send(Err(PgWireError::Task(String::new()))).is_ok())),
             Happening::Close => self.queue.close(),
         }
     }
@@ -108,10 +122,22 @@ impl Wire {
     fn take(&mut self, n: usize) {
         for _ in 0..n {
             match self.queue.try_recv() {
-                Ok(event) => self.taken.push_back(event_of(event.expect("no errors are sent"))),
+                Ok(event) => self.taken.extend(event.ok().map(event_of)),
                 Err(_) => return,
             }
         }
+    }
+
+    fn writes(&mut self, cx: &mut Context<'_>) -> Poll<()> {
+        if !self.write_takes.is_zero() {
+            let takes = self.write_takes;
+            let sleep = self.writing.get_or_insert_with(|| Box::pin(tokio::time::sleep(takes)));
+            if sleep.as_mut().poll(cx).is_pending() {
+                return Poll::Pending;
+            }
+            self.writing = None;
+        }
+        Poll::Ready(())
     }
 
     fn arrived(&mut self) {
@@ -134,7 +160,7 @@ impl AsyncRead for Stream {
         if let Some((piece, noted)) = wire.pieces.pop_front() {
             assert!(piece.len() <= buf.remaining(), "a piece longer than the read buffer");
             buf.put_slice(&piece);
-            wire.rests = true;
+            wire.rests = !wire.at_once;
             if noted {
                 wire.note_call(Line::Piece(piece.len()));
             }
@@ -149,10 +175,12 @@ impl AsyncRead for Stream {
 }
 
 impl AsyncWrite for Stream {
-    fn poll_write(self: Pin<&mut Self>, _: &mut Context<'_>, bytes: &[u8]) -> Poll<io::Result<usize>> {
+    fn poll_write(self: Pin<&mut Self>, cx: &mut Context<'_>, bytes: &[u8]) -> Poll<io::Result<usize>> {
         let mut wire = self.0.lock().unwrap();
         if wire.unnoted > 0 {
             wire.unnoted -= 1;
+        } else if wire.writes(cx).is_pending() {
+            return Poll::Pending;
         } else {
             wire.note_call(Line::Write(bytes.to_vec()));
         }
@@ -369,6 +397,10 @@ pub struct Original {
     pub said: Option<String>,
     /// The number with which the last run ended.
     pub ended: Option<u8>,
+    /// The stream hands over the next piece at once, where one is there: outside the domain of the comparison.
+    pub at_once: bool,
+    /// What a message to the server takes to write: nothing in the domain of the comparison.
+    pub write_takes: Duration,
 }
 
 impl Side for Original {
@@ -419,6 +451,9 @@ impl Original {
             pieces: VecDeque::from([(AUTHENTICATED.to_vec(), false)]),
             ended: false,
             rests: false,
+            at_once: self.at_once,
+            write_takes: self.write_takes,
+            writing: None,
             reading: None,
             // The startup message, and where the run is open its query.
             unnoted: if s.open { 2 } else { 1 },
@@ -430,6 +465,7 @@ impl Original {
             stop,
             progress: progress.clone(),
             queue,
+            filling: out.clone(),
             taken: VecDeque::new(),
         }));
         let mut state = WorkerState::new(config_of(s, &wire), progress, stop_seen, out, metrics.clone());

@@ -52,8 +52,12 @@ pub enum Happening {
     End,
     Stop,
     Report(u64),
+    /// A report that carries a moment of its own, in milliseconds from the beginning.
+    ReportFrom(u64, u64),
     /// The consumer takes so many events, or as many as there are.
     Take(usize),
+    /// Another producer puts so many events into the queue, or as many as there is room for.
+    Fill(usize),
     /// The consumer closes the queue.
     Close,
 }
@@ -105,6 +109,7 @@ impl Scenario {
                     Happening::Bytes(b) if b.is_empty() || b.len() > LONGEST_PIECE => return Err("a piece of no or too many bytes".to_string()),
                     Happening::Bytes(_) | Happening::End if ended => return Err("input behind its end".to_string()),
                     Happening::End => ended = true,
+                    Happening::ReportFrom(_, at) if *at > LAST_MOMENT => return Err(format!("the moment {at} lies behind the last, {LAST_MOMENT}")),
                     _ => {}
                 }
             }
@@ -114,8 +119,8 @@ impl Scenario {
                     return Err("calls that are not in order".to_string());
                 }
                 call = *n;
-                if matches!(what, Happening::Bytes(_) | Happening::End) {
-                    return Err("input during a call".to_string());
+                if matches!(what, Happening::Bytes(_) | Happening::End | Happening::ReportFrom(..)) {
+                    return Err("input or a moment during a call".to_string());
                 }
             }
         }
@@ -220,6 +225,8 @@ impl Happening {
             Happening::End => "end".to_string(),
             Happening::Stop => "stop".to_string(),
             Happening::Report(p) => format!("report {}", position(*p)),
+            Happening::ReportFrom(p, at) => format!("report {} from {at}", position(*p)),
+            Happening::Fill(n) => format!("fill {n}"),
             Happening::Take(n) => format!("take {n}"),
             Happening::Close => "close".to_string(),
         }
@@ -231,7 +238,11 @@ impl Happening {
             "bytes" => Happening::Bytes(unhex(rest)?),
             "end" => Happening::End,
             "stop" => Happening::Stop,
-            "report" => Happening::Report(unposition(rest)?),
+            "report" => match rest.split_once(" from ") {
+                Some((p, at)) => Happening::ReportFrom(unposition(p)?, at.parse().ok()?),
+                None => Happening::Report(unposition(rest)?),
+            },
+            "fill" => Happening::Fill(rest.parse().ok()?),
             "take" => Happening::Take(rest.parse().ok()?),
             "close" => Happening::Close,
             _ => return None,

@@ -144,7 +144,7 @@ impl<R: Steps> Side for Stepped<R> {
                 break;
             }
             now = round.at;
-            round.what.iter().for_each(|what| self.happen(&mut host, what, now));
+            round.what.iter().for_each(|what| self.happen(&mut host, what, now, false));
             (host.calls, host.during) = (0, round.during.iter().collect());
             self.settle(&mut host, now);
             host.record.metrics.push(self.run.metrics());
@@ -155,13 +155,15 @@ impl<R: Steps> Side for Stepped<R> {
 }
 
 impl<R: Steps> Stepped<R> {
-    fn happen<'a>(&mut self, host: &mut Host<'a>, what: &'a Happening, now: u64) {
+    fn happen<'a>(&mut self, host: &mut Host<'a>, what: &'a Happening, now: u64, inside: bool) {
         match what {
             Happening::Bytes(bytes) => host.pieces.push_back(bytes),
             Happening::End => host.ended = true,
             Happening::Stop => host.stop = true,
             Happening::Report(position) => self.run.report(*position, moment_of(now)),
+            Happening::ReportFrom(position, at) => self.run.report(*position, moment_of(*at)),
             Happening::Take(n) => host.queued -= host.queued.min(*n),
+            Happening::Fill(n) => host.fill(*n, inside),
             Happening::Close => host.closed = true,
         }
     }
@@ -178,7 +180,7 @@ impl<R: Steps> Stepped<R> {
                 let outside = host.reported_inside(&made, call - before - 1, *position);
                 host.record.outside |= outside;
             }
-            self.happen(host, what, now);
+            self.happen(host, what, now, true);
         }
         let confirmed = made.iter().find_map(|call| if let Call::Status(position) = call { Some(*position) } else { None });
         host.confirmed = confirmed.or(host.confirmed);
@@ -259,6 +261,14 @@ fn call_of(line: &Line) -> Option<Call> {
 }
 
 impl Host<'_> {
+    /// Room that comes while a run waits for it is the run's: another producer gets what is left.
+    fn fill(&mut self, n: usize, inside: bool) {
+        let waits = self.state == State::Offering && !inside;
+        if !self.closed {
+            self.queued += n.min(self.room.saturating_sub(self.queued + waits as usize));
+        }
+    }
+
     /// Whether a report during a call of a step is one that the step would have to see, which no report between steps is: the status that
     /// follows the call confirms it, or its moment is taken as the one that the status's own position waited from.
     fn reported_inside(&self, made: &[Call], call: usize, position: u64) -> bool {

@@ -1,0 +1,333 @@
+//! The tables of docs/DIFFERENCES.md, row by row: the smallest input of each on the Rust and on the project.
+
+use original::protocol::framing::MessageReader;
+use runs::compare::compare;
+use runs::leaf::{put_record_in, texts, Leaves, OriginalLeaves, Program};
+use runs::leaves::{self, Query, Told};
+use runs::original::Original;
+use runs::ours;
+use runs::record::{Line, Record, STATUS};
+use runs::scenario::Scenario;
+use runs::server::{begin, commit, data, framed, keepalive, message};
+use runs::side::Side;
+use runs::text::hex;
+use rufflesquash::{Input, Lsn, Moment, Queue, Refusal, Run, Settings, State};
+use std::path::PathBuf;
+use std::time::Duration;
+
+/// What the program `leaves` answers to a record with an output of a length.
+fn project_in(kind: u8, room: usize, input: &[u8]) -> String {
+    let beside = PathBuf::from(env!("CARGO_MANIFEST_DIR")).join("../../target/bin/leaves");
+    let mut program = Program { path: std::env::var_os("LEAVES").map_or(beside, PathBuf::from) };
+    let mut record = Vec::new();
+    put_record_in(kind, room, input, &mut record);
+    String::from_utf8(program.answer(&record)).unwrap().trim_end().to_string()
+}
+
+fn project(kind: u8, input: &[u8]) -> String {
+    project_in(kind, 64, input)
+}
+
+fn rust(kind: u8, input: &[u8]) -> String {
+    let mut record = Vec::new();
+    put_record_in(kind, 64, input, &mut record);
+    String::from_utf8(OriginalLeaves.answer(&record)).unwrap().trim_end().to_string()
+}
+
+/// A leaf that both answer alike.
+fn leaf(kind: u8, input: &[u8], line: &str) {
+    assert_eq!((rust(kind, input).as_str(), project(kind, input).as_str()), (line, line));
+}
+
+/// A scenario on each.
+fn apart(text: &str, mut first: Original) -> (Record, Record) {
+    let s = Scenario::parse(text).unwrap();
+    let a = first.run(&s, &[]);
+    let b = ours::side().run(&s, &a.client_times());
+    (a, b)
+}
+
+/// A scenario on which both do the same: what they do.
+fn alike(text: &str) -> Record {
+    let (mut first, mut second) = (Original::default(), ours::side());
+    let s = Scenario::parse(text).unwrap();
+    assert_eq!(compare(&mut first, &mut second, &s), None, "{text}");
+    first.run(&s, &[])
+}
+
+/// Statuses and CopyDone with their moments, and how the run ended.
+fn told(record: &Record) -> String {
+    let lines = record.lines.iter().filter_map(|(at, line)| match line {
+        Line::Write(bytes) if bytes.len() == STATUS => Some(format!("{at} status {} reply {}", &hex(&bytes[6..14])[14..], bytes[38])),
+        Line::Write(bytes) if bytes[0] == b'c' => Some(format!("{at} done")),
+        Line::Write(bytes) => Some(format!("{at} query {}", String::from_utf8_lossy(&bytes[5..bytes.len() - 1]))),
+        Line::Waited(time) => Some(format!("{at} waited {time}")),
+        Line::Event(event) => Some(format!("{at} event {}", event.print())),
+        Line::End(number, _) => Some(format!("{at} end {number}")),
+        Line::Piece(_) => None,
+    });
+    lines.collect::<Vec<_>>().join("; ")
+}
+
+fn bytes(message: &[u8]) -> String {
+    format!("bytes {}\n", hex(message))
+}
+
+fn input(moment: u64) -> Input {
+    Input { moment: Moment(moment), client_time: 0, stop: false, queue: Queue::Free, ended: false }
+}
+
+fn limit(max_message_size: usize) -> Settings {
+    Settings { max_message_size, ..Settings::default() }
+}
+
+// ---- between the Rust and this project
+
+#[test]
+fn a_text_over_the_bound() {
+    let slot = "a".repeat(1_048_577);
+    let s = Scenario { open: false, slot: slot.clone(), ..Scenario::default() };
+    let query = leaves::write_simple_query(&format!("START_REPLICATION SLOT {slot} LOGICAL 0/0 (proto_version '1', publication_names 'p', messages 'true')"));
+    assert_eq!(Original::default().run(&s, &[]).lines, [(0, Line::Write(query))]);
+    let mut out = vec![0xAA; 2_000_000];
+    let refused = Run::open(&limit(0), slot.as_bytes(), &[], Lsn(0), Lsn(0), &mut out);
+    assert_eq!(refused, Err(Refusal::InputTooLong));
+    assert!(out.iter().all(|b| *b == 0xAA));
+    assert!(Run::open(&limit(0), &slot.as_bytes()[1..], &[], Lsn(0), Lsn(0), &mut out).is_ok());
+}
+
+#[test]
+fn an_output_too_short() {
+    assert_eq!(leaves::write_done(), b"c\0\0\0\x04");
+    let empty = project_in(b'z', 0, b"");
+    assert!(empty.starts_with("z 4 "), "{empty}");
+    // Four bytes of the fill, whose sum is told: nothing was written.
+    let sum = [0x5A; 4].iter().fold(7u32, |h, b| h.wrapping_mul(31).wrapping_add(*b));
+    assert_eq!(project_in(b'z', 4, b""), format!("z 4 0 {sum} -"));
+}
+
+#[test]
+fn error_fields_are_parts() {
+    assert_eq!(rust(b'f', b"M\xC3\0"), "f 0 n n efbfbd n n n n n n n n n n n n");
+    assert_eq!(project(b'f', b"M\xC3\0"), "f 0 n n c3 n n n n n n n n n n n n");
+    leaf(b'e', b"M\xC3\0", &project(b'e', b"M\xC3\0"));
+    assert!(project(b'e', b"M\xC3\0").ends_with(" efbfbd"));
+}
+
+/// The Rust reads its own clock: a moment is not handed to it.
+#[test]
+fn a_moment_out_of_its_range() {
+    let mut run = Run::already_open(&limit(0), Lsn(0)).unwrap();
+    assert_eq!(run.step(&input(0), b"", &mut [], &mut [0; 39]).refusal, Some(Refusal::MomentOutOfOrder));
+    assert_eq!(run.step(&input(1), b"", &mut [], &mut [0; 39]).refusal, None);
+}
+
+#[test]
+fn a_message_in_pieces() {
+    assert_eq!(leaves::read(b"Z\0\0\0\x05", 1, 5, false), []);
+    assert_eq!(leaves::read(b"Z\0\0\0\x05I", 1, 5, false), [Told::Whole(b'Z', b"I".to_vec())]);
+    let mut run = Run::already_open(&limit(1), Lsn(0)).unwrap();
+    let (mut payload, mut out) = ([0; 1], [0; 39]);
+    let mut taken = |unread: &[u8]| run.step(&input(1), unread, &mut payload, &mut out).taken;
+    // Turn, Drain; then the wait reads.
+    assert_eq!((taken(b""), taken(b""), taken(b"Z\0\0\0\x05"), taken(b"I")), (0, 0, 5, 1));
+    assert_eq!(run.state(), State::Handling);
+}
+
+#[test]
+fn a_payload_buffer_shorter_than_the_limit() {
+    let record = alike("limit 1\nat 0\nbytes 4e0000000500\n");
+    assert_eq!(told(&record), "0 status 00 reply 0");
+    let mut run = Run::already_open(&limit(1), Lsn(0)).unwrap();
+    assert_eq!(run.step(&input(1), b"", &mut [], &mut [0; 39]).refusal, Some(Refusal::PayloadBufferTooShort));
+}
+
+/// The Rust's own limit too, which is another one than a run's.
+#[test]
+fn a_message_over_the_limit() {
+    let runtime = tokio::runtime::Builder::new_current_thread().build().unwrap();
+    let mut reader = MessageReader::new().with_max_message_size(0);
+    for mut server in [&b"Z\0\0\0\x05"[..], b""] {
+        let said = runtime.block_on(reader.read(&mut server)).unwrap_err().to_string();
+        assert_eq!(said, "backend message too large: 1 bytes (max 0)", "{said}");
+    }
+    // Behind it: limit, whether the input ends, the size of pieces, the bytes.
+    assert!(project_in(b'g', 0, b"\0\0\0\0\0\0\x05Z\0\0\0\x05").starts_with("g R 7 "));
+}
+
+#[test]
+fn the_largest_limit() {
+    let largest = leaves::LIMIT as u32;
+    let server = |n: u32| [&b"N"[..], &(n + 4).to_be_bytes()].concat();
+    assert_eq!(leaves::read(&server(largest), usize::MAX, 5, false), []);
+    assert_eq!(leaves::read(&server(largest + 1), usize::MAX, 5, false), [Told::Refused(7)]);
+    let mut payload = vec![0; leaves::LIMIT];
+    for (n, refusal) in [(largest, None), (largest + 1, Some(Refusal::MessageTooLarge))] {
+        let mut run = Run::already_open(&limit(usize::MAX), Lsn(0)).unwrap();
+        let mut refused = |unread: &[u8]| run.step(&input(1), unread, &mut payload, &mut [0; 39]).refusal;
+        assert_eq!((refused(b""), refused(b""), refused(&server(n))), (None, None, refusal));
+    }
+}
+
+#[test]
+fn rows_before_an_error() {
+    let server = [framed(b'D', &[0, 0]), framed(b'E', b"\0"), framed(b'Z', b"I")].concat();
+    assert_eq!(leaves::simple_query(&server, 10), Query::Error(b"unknown server error".to_vec()));
+    assert_eq!(project(b'm', &server), format!("m D | Z error {}", hex(b"unknown server error")));
+}
+
+/// The Rust takes pairs alone.
+#[test]
+fn a_parameter_without_a_value() {
+    let name = b"\0\x03\0\0\0\x01a";
+    assert_eq!(texts(&name[4..]), [b"a"]);
+    let line = project(b's', name);
+    assert!(line.ends_with(&hex(b"\0\0\0\x0C\0\x03\0\0a\0\0\0")), "{line}");
+    assert_eq!(leaves::write_startup(196_608, &[("a", "")]), b"\0\0\0\x0C\0\x03\0\0a\0\0\0");
+}
+
+#[test]
+fn a_reply_over_the_limit_before_the_stream() {
+    let (a, b) = apart("run opened\nlimit 0\nat 0\nbytes 4e0000000500\n", Original::default());
+    assert!(!told(&a).contains("end"), "{}", told(&a));
+    assert!(told(&b).ends_with("; 0 end 7"), "{}", told(&b));
+}
+
+#[test]
+fn two_pieces_at_the_end_of_the_idle_interval() {
+    let text = "status 86400000\nidle 1\nat 0\nat 1\nbytes 4e\nbytes 00000004\n";
+    let (a, b) = apart(text, Original { at_once: true, ..Original::default() });
+    assert_eq!((told(&a).as_str(), told(&b).as_str()), ("0 status 00 reply 0", "0 status 00 reply 0; 1 status 00 reply 0"));
+    assert_eq!(told(&alike(text)), told(&b));
+}
+
+#[test]
+fn a_write_that_takes_time() {
+    let text = "status 2\nidle 86400000\nat 0\nat 1\nreport 0/1\nat 6\n";
+    let (a, b) = apart(text, Original { write_takes: Duration::from_millis(1), ..Original::default() });
+    // The Rust's are told when they were written: the second was begun at 3.
+    assert_eq!(told(&a), "1 status 00 reply 0; 4 status 01 reply 0");
+    assert_eq!(told(&b), "0 status 00 reply 0; 2 status 01 reply 0");
+}
+
+#[test]
+fn a_report_inside_a_step() {
+    let (a, b) = apart("status 86400000\nidle 1\nat 0\nat 1\nbytes 4e\nduring 1 report 0/1\n", Original::default());
+    assert_eq!((told(&a).as_str(), told(&b).as_str()), ("0 status 00 reply 0; 1 status 01 reply 0", "0 status 00 reply 0; 1 status 00 reply 0"));
+    assert!(b.outside);
+    let (a, b) = apart("timing\nat 0\nduring 1 report 0/1\n", Original::default());
+    assert_eq!((told(&a).as_str(), told(&b).as_str()), ("0 status 00 reply 0; 0 waited 0", "0 status 00 reply 0"));
+    assert!(b.outside);
+}
+
+#[test]
+fn a_position_text_that_is_no_utf8() {
+    assert_eq!(leaves::parse_position(b"\xFF"), None);
+    assert_eq!(Lsn::parse(b"\xFF"), Err(Refusal::MissingSlash));
+}
+
+// ---- between the Rust and the PostgreSQL documentation: the project follows the Rust
+
+#[test]
+fn error_fields_that_are_skipped() {
+    for payload in [b"Vx\0", b"px\0", b"qx\0"] {
+        leaf(b'f', payload, "f 0 n n n n n n n n n n n n n n n");
+    }
+}
+
+#[test]
+fn position_texts() {
+    leaf(b'p', b"+1/2", "p 0 1/2");
+    leaf(b'p', b"000000001/0", "p 0 1/0");
+    leaf(b'p', b"100000000/0", "p 0 0/0");
+    leaf(b'p', b"0/100000000", "p 0 1/0");
+}
+
+#[test]
+fn any_reply_byte_but_0_asks() {
+    let record = alike(&format!("at 0\n{}", bytes(&keepalive(0, 0, 2))));
+    assert_eq!(told(&record), "0 status 00 reply 0; 0 status 00 reply 1; 0 event K 0/0 0 1");
+}
+
+#[test]
+fn flags_are_ignored() {
+    leaf(b'b', &commit(1, 2, 3, 4), "b 0 C 0/2 0/3 4");
+    leaf(b'b', &message(3, 1, b"", 0, b""), "b 0 M 1 0/1 - -");
+    leaf(b'b', &message(2, 1, b"", 0, b""), "b 0 M 0 0/1 - -");
+}
+
+#[test]
+fn surplus_bytes_are_ignored() {
+    leaf(b'b', &[begin(1, 2, 3), vec![0]].concat(), "b 0 B 0/1 2 3");
+    leaf(b'b', &[commit(0, 1, 2, 3), vec![0]].concat(), "b 0 C 0/1 0/2 3");
+    leaf(b'b', &[message(0, 1, b"", 0, b""), vec![0]].concat(), "b 0 M 0 0/1 - -");
+    leaf(b'c', &[&keepalive(1, 2, 0)[5..], &[0]].concat(), "c 0 k 0/1 2 0");
+    leaf(b'r', &[0, 0, 0], "r 0 0");
+}
+
+#[test]
+fn lengths_and_numbers_of_columns_below_0() {
+    leaf(b'r', &[0, 1, 0x80, 0, 0, 0], "r 0 1 n");
+    leaf(b'r', &[0xFF, 0xFF], "r 0 0");
+}
+
+#[test]
+fn the_answer_to_a_keepalive_asks_itself() {
+    let record = alike(&format!("at 0\n{}", bytes(&keepalive(0, 0, 1))));
+    assert_eq!(told(&record), "0 status 00 reply 0; 0 status 00 reply 1; 0 event K 0/0 0 1");
+}
+
+#[test]
+fn the_servers_copy_done_is_skipped() {
+    let record = alike(&format!("at 0\nbytes 6300000004\nat 0\n{}", bytes(&keepalive(0, 0, 0))));
+    assert_eq!(told(&record), "0 status 00 reply 0; 0 event K 0/0 0 0");
+}
+
+#[test]
+fn the_run_ends_with_our_copy_done() {
+    assert_eq!(told(&alike("at 0\nstop\n")), "0 status 00 reply 0; 0 done; 0 end 0");
+}
+
+#[test]
+fn names_stand_unquoted() {
+    let query = |slot: &str, names: &str| format!("0 query START_REPLICATION SLOT {slot} LOGICAL 0/0 (proto_version '1', publication_names '{names}', messages 'true')");
+    assert_eq!(told(&alike("run opened\nslot 612062\nat 0\n")), query("a b", ""));
+    assert_eq!(told(&alike("run opened\npublication 612c62\nat 0\n")), query("s", "a,b"));
+}
+
+// ---- behaviour that may surprise: the Rust's and the project's alike
+
+#[test]
+fn a_message_that_has_begun_in_a_drain_is_read_to_its_end() {
+    let record = alike("status 1\nidle 1\nat 0\nbytes 4e000000046400000005\nat 5\nreport 0/10\nat 10\nstop\nat 20\nend\n");
+    assert_eq!(told(&record), "0 status 00 reply 0; 20 end 9");
+}
+
+#[test]
+fn the_status_interval_sends_nothing_while_nothing_is_pending() {
+    assert_eq!(told(&alike("status 1\nidle 10\nat 0\nat 9\n")), "0 status 00 reply 0");
+    assert_eq!(told(&alike("status 1\nidle 10\nat 0\nat 10\n")), "0 status 00 reply 0; 10 status 00 reply 0");
+}
+
+#[test]
+fn stop_is_not_looked_at_in_opening() {
+    let record = alike("run opened\nstatus 1\nidle 1\nat 0\nstop\nat 50\n");
+    assert_eq!(record.lines.len(), 1, "{}", told(&record));
+}
+
+#[test]
+fn a_closed_queue_drops_events() {
+    let record = alike(&format!("at 0\nclose\n{}at 5\n", bytes(&keepalive(0, 0, 0))));
+    assert_eq!(told(&record), "0 status 00 reply 0");
+}
+
+#[test]
+fn no_publications() {
+    assert!(told(&alike("run opened\nat 0\n")).contains("publication_names ''"));
+}
+
+#[test]
+fn a_stop_position_of_0() {
+    let record = alike(&format!("stop_at 0/0\nat 0\n{}", bytes(&data(0, 0, 0, b""))));
+    assert_eq!(told(&record), "0 status 00 reply 0; 0 event X 0/0 0/0 0 -; 0 event S 0/0; 0 done; 0 end 0");
+}
