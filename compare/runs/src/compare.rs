@@ -6,14 +6,18 @@ use crate::side::Side;
 use std::panic::{catch_unwind, AssertUnwindSafe};
 use std::time::{Duration, Instant};
 
-/// Plays a scenario on both; the client times of the first are handed to the second. None where the records are equal, or where the second
-/// tells that the scenario has led out of the domain of the comparison.
+/// Plays a scenario on both; the client times of the first are handed to the second. None where the records are equal, as far as the second
+/// tells that the scenario is inside the domain of the comparison.
 pub fn compare(first: &mut dyn Side, second: &mut dyn Side, scenario: &Scenario) -> Option<String> {
     let (a, b) = match play(first, second, scenario) {
         Ok(records) => records,
         Err(broken) => return Some(broken),
     };
-    if a == b || b.outside {
+    let same = match b.outside {
+        Some(lines) => a.lines.get(..lines) == Some(&b.lines[..lines]),
+        None => a == b,
+    };
+    if same {
         return None;
     }
     Some(difference(first.name(), &a, second.name(), &b))
@@ -166,6 +170,7 @@ impl Shrinking<'_> {
                     match self.best.rounds[i].during[j].1 {
                         Happening::Take(n) if n > 1 => drop(self.with(|s| s.rounds[i].during[j].1 = Happening::Take(1))),
                         Happening::Fill(n) if n > 1 => drop(self.with(|s| s.rounds[i].during[j].1 = Happening::Fill(1))),
+                        Happening::Pass(n) if n > 1 => drop(self.with(|s| s.rounds[i].during[j].1 = Happening::Pass(1))),
                         Happening::Report(p) => drop((1..p.min(4)).any(|less| self.with(|s| s.rounds[i].during[j].1 = Happening::Report(less)))),
                         _ => {}
                     }

@@ -483,13 +483,15 @@ fn together(draw: &mut Draw, mut s: Scenario) -> Scenario {
 
 /// What happens while the run is busy: stop, reports and the queue's changes during its calls.
 fn busy(draw: &mut Draw, s: &mut Scenario) {
+    let settings = Scenario { rounds: Vec::new(), ..s.clone() };
     for round in &mut s.rounds {
         let mut call = 1;
         for _ in 0..draw.pick(&[0, 0, 1, 1, 2, 3]) {
             call += draw.pick(&[0, 0, 0, 1, 1, 2, 3, 5]);
-            let what = match draw.below(20) {
+            let what = match draw.below(23) {
                 0 | 1 => Happening::Stop,
                 2 => Happening::Close,
+                20.. => Happening::Pass(gap(draw, &settings)),
                 3 => Happening::Fill(1 + draw.size(2)),
                 4..=10 => Happening::Take(1 + draw.size(3)),
                 _ => Happening::Report(position(draw)),
@@ -502,7 +504,8 @@ fn busy(draw: &mut Draw, s: &mut Scenario) {
 /// Moments far from the beginning, up to the last one that a step takes. No time is up before the run has its first bytes.
 fn late(draw: &mut Draw, s: &mut Scenario) {
     let last = s.rounds.last().map_or(0, |round| round.at);
-    let room = LAST_MOMENT - last;
+    let passed = s.rounds.iter().flat_map(|round| &round.during).map(|(_, what)| if let Happening::Pass(time) = what { *time } else { 0 });
+    let room = LAST_MOMENT - last - passed.sum::<u64>();
     let later = if draw.once_in(3) { room } else { draw.below(room + 1) >> draw.below(40) };
     for round in &mut s.rounds {
         round.at += later;

@@ -12,7 +12,7 @@ use original::FeedbackObserver;
 use std::collections::VecDeque;
 use std::future::{poll_fn, Future};
 use std::io;
-use std::pin::Pin;
+use std::pin::{pin, Pin};
 use std::sync::atomic::{AtomicBool, Ordering};
 use std::sync::{Arc, Mutex, Once};
 use std::task::{Context, Poll, Wake, Waker};
@@ -53,6 +53,8 @@ struct Wire {
     /// Calls since the round began, and what happens during later ones.
     calls: usize,
     during: VecDeque<(usize, Happening)>,
+    /// Time passed during a call: the runtime has not looked at its timers since.
+    passed: bool,
     stop: watch::Sender<bool>,
     progress: Arc<SharedProgress>,
     queue: ReplicationEventReceiver,
@@ -116,6 +118,12 @@ impl Wire {
             // Its events are errors, which the run sends none of.
             Happening::Fill(n) => drop((0..*n).all(|_| self.filling.try_send(Err(PgWireError::Task(String::new()))).is_ok())),
             Happening::Close => self.queue.close(),
+            Happening::Pass(time) => {
+                // The clock moves at the first poll.
+                let advance = pin!(tokio::time::advance(Duration::from_millis(*time)));
+                let _ = advance.poll(&mut Context::from_waker(Waker::noop()));
+                self.passed = true;
+            }
         }
     }
 
@@ -261,6 +269,10 @@ impl<'a> Worker<'a> {
     async fn settle(&mut self) {
         poll_fn(|cx| {
             self.poll(cx);
+            if std::mem::take(&mut self.wire.lock().unwrap().passed) {
+                cx.waker().wake_by_ref();
+                return Poll::Pending;
+            }
             if self.rung() {
                 Poll::Pending
             } else {
@@ -462,6 +474,7 @@ impl Original {
             notes: Vec::new(),
             calls: 0,
             during: VecDeque::new(),
+            passed: false,
             stop,
             progress: progress.clone(),
             queue,

@@ -60,8 +60,9 @@ pub struct Record {
     pub lines: Vec<(u64, Line)>,
     /// After each round; after the end of a run no more.
     pub metrics: Vec<Metrics>,
-    /// A report came inside a step that would have had to see it: outside the domain of the comparison.
-    pub outside: bool,
+    /// Where the scenario left the domain of the comparison: a report came, or time passed, inside a step that would have had to see it. How
+    /// many lines there were before the step.
+    pub outside: Option<usize>,
 }
 
 pub const STATUS: usize = 39;

@@ -60,6 +60,8 @@ pub enum Happening {
     Fill(usize),
     /// The consumer closes the queue.
     Close,
+    /// So many milliseconds pass, during a call alone.
+    Pass(u64),
 }
 
 impl Default for Scenario {
@@ -95,20 +97,18 @@ impl Scenario {
         if self.queue == 0 {
             return Err("the queue has no room".to_string());
         }
-        let (mut last, mut ended) = (0, false);
+        let (mut last, mut ended, mut passed) = (0, false, 0u64);
         for round in &self.rounds {
             if round.at < last {
                 return Err(format!("the moment {} lies before {last}", round.at));
             }
             last = round.at;
-            if last > LAST_MOMENT {
-                return Err(format!("the moment {last} lies behind the last, {LAST_MOMENT}"));
-            }
             for what in &round.what {
                 match what {
                     Happening::Bytes(b) if b.is_empty() || b.len() > LONGEST_PIECE => return Err("a piece of no or too many bytes".to_string()),
                     Happening::Bytes(_) | Happening::End if ended => return Err("input behind its end".to_string()),
                     Happening::End => ended = true,
+                    Happening::Pass(_) => return Err("time passes between calls by itself".to_string()),
                     Happening::ReportFrom(_, at) if *at > LAST_MOMENT => return Err(format!("the moment {at} lies behind the last, {LAST_MOMENT}")),
                     _ => {}
                 }
@@ -119,9 +119,15 @@ impl Scenario {
                     return Err("calls that are not in order".to_string());
                 }
                 call = *n;
+                if let Happening::Pass(time) = what {
+                    passed = passed.saturating_add(*time);
+                }
                 if matches!(what, Happening::Bytes(_) | Happening::End | Happening::ReportFrom(..)) {
                     return Err("input or a moment during a call".to_string());
                 }
+            }
+            if last.saturating_add(passed) > LAST_MOMENT {
+                return Err(format!("a moment may lie behind the last, {LAST_MOMENT}"));
             }
         }
         Ok(())
@@ -229,6 +235,7 @@ impl Happening {
             Happening::Fill(n) => format!("fill {n}"),
             Happening::Take(n) => format!("take {n}"),
             Happening::Close => "close".to_string(),
+            Happening::Pass(time) => format!("pass {time}"),
         }
     }
 
@@ -245,6 +252,7 @@ impl Happening {
             "fill" => Happening::Fill(rest.parse().ok()?),
             "take" => Happening::Take(rest.parse().ok()?),
             "close" => Happening::Close,
+            "pass" => Happening::Pass(rest.parse().ok()?),
             _ => return None,
         })
     }

@@ -76,7 +76,7 @@ pub struct Stepped<R: Steps> {
     pub coverage: Coverage,
     /// Steps made, all scenarios together.
     pub steps: u64,
-    /// Scenarios that led out of the domain of the comparison.
+    /// Scenarios that left the domain of the comparison.
     pub outside: u64,
 }
 
@@ -101,6 +101,8 @@ struct Host<'a> {
     during: VecDeque<&'a (usize, Happening)>,
     /// The position of the last status.
     confirmed: Option<u64>,
+    /// Milliseconds from the beginning.
+    now: u64,
     record: Record,
 }
 
@@ -129,66 +131,67 @@ impl<R: Steps> Side for Stepped<R> {
             calls: 0,
             during: VecDeque::new(),
             confirmed: None,
+            now: 0,
             record: Record::default(),
         };
         if !scenario.open {
             host.record.lines.push((0, Line::Write(query)));
         }
-        let mut now = 0;
         for (i, round) in scenario.rounds.iter().enumerate() {
-            while let Some(due) = host.due(now).filter(|due| i > 0 && *due < round.at) {
-                now = due;
-                self.settle(&mut host, now);
+            while let Some(due) = host.due().filter(|due| i > 0 && *due < round.at) {
+                host.now = due;
+                self.settle(&mut host);
             }
             if host.state == State::Ended {
                 break;
             }
-            now = round.at;
-            round.what.iter().for_each(|what| self.happen(&mut host, what, now, false));
+            host.now = host.now.max(round.at);
+            round.what.iter().for_each(|what| self.happen(&mut host, what, false));
             (host.calls, host.during) = (0, round.during.iter().collect());
-            self.settle(&mut host, now);
+            self.settle(&mut host);
             host.record.metrics.push(self.run.metrics());
         }
-        self.outside += host.record.outside as u64;
+        self.outside += host.record.outside.is_some() as u64;
         host.record
     }
 }
 
 impl<R: Steps> Stepped<R> {
-    fn happen<'a>(&mut self, host: &mut Host<'a>, what: &'a Happening, now: u64, inside: bool) {
+    fn happen<'a>(&mut self, host: &mut Host<'a>, what: &'a Happening, inside: bool) {
         match what {
             Happening::Bytes(bytes) => host.pieces.push_back(bytes),
             Happening::End => host.ended = true,
             Happening::Stop => host.stop = true,
-            Happening::Report(position) => self.run.report(*position, moment_of(now)),
+            Happening::Report(position) => self.run.report(*position, moment_of(host.now)),
             Happening::ReportFrom(position, at) => self.run.report(*position, moment_of(*at)),
             Happening::Take(n) => host.queued -= host.queued.min(*n),
             Happening::Fill(n) => host.fill(*n, inside),
             Happening::Close => host.closed = true,
+            Happening::Pass(time) => host.now += time,
         }
     }
 
     /// What happens during the calls of a step happens behind it: a step is told of the stop and the queue before it, and reports come
     /// between steps.
-    fn calls(&mut self, host: &mut Host, lines: usize, now: u64) {
+    fn calls(&mut self, host: &mut Host, lines: usize) {
         let made: Vec<Call> = host.record.lines[lines..].iter().filter_map(|(_, line)| call_of(line)).collect();
         let before = host.calls;
         host.calls += made.len();
         while let Some((call, what)) = host.during.front().copied().filter(|(call, _)| *call <= host.calls) {
             host.during.pop_front();
-            if let Happening::Report(position) = what {
-                let outside = host.reported_inside(&made, call - before - 1, *position);
-                host.record.outside |= outside;
+            if host.is_inside(&made, call - before - 1, what) {
+                host.record.outside.get_or_insert(lines);
             }
-            self.happen(host, what, now, true);
+            self.happen(host, what, true);
         }
         let confirmed = made.iter().find_map(|call| if let Call::Status(position) = call { Some(*position) } else { None });
         host.confirmed = confirmed.or(host.confirmed);
     }
 
     /// Makes steps until one does nothing.
-    fn settle(&mut self, host: &mut Host, now: u64) {
+    fn settle(&mut self, host: &mut Host) {
         for _ in 0..host.most_steps {
+            let now = host.now;
             if host.state == State::Ended {
                 return;
             }
@@ -229,7 +232,7 @@ impl<R: Steps> Stepped<R> {
             let offers = host.state == State::Offering && queue != Queue::Full;
             let idle = answer.taken == 0 && answer.state == host.state && answer.written.is_empty() && !offers;
             host.take_in(answer, now);
-            self.calls(host, lines, now);
+            self.calls(host, lines);
             if idle && host.state != State::Ended {
                 return;
             }
@@ -269,13 +272,23 @@ impl Host<'_> {
         }
     }
 
-    /// Whether a report during a call of a step is one that the step would have to see, which no report between steps is: the status that
-    /// follows the call confirms it, or its moment is taken as the one that the status's own position waited from.
-    fn reported_inside(&self, made: &[Call], call: usize, position: u64) -> bool {
+    /// Whether what happens during a call of a step is what the rest of the step would have to see, which nothing between steps is. Of a
+    /// report: the status that follows the call confirms it, or its moment is taken as the one that the status's own position waited from.
+    /// Of time: the status is sent, or the run ends, later than the step.
+    fn is_inside(&self, made: &[Call], call: usize, what: &Happening) -> bool {
+        if matches!(what, Happening::Pass(_)) && self.state == State::Ended {
+            return true;
+        }
         let Some(at) = made.iter().position(|call| matches!(call, Call::Status(_))) else { return false };
         let Call::Status(confirmed) = made[at] else { return false };
         let new = self.confirmed.is_none_or(|last| confirmed > last);
-        position > confirmed && (call < at || call == at && self.scenario.timing && new && !made.contains(&Call::Told))
+        match what {
+            Happening::Report(position) => {
+                *position > confirmed && (call < at || call == at && self.scenario.timing && new && !made.contains(&Call::Told))
+            }
+            Happening::Pass(time) => *time > 0,
+            _ => false,
+        }
     }
 
     fn take_in(&mut self, answer: Answer, now: u64) {
@@ -306,7 +319,7 @@ impl Host<'_> {
     }
 
     /// The next moment at which a time may be up.
-    fn due(&self, now: u64) -> Option<u64> {
+    fn due(&self) -> Option<u64> {
         let status = self.last_status.map(|last| last + self.scenario.status);
         let idle = Some(self.wait_began + self.scenario.idle);
         let times = match self.state {
@@ -314,6 +327,6 @@ impl Host<'_> {
             State::Waiting => [status, idle],
             _ => [None, None],
         };
-        times.into_iter().flatten().filter(|due| *due > now).min()
+        times.into_iter().flatten().filter(|due| *due > self.now).min()
     }
 }

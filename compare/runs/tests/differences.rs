@@ -183,3 +183,10 @@ fn what_happens_during_a_call_is_seen_behind_it() {
     // The reply to the first keepalive is the third call: its event finds the queue full, and stop ends the stall.
     assert_eq!(played(&text), ["0 write", "0 piece 46", "0 write", "0 write 6300000004", "0 end 0", "metrics 0 2 1 1 0 0/0 0/0"]);
 }
+
+#[test]
+fn time_that_passes_during_a_read_is_seen_behind_it() {
+    let text = "status 5\nidle 100\nat 0\nbytes 64000000166b0000000000000000000000000000000001\nduring 2 pass 7\nat 8\n";
+    // Read at 0; its reply, its event and the next turn are at 7.
+    assert_eq!(played(text), ["0 write", "0 piece 23", "7 write", "7 event K 0/0 0 1", "metrics 1 2 1 0 0 0/0 0/0"]);
+}

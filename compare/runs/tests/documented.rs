@@ -214,10 +214,10 @@ fn a_write_that_takes_time() {
 fn a_report_inside_a_step() {
     let (a, b) = apart("status 86400000\nidle 1\nat 0\nat 1\nbytes 4e\nduring 1 report 0/1\n", Original::default());
     assert_eq!((told(&a).as_str(), told(&b).as_str()), ("0 status 00 reply 0; 1 status 01 reply 0", "0 status 00 reply 0; 1 status 00 reply 0"));
-    assert!(b.outside);
+    assert!(b.outside.is_some());
     let (a, b) = apart("timing\nat 0\nduring 1 report 0/1\n", Original::default());
     assert_eq!((told(&a).as_str(), told(&b).as_str()), ("0 status 00 reply 0; 0 waited 0", "0 status 00 reply 0"));
-    assert!(b.outside);
+    assert!(b.outside.is_some());
 }
 
 #[test]

@@ -43,7 +43,7 @@ fn runs<R: Steps>(mut second: Stepped<R>, scenarios: u64, seed: u64) {
     let (reached, missing) = second.coverage.print();
     println!("{reached}");
     println!("{scenarios} scenarios, rust and {}, {} steps, in {:.0} s, no difference", second.name, second.steps, begun.elapsed().as_secs_f64());
-    println!("{} of them with a report inside a step that would have had to see it: not compared", second.outside);
+    println!("{} of them left the domain, by a report or time inside a step: compared up to there", second.outside);
     println!("ends: {}", ends.iter().map(|(end, n)| format!("{end}: {n}")).collect::<Vec<_>>().join(", "));
     if scenarios >= 100_000 && !missing.is_empty() {
         fails(format!("not reached: {}", missing.join("; ")));
