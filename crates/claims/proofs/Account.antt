@@ -1,21 +1,16 @@
 -- What the plain reading makes of the steps so far, and how one step more changes it.
-use mathlib.Core.Path.{_≡_, refl, sym, ap, _∙_}
+use mathlib.Core.Path.{_≡_, refl, ap, _∙_}
 use mathlib.Core.Bool.{Bool, true, false}
-use mathlib.Core.List.{List, [], _∷_, _++_, append-assoc, append-nil}
-use mathlib.Core.Option.{Option}
+use mathlib.Core.List.{List, [], _∷_, _++_}
 use Prim.Native.Nat.{ℕ, _+_, _-_, _<_, _≤_}
 use native.Mathlib.Omega.{arith}
-use borrow.Author.Tests.{leb-true, leb-false, lt-leb, le-leb}
-use lib.ListN.{length, take, drop, take-append-drop, length-append}
-use lib.Seq.{drop-append-seam, take-append-add, take-length}
+use borrow.Author.Tests.{leb-false, lt-leb, le-leb}
+use lib.ListN.{take}
 use lib.Dec.{leb}
 use Rattle.wire.specs.Bytes.{pick}
 use Rattle.wire.proofs.Laws.{by-test}
 use Rattle.stream.specs.Cut.{cutOf}
-use Rattle.claims.specs.Happened.{Happened}
-use Rattle.claims.specs.Plain.{Told, Gives, messageGives, wholeOnes, given, eventsOf, spanOf, behindByte, acceptedOnes, isRefusedEarly, offered, takenOf}
-use Rattle.claims.specs.Begins.{Begins}
-use Rattle.claims.proofs.Begins.{events-of}
+use Rattle.claims.specs.Plain.{Told, wholeOnes, spanOf, behindByte, acceptedOnes, isRefusedEarly, takenOf}
 
 -- ---- lists of steps
 

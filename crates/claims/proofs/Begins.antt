@@ -5,11 +5,11 @@ use mathlib.Core.List.{List, [], _∷_, _++_, append-assoc, append-nil}
 use mathlib.Core.Logic.{_⊎_, ⊎-elim, inl, inr}
 use mathlib.Core.Option.{Option}
 use Prim.Native.Nat.{ℕ, _-_}
-use native.Mathlib.Omega.{arith}
 use lib.ListN.{length, getD, take, drop, take-append-drop}
 use lib.Seq.{drop-append-seam}
 use lib.Dec.{leb}
 use Rattle.wire.specs.Bytes.{pick}
+use Rattle.wire.proofs.Laws.{impossible}
 use Rattle.stream.specs.Cut.{Item, message, refused, cutOf}
 use Rattle.stream.proofs.Laws.{cut-append}
 use Rattle.framing.specs.Tag.{isError, isCopyBothResponse}
@@ -71,7 +71,7 @@ pick-begins false xs ys zs b c = c
 queue-begins : (q : Queue) (xs ys zs es : List Happened) → isClosed q ≡ false → Begins xs es → Begins ys es → Begins (byQueue q xs ys zs) es
 queue-begins Free xs ys zs es h b c = b
 queue-begins Full xs ys zs es h b c = c
-queue-begins Closed xs ys zs es h b c = let z : _≡_ {A = ℕ} 0 1 = cc in absurd (omega arith)
+queue-begins Closed xs ys zs es h b c = impossible cc
 
 offered-begins : (es : List Happened) (full : Bool) (ts : List Told) → NoneClosed ts → Begins (offered es full ts) es
 unfolding offered

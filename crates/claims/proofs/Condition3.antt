@@ -8,7 +8,7 @@ use borrow.Author.Tests.{ltb-false}
 use lib.ListN.{length, take, drop}
 use lib.Dec.{ltb}
 use Rattle.wire.specs.Bytes.{pick}
-use Rattle.wire.proofs.Laws.{put-none}
+use Rattle.wire.proofs.Laws.{put-none, impossible}
 use Rattle.framing.specs.Read.{limitOf}
 use Rattle.lsn.specs.declared.Lsn.{Lsn}
 use Rattle.moment.specs.declared.Moment.{Moment}
@@ -29,7 +29,7 @@ use Rattle.claims.specs.Condition3.{Condition-3}
 use Rattle.claims.proofs.Confirms.{confirms-largest}
 use Rattle.claims.proofs.HandsOn.{hands-on, events-begin, no-base}
 use Rattle.claims.proofs.Facts.{Facts, factsBy, factsOf, fresh-facts, report-facts, early-facts}
-use Rattle.claims.proofs.Table.{Standing, Placed, Bounded, AgreeingIn, Next, turn-next, drain-next, reading-next, waiting-next, opening-next}
+use Rattle.claims.proofs.Table.{Placed, Bounded, AgreeingIn, Next, turn-next, drain-next, reading-next, waiting-next, opening-next}
 use Rattle.claims.proofs.TableOffers.{handling-next, offering-next}
 
 agree-now : (x : State) (f g : Facts) → isEnded x ≡ false → AgreeingIn x f g → f ≡ g
@@ -40,7 +40,7 @@ agree-now Reading f g e a = a
 agree-now Waiting f g e a = a
 agree-now Handling f g e a = a
 agree-now Offering f g e a = a
-agree-now Ended f g e a = let z : _≡_ {A = ℕ} 0 1 = cc in absurd (omega arith)
+agree-now Ended f g e a = impossible cc
 
 module _ (s : Settings) (opening : Bool) (start : Lsn) (bytes : List ℕ) where
   abbrev L : ℕ

@@ -3,10 +3,10 @@ use mathlib.Core.Path.{_≡_, refl, sym, ap, _∙_}
 use mathlib.Core.Bool.{Bool, true, false}
 use mathlib.Core.List.{List, [], _∷_, _++_, append-assoc, append-nil}
 use mathlib.Core.Option.{Option}
-use Prim.Native.Nat.{ℕ, _+_, _-_, _<_, _≤_}
+use Prim.Native.Nat.{ℕ, _+_, _-_}
 use native.Mathlib.Omega.{arith}
 use lib.ListN.{length, take, drop, take-append-drop, length-append}
-use lib.Seq.{drop-nil, drop-append-seam, take-append-add, take-append-le, take-length}
+use lib.Seq.{drop-nil, drop-append-seam, take-append-le, take-length}
 use Rattle.wire.specs.Bytes.{pick}
 use Rattle.framing.specs.Tag.{isError, isCopyBothResponse}
 use Rattle.claims.specs.Happened.{Happened}

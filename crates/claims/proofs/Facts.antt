@@ -1,9 +1,8 @@
 -- What a run remembers is what the calls tell.
-use mathlib.Core.Path.{_≡_, refl, sym, ap, _∙_}
+use mathlib.Core.Path.{_≡_, refl, ap, _∙_}
 use mathlib.Core.Bool.{Bool, true, false}
 use mathlib.Core.List.{List, [], _∷_}
-use Prim.Native.Nat.{ℕ, _+_, _%_, _^_, _<_}
-use lib.Dec.{eqb}
+use Prim.Native.Nat.{ℕ}
 use Rattle.wire.specs.Bytes.{pick}
 use Rattle.wire.proofs.Laws.{by-test}
 use Rattle.lsn.specs.declared.Lsn.{Lsn}
@@ -19,7 +18,7 @@ use Rattle.worker.specs.declared.State.the-variants.{Opening, Turn, Drain, Read
 use Rattle.worker.specs.Run.{freshRun, accepted}
 use Rattle.worker.specs.Step.{confirmed, isStoppedAt, takesPending}
 use Rattle.worker.specs.Opening.{reportOf}
-use Rattle.claims.specs.Plain.{isRefusedEarly, isFull}
+use Rattle.claims.specs.Plain.{isRefusedEarly}
 use Rattle.claims.specs.Past.{Past, a-step, a-report, confirmedOf, lastAccepted, hasSent, sentAt, sentPosition, waitBegan, pendingOf, signalledOf, drainedOf, fullBefore, stoppedNext}
 
 pub record Facts : Type 0 where

@@ -1,24 +1,22 @@
 -- What was handed on is the plain reading: every step and report keeps what holds by state.
 use mathlib.Core.Path.{_≡_, refl, sym, ap, _∙_}
 use mathlib.Core.Bool.{Bool, true, false}
-use mathlib.Core.List.{List, [], _∷_, _++_, append-assoc, append-nil}
-use mathlib.Core.Logic.{_⊎_}
+use mathlib.Core.List.{List, [], _∷_, _++_, append-nil}
 use mathlib.Core.Option.{Option}
 use Prim.Native.Nat.{ℕ, _+_, _-_, _<_, _≤_}
 use native.Mathlib.Omega.{arith}
-use borrow.Author.Tests.{ltb-true, ltb-false, le-ltb, lt-ltb}
+use borrow.Author.Tests.{ltb-true, ltb-false, lt-ltb}
 use lib.ListN.{length, take, drop}
 use lib.Dec.{ltb}
 use Rattle.wire.specs.Bytes.{pick}
 use Rattle.wire.proofs.Laws.{by-test}
-use Rattle.stream.specs.Cut.{Item, Cut, cutOf}
+use Rattle.stream.specs.Cut.{Cut, cutOf}
 use Rattle.stream.proofs.Laws.{cut-nothing}
 use Rattle.framing.specs.declared.MessageReader.{MessageReader}
 use Rattle.framing.specs.Read.{fresh, limitOf}
 use Rattle.framing.specs.Feed.{feedAll}
 use Rattle.framing.proofs.Feed.{fed-is-cut}
 use Rattle.lsn.specs.declared.Lsn.{Lsn}
-use Rattle.moment.specs.declared.Moment.{Moment}
 use Rattle.worker.specs.declared.Settings.{Settings}
 use Rattle.worker.specs.declared.State.{State}
 use Rattle.worker.specs.declared.State.the-variants.{Opening, Turn, Drain, Reading, Waiting, Handling, Offering, Ended}
@@ -29,15 +27,15 @@ use Rattle.worker.specs.Step.{badMoment, isEnded, refusedWith, stateOf, stepOf}
 use Rattle.worker.specs.Opening.{reportOf}
 use Rattle.claims.specs.Happened.{Happened}
 use Rattle.claims.specs.Plain.{Told, wholeOnes, behindOpening, given, spanOf, behindByte, acceptedOnes, isRefusedEarly, offered, takenOf, plainOf}
-use Rattle.claims.specs.Begins.{Begins, isClosed, NoneClosed}
+use Rattle.claims.specs.Begins.{isClosed, NoneClosed}
 use Rattle.claims.specs.Calls.{Call, step, report, Played, playOne, playAll, played, boundsOf}
 use Rattle.claims.specs.HandsOn.{NoQueueCloses, Hands-on, Events-begin}
 use Rattle.claims.proofs.Account.{Account, grown, same-ones, taken-more}
 use Rattle.claims.proofs.Begins.{plain-agree}
 use Rattle.claims.proofs.Course.{Msg, all-of, last-of, none-last, read-off, front-of, last-is, none-settled, settled-all, nothing-offered, none-opened}
 use Rattle.claims.proofs.Spans.{itemsOf}
-use Rattle.claims.proofs.Standing.{Base, Before, Going, Held, Offers, Over, Stood, following, stop, limit, base-still, ones-still, going-still}
-use Rattle.claims.proofs.Moves.{After, either, tell, lent, opening-keeps, turn-keeps, drain-keeps, reading-keeps, waiting-keeps}
+use Rattle.claims.proofs.Standing.{Base, Before, Going, Stood, following, stop, limit, base-still, ones-still, going-still}
+use Rattle.claims.proofs.Moves.{After, either, lent, opening-keeps, turn-keeps, drain-keeps, reading-keeps, waiting-keeps}
 use Rattle.claims.proofs.Offers.{handling-keeps, offering-keeps}
 
 module _ (s : Settings) (opening : Bool) (bytes : List ℕ) where

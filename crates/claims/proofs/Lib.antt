@@ -2,7 +2,6 @@ pub mod Confirms
 pub mod Begins
 pub mod Account
 pub mod Course
-pub mod Parts
 pub mod Spans
 pub mod Standing
 pub mod Moves

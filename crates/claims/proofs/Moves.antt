@@ -1,9 +1,8 @@
 -- Each state's step keeps what holds by state: states that read or turn.
-use mathlib.Core.Path.{_≡_, refl, sym, ap, _∙_}
+use mathlib.Core.Path.{_≡_, refl, sym, _∙_}
 use mathlib.Core.Bool.{Bool, true, false}
-use mathlib.Core.List.{List, [], _∷_, _++_, append-assoc, append-nil}
+use mathlib.Core.List.{List, [], _∷_, _++_, append-nil}
 use Prim.Native.Nat.{ℕ, _+_}
-use native.Mathlib.Omega.{arith}
 use lib.ListN.{length, take, drop}
 use lib.Dec.{ltb, leb, eqb}
 use Rattle.wire.specs.Bytes.{pick}
@@ -14,8 +13,7 @@ use Rattle.framing.specs.Tag.{isError, isCopyBothResponse}
 use Rattle.metrics.specs.Metrics.{more}
 use Rattle.moment.specs.Moment.{sinceOf}
 use Rattle.worker.specs.declared.Settings.{Settings}
-use Rattle.worker.specs.declared.State.{State}
-use Rattle.worker.specs.declared.State.the-variants.{Opening, Turn, Drain, Reading, Waiting, Handling, Offering, Ended}
+use Rattle.worker.specs.declared.State.the-variants.{Opening, Turn, Drain, Reading, Waiting}
 use Rattle.worker.specs.declared.Input.{Input}
 use Rattle.worker.specs.declared.Event.the-variants.{Nothing}
 use Rattle.worker.specs.declared.Run.{Run}
@@ -24,8 +22,8 @@ use Rattle.worker.specs.Step.{Lent, Outcome, doneWith, drainOf, endedWith, havi
 use Rattle.claims.specs.Happened.{Happened, happenedBy}
 use Rattle.claims.specs.Plain.{Told}
 use Rattle.claims.proofs.Account.{Account, grown, same-ones}
-use Rattle.claims.proofs.Course.{Msg, all-of, last-of, none-last, Goes, none-settled, settled-all, last-is, Unopened, none-opened, skipped, opened, refused-opening}
-use Rattle.claims.proofs.Standing.{Base, Before, Going, Held, Offers, Over, Stood, stop, limit, settled-grown, going-still, going-over, going-done, was-read, base-more, base-whole, ones-more, ones-refused, account-whole}
+use Rattle.claims.proofs.Course.{Msg, all-of, last-of, none-last, none-settled, settled-all, none-opened, skipped, opened, refused-opening}
+use Rattle.claims.proofs.Standing.{Base, Before, Going, Held, Over, Stood, stop, limit, settled-grown, going-still, going-over, going-done, was-read, base-more, base-whole, ones-more, ones-refused, account-whole}
 
 -- what a step tells the plain reading
 abbrev pub tell : Input → Outcome → Told

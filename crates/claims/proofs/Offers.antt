@@ -3,7 +3,7 @@ use mathlib.Core.Path.{_≡_, refl, sym, ap, _∙_}
 use mathlib.Core.Bool.{Bool, true, false, not}
 use mathlib.Core.List.{List, [], _∷_, _++_, append-assoc, append-nil}
 use mathlib.Core.Option.{Option, some, none}
-use Prim.Native.Nat.{ℕ, _+_, _<_, _≤_, min}
+use Prim.Native.Nat.{ℕ, _+_, _<_, _≤_}
 use native.Mathlib.Nat.{min-le-left}
 use native.Mathlib.Omega.{arith}
 use borrow.Author.Tests.{ltb-true, ltb-false, le-leb, lt-leb}
@@ -11,37 +11,35 @@ use lib.ListN.{length, take, drop, length-take}
 use lib.IntN.{ℤ}
 use lib.Dec.{ltb, leb}
 use Rattle.wire.specs.Bytes.{pick, at}
-use Rattle.wire.proofs.Laws.{by-test}
+use Rattle.wire.proofs.Laws.{by-test, impossible, part-of-front, part-of-part}
 use Rattle.framing.specs.declared.MessageReader.{MessageReader}
 use Rattle.framing.specs.Tag.{isError, isCopyData}
-use Rattle.lsn.specs.declared.Lsn.{Lsn}
 use Rattle.metrics.specs.declared.Metrics.{Metrics}
-use Rattle.metrics.specs.Metrics.{withEvent, withReply, withEnd}
+use Rattle.metrics.specs.Metrics.{withEnd}
 use Rattle.pgoutput.specs.Boundary.{boundaryOf}
 use Rattle.pgoutput.specs.Boundary as B
+use Rattle.pgoutput.proofs.LayoutMessage.{parts-within}
 use Rattle.replication.specs.CopyData.{copyDataOf}
 use Rattle.replication.specs.CopyData as C
+use Rattle.replication.proofs.LayoutXLogData.{data-within}
 use Rattle.worker.specs.declared.Settings.{Settings}
-use Rattle.worker.specs.declared.State.{State}
-use Rattle.worker.specs.declared.State.the-variants.{Opening, Turn, Drain, Reading, Waiting, Handling, Offering, Ended}
+use Rattle.worker.specs.declared.State.the-variants.{Turn, Drain, Offering}
 use Rattle.worker.specs.declared.Queue.{Queue}
 use Rattle.worker.specs.declared.Queue.the-variants.{Free, Full, Closed}
 use Rattle.worker.specs.declared.Input.{Input}
 use Rattle.worker.specs.declared.Whole.{Whole}
 use Rattle.worker.specs.declared.Offer.{Offer}
 use Rattle.worker.specs.declared.Event.{Event}
-use Rattle.worker.specs.declared.Event.the-variants.{Nothing, KeepAlive, Begin, Commit, Message, XLogData, StoppedAt}
+use Rattle.worker.specs.declared.Event.the-variants.{Nothing, KeepAlive, StoppedAt}
 use Rattle.worker.specs.declared.Run.{Run}
 use Rattle.worker.specs.Run.{lsn, offer, withState, withMetrics}
-use Rattle.worker.specs.Step.{Lent, Outcome, back, behindEvent, boundaryBy, copyDataBy, doneWith, endedWith, firstBy, handing, handlingOf, handsOn, intervalPassed, isStoppedAt, keepAliveOf, moved, nextOf, offeringOf, offers, reaches, stallEnded, stalledBy, stalledOf, stalls, statusOf}
+use Rattle.worker.specs.Step.{Lent, back, boundaryBy, copyDataBy, doneWith, endedWith, firstBy, handing, handlingOf, intervalPassed, isStoppedAt, keepAliveOf, moved, nextOf, offeringOf, offers, reaches, stalledBy, stalledOf, stalls, statusOf}
 use Rattle.claims.specs.Happened.{Happened, happenedBy}
 use Rattle.claims.specs.Happened as H
-use Rattle.claims.specs.Plain.{Told, Gives, gives, reaching, dataGives, payloadGives, messageGives, offered, isCutOff, isRefusedEarly, byQueue, isFull}
+use Rattle.claims.specs.Plain.{Told, Gives, gives, reaching, dataGives, payloadGives, offered, isCutOff, isRefusedEarly, isFull}
 use Rattle.claims.specs.Begins.{isClosed}
-use Rattle.claims.specs.Calls.{boundsOf}
 use Rattle.claims.proofs.Account.{Account, grown, same-ones}
-use Rattle.claims.proofs.Course.{Msg, all-of, gives-of, last-of, read-off, and-one, goes-behind, front-of, last-is, none-settled, settled-all, nothing-offered, Goes, Settled}
-use Rattle.claims.proofs.Parts.{part-of-front, part-of-part, DataWithin, data-within, PartsWithin, parts-within}
+use Rattle.claims.proofs.Course.{Msg, all-of, gives-of, last-of, read-off, and-one, goes-behind, front-of, last-is, none-settled, settled-all, nothing-offered, Settled}
 use Rattle.claims.proofs.Standing.{Base, Going, Held, Offers, Over, following, stop, limit, base-still, ones-still}
 use Rattle.claims.proofs.Moves.{After, either, tell}
 
@@ -154,7 +152,7 @@ module _ (s : Settings) (opening : Bool) (bytes : List ℕ) (t : ℕ) (ts : List
     boundary-keeps (B.begin final at-time xid) start end time from len e g = reaching-keeps end _ _ final refl g
     boundary-keeps (B.commit position commit-end at-time) start end time from len e g = reaching-keeps end _ _ commit-end refl g
     boundary-keeps (B.message flag position pf pl cf cl) start end time from len e g =
-        let w : PartsWithin (length (at (l .payload) from len)) (B.message flag position pf pl cf cl) = rw e at (parts-within (at (l .payload) from len)) in
+        let w = parts-within (at (l .payload) from len) flag position pf pl cf cl e in
         let m : length (at (l .payload) from len) ≤ len = rw length-take (min-le-left len (length (drop from (l .payload)))) in
         let a : at (at (l .payload) from len) pf pl ≡ at (l .payload) (from + pf) pl = part-of-part (l .payload) from len pf pl (let y = w .0 in omega arith) in
         let b : at (at (l .payload) from len) cf cl ≡ at (l .payload) (from + cf) cl = part-of-part (l .payload) from len cf cl (let y = w .1 in omega arith) in
@@ -174,7 +172,7 @@ module _ (s : Settings) (opening : Bool) (bytes : List ℕ) (t : ℕ) (ts : List
     copy-data-keeps : (c : C.Said) → copyDataOf message-of ≡ c → gives-now ≡ payloadGives S message-of c → After s opening bytes t ts es i (copyDataBy c r i l)
     copy-data-keeps (C.k end time reply) e g = keep-alive-keeps end time reply g
     copy-data-keeps (C.w start end time from len) e g =
-        let w : DataWithin (length message-of) (C.w start end time from len) = rw e at (data-within message-of) in
+        let w : from + len ≤ length message-of = data-within message-of start end time from len e in
         let m : length message-of ≤ r .whole .len = rw length-take (min-le-left (r .whole .len) (length (l .payload))) in
         let a : at message-of from len ≡ at (l .payload) from len = part-of-front (r .whole .len) from len (l .payload) (omega arith) in
         boundary-keeps (boundaryOf (at (l .payload) from len)) start end time from len refl (g ∙ rw a)
@@ -306,7 +304,7 @@ module _ (s : Settings) (opening : Bool) (bytes : List ℕ) (t : ℕ) (ts : List
                 ap (λ (l : List Happened). offered l false (drop 1 (grown-ws ++ us))) (sym (ap (λ (l : List Happened). h .gone ++ (h .e ∷ l)) f ∙ j (H.stoppedAt (o .reached .0) ∷ [])))
                 ∙ (next-law us ∙ (ap (λ (l : List Happened). h .gone ++ l) (taken-law us ∙ ap (λ (l : List Happened). h .e ∷ offered l false us) f)
                 ∙ j (offered (H.stoppedAt (o .reached .0) ∷ []) false us)));
-            goes = λ a b. let w : _≡_ {A = Bool} true false = b in let k : _≡_ {A = ℕ} 0 1 = cc in absurd (omega arith);
+            goes = λ a b. let w : _≡_ {A = Bool} true false = b in impossible cc;
           }
 
       -- nothing follows
@@ -380,7 +378,7 @@ module _ (s : Settings) (opening : Bool) (bytes : List ℕ) (t : ℕ) (ts : List
     stalled-by : (q : Queue) → i .queue ≡ q → isClosed q ≡ false → i .stop ≡ false → r .offer .stalled ≡ true → After s opening bytes t ts es i (stalledBy q r i l)
     stalled-by Free e n a b = next-keeps _ (no-stop a) e
     stalled-by Full e n a b = full-keeps r hs refl refl (ap (λ (c : Bool). offer (r .offer .event) c (r .offer .stops) (r .offer .reached)) b) (no-stop a) e
-    stalled-by Closed e n a b = let z : _≡_ {A = ℕ} 0 1 = cc in absurd (omega arith)
+    stalled-by Closed e n a b = impossible cc
 
     -- at the first try
     first-by : (q : Queue) → i .queue ≡ q → isClosed q ≡ false → r .offer .stalled ≡ false → After s opening bytes t ts es i (firstBy q r i l)
@@ -397,9 +395,9 @@ module _ (s : Settings) (opening : Bool) (bytes : List ℕ) (t : ℕ) (ts : List
       where
         by : (q : Queue) → q ≡ Full → isCutOff (tell i (moved r l)) (r .offer .stalled) ≡ false → After s opening bytes t ts es i (stalledBy q (stalls r) i l)
         by Full f a = full-keeps (stalls r) hs refl refl refl a e
-        by Free f a = let z : _≡_ {A = ℕ} 0 1 = cc in absurd (omega arith)
-        by Closed f a = let z : _≡_ {A = ℕ} 0 1 = cc in absurd (omega arith)
-    first-by Closed e n b = let z : _≡_ {A = ℕ} 0 1 = cc in absurd (omega arith)
+        by Free f a = impossible cc
+        by Closed f a = impossible cc
+    first-by Closed e n b = impossible cc
 
     pub offering-keeps : isClosed (i .queue) ≡ false → After s opening bytes t ts es i (offeringOf r i l)
     unfolding offeringOf stalledOf

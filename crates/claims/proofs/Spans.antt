@@ -1,21 +1,20 @@
 -- How many bytes a stream's whole messages have, and which byte a read that finishes one took last.
-use mathlib.Core.Path.{_≡_, refl, sym, ap, _∙_}
+use mathlib.Core.Path.{_≡_, refl, ap, _∙_}
 use mathlib.Core.Bool.{Bool, true, false}
 use mathlib.Core.List.{List, [], _∷_, _++_}
-use Prim.Native.Nat.{ℕ, zero, suc, _+_, _-_, _≤_, _<_}
+use Prim.Native.Nat.{ℕ, zero, suc, _+_}
 use native.Mathlib.Omega.{arith}
-use lib.ListN.{length, take, drop, length-append, length-drop}
-use lib.Seq.{length-take-le, take-append-seam}
+use lib.ListN.{length, drop, length-drop}
+use lib.Seq.{length-take-le}
 use lib.Dec.{eqb}
-use Rattle.wire.specs.Bytes.{pick, at, put}
-use Rattle.wire.proofs.Laws.{by-test}
-use Rattle.stream.specs.Message.{Front, in-header, in-payload, bad-length, too-large, frontOf, lengthField}
+use Rattle.wire.specs.Bytes.{pick, at}
+use Rattle.stream.specs.Message.{Front, in-header, in-payload, bad-length, too-large, frontOf}
 use Rattle.stream.specs.Message.{whole as whole-at}
 use Rattle.stream.specs.Cut.{Item, message, Ending, header, payload, over, Cut, cutBy, cutFrom, cutOf}
 use Rattle.stream.specs.Cut.{refused as bad}
-use Rattle.stream.proofs.Front.{Shows, cut-header, negative, short, large, cut-payload, complete, shows}
+use Rattle.stream.proofs.Front.{Shows, negative, short, complete, shows}
 use Rattle.framing.specs.Read.{Said, more, whole, refused, unfinished}
-use Rattle.framing.specs.Feed.{told, endTold, span, stored}
+use Rattle.framing.specs.Feed.{told, span, stored}
 use Rattle.claims.specs.Plain.{wholeOnes, spanOf}
 
 -- ---- items

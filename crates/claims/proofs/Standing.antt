@@ -6,7 +6,7 @@ use mathlib.Core.Option.{Option}
 use Prim.Native.Nat.{ℕ, _+_, _-_, _<_, _≤_}
 use native.Mathlib.Omega.{arith}
 use borrow.Author.Tests.{ltb-true, ltb-false}
-use lib.ListN.{length, take, drop, length-append, length-take}
+use lib.ListN.{length, take, drop, length-append}
 use lib.Seq.{length-take-le, take-append-seam}
 use lib.Dec.{ltb, eqb}
 use Rattle.wire.specs.Bytes.{pick, put}
@@ -15,7 +15,7 @@ use Rattle.stream.specs.Cut.{Item, message, Cut, cutOf}
 use Rattle.stream.specs.Cut.{refused as bad}
 use Rattle.framing.specs.declared.MessageReader.{MessageReader}
 use Rattle.framing.specs.Read.{Said, more, whole, refused, Result, limitOf, readOf}
-use Rattle.framing.specs.Feed.{told, span, stored, itemOf, Stands, Reads}
+use Rattle.framing.specs.Feed.{stored, itemOf, Stands}
 use Rattle.framing.proofs.Feed.{one-more, read-is-cut}
 use Rattle.worker.specs.declared.Settings.{Settings}
 use Rattle.worker.specs.declared.State.{State}

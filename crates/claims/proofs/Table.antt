@@ -1,23 +1,22 @@
 -- Each call refuses, takes and writes as document 01 says: the step by the run, and the table by the calls, agree test by test.
 use mathlib.Core.Path.{_≡_, refl, sym, ap, _∙_}
 use mathlib.Core.Bool.{Bool, true, false}
-use mathlib.Core.List.{List, [], _∷_, _++_, append-nil}
-use Prim.Native.Nat.{ℕ, _+_, _-_, _%_, _^_, _<_, _≤_}
+use mathlib.Core.List.{List, [], _∷_, _++_}
+use Prim.Native.Nat.{ℕ, _+_, _^_, _<_}
 use native.Mathlib.Omega.{arith}
-use borrow.Author.Tests.{ltb-true, ltb-false}
-use lib.ListN.{length, take, drop, length-take}
-use native.Mathlib.Nat.{min-le-left, mod-eq-of-lt}
+use borrow.Author.Tests.{ltb-true}
+use lib.ListN.{length, take, drop}
+use native.Mathlib.Nat.{mod-eq-of-lt}
 use lib.Dec.{ltb, leb, eqb}
 use Rattle.wire.specs.Bytes.{pick, put, at}
-use Rattle.wire.proofs.Laws.{by-test, put-none}
-use Rattle.stream.specs.Cut.{Cut, cutOf}
+use Rattle.wire.proofs.Laws.{put-none, impossible}
 use Rattle.framing.specs.declared.MessageReader.{MessageReader}
-use Rattle.framing.specs.Read.{Result, readOf, limitOf}
+use Rattle.framing.specs.Read.{Result, limitOf}
 use Rattle.framing.specs.Read as R
-use Rattle.framing.specs.Feed.{told, span, stored, Reads}
-use Rattle.framing.specs.Tag.{isError, isCopyBothResponse, isCopyData}
+use Rattle.framing.specs.Feed.{Reads}
+use Rattle.framing.specs.Tag.{isError, isCopyBothResponse}
 use Rattle.framing.proofs.Feed.{read-is-cut}
-use Rattle.frontend.specs.Frontend.{statusUpdate, copyDone}
+use Rattle.frontend.specs.Frontend.{statusUpdate}
 use Rattle.lsn.specs.declared.Lsn.{Lsn}
 use Rattle.metrics.specs.Metrics.{more}
 use Rattle.moment.specs.Moment.{sinceOf}
@@ -30,13 +29,12 @@ use Rattle.worker.specs.declared.Input.{Input}
 use Rattle.worker.specs.declared.Event.the-variants.{Nothing}
 use Rattle.worker.specs.declared.Run.{Run}
 use Rattle.worker.specs.Run.{wholeOf, withState, withReader, withDrained, withWhole, accepted}
-use Rattle.worker.specs.Step.{Lent, Outcome, confirmed, doneWith, drainOf, endedWith, having, idleOf, intervalPassed, isReadable, moved, openingBy, openingOf, readBy, readingBy, readingOf, statusDue, statusOf, turnOf, waitingBy, waitingOf, waitingRead, waits, isAbove}
-use Rattle.claims.specs.Plain.{wholeOnes}
-use Rattle.claims.specs.Past.{Past, a-step, confirmedOf, lastAccepted, hasSent, sentAt, sentPosition, isAboveSent, waitBegan, pendingOf, signalledOf, drainedOf, fullBefore, stoppedNext}
-use Rattle.claims.specs.Table.{Writing, nothing, done, status, Say, say, isPassed, isIdle, statusIf, readSay, openingSay, readingSay, waitingSay, drainSay, waitingTests, tableOf, writtenBy, Answers}
+use Rattle.worker.specs.Step.{Lent, Outcome, doneWith, drainOf, endedWith, having, idleOf, intervalPassed, isReadable, moved, openingBy, openingOf, readBy, readingBy, readingOf, statusDue, statusOf, turnOf, waitingBy, waitingOf, waitingRead, waits}
+use Rattle.claims.specs.Past.{Past, a-step, confirmedOf, lastAccepted, hasSent, sentAt, sentPosition, waitBegan, pendingOf, signalledOf, drainedOf, fullBefore, stoppedNext}
+use Rattle.claims.specs.Table.{nothing, done, status, Say, say, isPassed, isIdle, statusIf, readSay, openingSay, readingSay, waitingSay, drainSay, tableOf, writtenBy, Answers}
 use Rattle.claims.proofs.Course.{Msg}
-use Rattle.claims.proofs.Facts.{Facts, facts, factsBy, factsOf, with-status, confirmed-facts, at-moment, with-drained, with-wait, with-offer}
-use Rattle.claims.proofs.Standing.{Base, limit, was-read, base-still, base-more, base-whole}
+use Rattle.claims.proofs.Facts.{Facts, facts, factsBy, factsOf, with-status, confirmed-facts, at-moment, with-drained, with-wait}
+use Rattle.claims.proofs.Standing.{Base, base-still, base-more, base-whole}
 
 -- a read in Waiting, by whether the idle interval has passed
 abbrev waitingWith : Bool → R.Said → Run → Input → Lent → Outcome
@@ -233,7 +231,7 @@ module _ (s : Settings) (opening : Bool) (start : Lsn) (bytes : List ℕ) where
       where
         under : (x y : Bool) → ltb (r .drained) 256 ≡ x → pick x y false ≡ true → r .drained < 256
         under true y f g = ltb-true _ _ f
-        under false y f g = let z : _≡_ {A = ℕ} 0 1 = cc in absurd (omega arith)
+        under false y f g = impossible cc
 
   -- ---- states that read
 

@@ -2,45 +2,44 @@
 use mathlib.Core.Path.{_≡_, refl, sym, ap, _∙_}
 use mathlib.Core.Bool.{Bool, true, false}
 use mathlib.Core.List.{List, [], _∷_, _++_}
-use Prim.Native.Nat.{ℕ, _+_, _≤_, min}
+use Prim.Native.Nat.{ℕ, _+_, _≤_}
 use native.Mathlib.Nat.{min-le-left}
 use native.Mathlib.Omega.{arith}
-use lib.ListN.{length, take, drop, length-take}
+use lib.ListN.{length, take, length-take}
 use lib.IntN.{ℤ}
-use lib.Dec.{ltb, leb, eqb}
+use lib.Dec.{leb}
 use Rattle.wire.specs.Bytes.{pick, at}
-use Rattle.wire.proofs.Laws.{put-none}
-use Rattle.stream.specs.Cut.{Item, Cut, cutOf}
+use Rattle.wire.proofs.Laws.{put-none, impossible, part-of-front}
+use Rattle.stream.specs.Cut.{Item}
 use Rattle.framing.specs.Read.{limitOf}
 use Rattle.framing.specs.Tag.{isError, isCopyData}
 use Rattle.lsn.specs.declared.Lsn.{Lsn}
 use Rattle.moment.specs.Moment.{sinceOf}
 use Rattle.metrics.specs.declared.Metrics.{Metrics}
-use Rattle.metrics.specs.Metrics.{withEvent, withReply, withEnd}
+use Rattle.metrics.specs.Metrics.{withReply, withEnd}
 use Rattle.pgoutput.specs.Boundary.{boundaryOf}
 use Rattle.pgoutput.specs.Boundary as B
 use Rattle.replication.specs.CopyData.{copyDataOf}
 use Rattle.replication.specs.CopyData as C
+use Rattle.replication.proofs.LayoutXLogData.{data-within}
 use Rattle.worker.specs.declared.Settings.{Settings}
-use Rattle.worker.specs.declared.State.{State}
-use Rattle.worker.specs.declared.State.the-variants.{Opening, Turn, Drain, Reading, Waiting, Handling, Offering, Ended}
+use Rattle.worker.specs.declared.State.the-variants.{Turn, Drain, Handling, Offering}
 use Rattle.worker.specs.declared.Queue.{Queue}
 use Rattle.worker.specs.declared.Queue.the-variants.{Free, Full, Closed}
 use Rattle.worker.specs.declared.Input.{Input}
 use Rattle.worker.specs.declared.Event.{Event}
-use Rattle.worker.specs.declared.Event.the-variants.{Nothing, KeepAlive, Begin, Commit, Message, XLogData, StoppedAt}
+use Rattle.worker.specs.declared.Event.the-variants.{Nothing, KeepAlive, StoppedAt}
 use Rattle.worker.specs.declared.Run.{Run}
 use Rattle.worker.specs.Run.{lsn, offer, withState, withMetrics, withOffer, accepted}
-use Rattle.worker.specs.Step.{Lent, Outcome, back, behindEvent, boundaryBy, copyDataBy, doneWith, endedWith, firstBy, handing, handlingOf, intervalPassed, isStoppedAt, keepAliveOf, moved, nextOf, offeringOf, offers, reaches, stallEnded, stalledBy, stalledOf, stalls, statusOf}
-use Rattle.claims.specs.Plain.{wholeOnes, isFull, byQueue, isRefusedEarly}
-use Rattle.claims.specs.Past.{Past, a-step, confirmedOf, lastAccepted, hasSent, sentAt, sentPosition, waitBegan, pendingOf, signalledOf, drainedOf, fullBefore, stoppedNext}
-use Rattle.claims.specs.Table.{Writing, nothing, done, status, Say, say, statusIf, isPassed, lastOr, lastMessage, boundaryRefusal, copyDataSay, handlingSay, behindOffer, againSay, offeringSay, Answers}
+use Rattle.worker.specs.Step.{Lent, Outcome, back, boundaryBy, copyDataBy, doneWith, endedWith, firstBy, handing, handlingOf, intervalPassed, isStoppedAt, moved, nextOf, offeringOf, offers, stalledBy, stalledOf, stalls, statusOf}
+use Rattle.claims.specs.Plain.{wholeOnes, isFull, byQueue}
+use Rattle.claims.specs.Past.{Past, confirmedOf, lastAccepted, hasSent, sentAt, sentPosition, waitBegan, pendingOf, signalledOf, drainedOf, fullBefore, stoppedNext}
+use Rattle.claims.specs.Table.{nothing, done, status, Say, say, statusIf, isPassed, lastOr, lastMessage, boundaryRefusal, copyDataSay, handlingSay, behindOffer, againSay, offeringSay, Answers}
 use Rattle.claims.proofs.Course.{Msg}
 use Rattle.claims.proofs.Facts.{Facts, factsBy, factsOf, with-status, confirmed-facts, at-moment, with-offer}
-use Rattle.claims.proofs.Parts.{part-of-front, DataWithin, data-within}
-use Rattle.claims.proofs.Spans.{itemsOf, whole-items}
-use Rattle.claims.proofs.Standing.{Base, base-still}
-use Rattle.claims.proofs.Table.{Standing, Holding, Next, either, still, moved-answers, ended-answers, done-answers, status-answers, applied-is, passed-is}
+use Rattle.claims.proofs.Spans.{whole-items}
+use Rattle.claims.proofs.Standing.{base-still}
+use Rattle.claims.proofs.Table.{Standing, Holding, Next, either, still, moved-answers, ended-answers, done-answers, status-answers, applied-is}
 
 last-one : (d m : Msg) (ms : List Msg) → lastOr d (ms ++ (m ∷ [])) ≡ m
 unfolding lastOr
@@ -108,7 +107,7 @@ module _ (s : Settings) (opening : Bool) (start : Lsn) (bytes : List ℕ) (t : �
     copy-data-next : (c : C.Said) → copyDataOf q ≡ c → N (copyDataSay q c) (copyDataBy c R' i l)
     unfolding statusOf lastAccepted waitBegan sentAt confirmedOf sentPosition signalledOf hasSent drainedOf pendingOf fullBefore stoppedNext
     copy-data-next (C.w start' end time from len) hc =
-        let v : DataWithin (length q) (C.w start' end time from len) = rw hc at (data-within q) in
+        let v : from + len ≤ length q = data-within q start' end time from len hc in
         let m : length q ≤ r .whole .len = rw length-take (min-le-left (r .whole .len) (length (l .payload))) in
         let a : at q from len ≡ at (l .payload) from len = part-of-front (r .whole .len) from len (l .payload) (omega arith) in
         rw a (boundary-next (boundaryOf (at (l .payload) from len)) start' end time from len)
@@ -277,8 +276,8 @@ module _ (s : Settings) (opening : Bool) (start : Lsn) (bytes : List ℕ) (t : �
       where
         by : (q : Queue) → q ≡ Full → O (byQueue q (behindOffer h) (say 0 (statusIf (isPassed s h i))) (behindOffer h)) (stalledBy q (stalls R') i l)
         by Full y = full-next (stalls R') hst refl refl refl (ap isFull x)
-        by Free y = let z : _≡_ {A = ℕ} 0 1 = cc in absurd (omega arith)
-        by Closed y = let z : _≡_ {A = ℕ} 0 1 = cc in absurd (omega arith)
+        by Free y = impossible cc
+        by Closed y = impossible cc
 
     pub offering-next : O (offeringSay s h i) (offeringOf R' i l)
     unfolding offeringOf

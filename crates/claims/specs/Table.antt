@@ -4,7 +4,7 @@ use mathlib.Core.Path.{_≡_}
 use mathlib.Core.Bool.{Bool, true, false}
 use mathlib.Core.List.{List, [], _∷_, _++_}
 use Prim.Native.Nat.{ℕ, _-_}
-use lib.ListN.{length, take, drop}
+use lib.ListN.{length, take}
 use lib.IntN.{ℤ}
 use lib.Dec.{ltb, leb, eqb}
 use Rattle.wire.specs.Bytes.{pick, put, at}

@@ -11,7 +11,7 @@ use mathlib.Core.Bool.{Bool, true, false}
 use borrow.Author.Tests.{lt-ltb, le-ltb, le-leb, lt-leb, leb-true, leb-false}
 use denote.Ref.{RefT}
 use Rattle.wire.specs.Bytes.{pick, put, placed}
-use Rattle.wire.proofs.Laws.{placed-fits}
+use Rattle.wire.proofs.Laws.{placed-fits, impossible}
 use Rattle.error.specs.Inputs.{total, none, nameAt}
 use Rattle.error.specs.Writer.{writing, counted}
 use Rattle.error.specs.declared.Counted.the-variants.{Fits, Over}
@@ -55,14 +55,14 @@ counted-fits room n k e = by (leb n room) refl e
         let e : n ≡ k = cc in
         let l : n ≤ room = leb-true n room q in
         (e, omega arith)
-    by false q p = let z : _≡_ {A = ℕ} 0 1 = cc in absurd (omega arith)
+    by false q p = impossible cc
 
 pub counted-over : (room n : ℕ) → counted room n ≡ Over → room < n
 unfolding counted
 counted-over room n e = by (leb n room) refl e
   where
     by : (t : Bool) → leb n room ≡ t → pick t (Fits n) Over ≡ Over → room < n
-    by true q p = let z : _≡_ {A = ℕ} 0 1 = cc in absurd (omega arith)
+    by true q p = impossible cc
     by false q p = leb-false n room q
 
 -- ---- the bytes of the names from the i-th on

@@ -11,7 +11,7 @@ use borrow.Author.Tests.{lt-ltb, le-ltb, ne-eqb, leb-true, leb-false, ltb-true, 
 use Rattle.wire.specs.Bytes.{at, be, put}
 use lib.Dec.{leb, ltb, eqb}
 use mathlib.Core.Logic.{_⊎_, ⊎-elim, inl, inr}
-use Rattle.wire.proofs.Laws.{put-none, length-put, by-test}
+use Rattle.wire.proofs.Laws.{put-none, length-put, by-test, impossible}
 use Rattle.stream.specs.Message.{Front, in-header, in-payload, bad-length, too-large, lengthField, frontOf}
 use Rattle.stream.specs.Cut.{Item, message, Ending, header, payload, over, Cut, behind, ended, cutOf}
 use Rattle.stream.proofs.Front.{header-front, negative-front, short-front, over-front, payload-front, whole-front, length-field-append, Shows, cut-header, negative, short, large, cut-payload, complete, shows}
@@ -460,9 +460,9 @@ module _ (setting : ℕ) (rest u : List ℕ) (e : Bool) (r : MessageReader) (p :
   from-front : (f : Front) → Shows limit rest f → (f ≡ in-header) ⊎ (f ≡ in-payload) → Local limit rest u e p x
   from-front in-header (cut-header h) w = from-header h (frontOf limit (rest ++ u)) (shows limit (rest ++ u))
   from-front in-payload (cut-payload h a b c d) w = from-payload h a b c d
-  from-front bad-length s w = ⊎-elim (λ q. let z : _≡_ {A = ℕ} 0 1 = cc in absurd (omega arith)) (λ q. let z : _≡_ {A = ℕ} 0 1 = cc in absurd (omega arith)) w
-  from-front too-large s w = ⊎-elim (λ q. let z : _≡_ {A = ℕ} 0 1 = cc in absurd (omega arith)) (λ q. let z : _≡_ {A = ℕ} 0 1 = cc in absurd (omega arith)) w
-  from-front (whole-at tag n) s w = ⊎-elim (λ q. let z : _≡_ {A = ℕ} 0 1 = cc in absurd (omega arith)) (λ q. let z : _≡_ {A = ℕ} 0 1 = cc in absurd (omega arith)) w
+  from-front bad-length s w = ⊎-elim (λ q. impossible cc) (λ q. impossible cc) w
+  from-front too-large s w = ⊎-elim (λ q. impossible cc) (λ q. impossible cc) w
+  from-front (whole-at tag n) s w = ⊎-elim (λ q. impossible cc) (λ q. impossible cc) w
 
 -- ---- a read is as the cut says
 

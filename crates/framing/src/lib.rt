@@ -2,7 +2,7 @@
 pub mod tag;
 
 ghost use mathlib.Core.Path.{_≡_};
-ghost use Prim.Native.Nat.{_+_, _-_, _<_, _≤_, min};
+ghost use Prim.Native.Nat.{_+_, _-_, _<_, _≤_};
 ghost use lib.ListN.{length, getD};
 ghost use Rattle.wire.specs.Bytes.{put};
 ghost use Rattle.stream.specs.Message.{lengthField};
@@ -10,6 +10,7 @@ ghost use Rattle.error.specs.Refusal.{numberOf};
 ghost use Rattle.framing.specs.Read.{saidBy, limitOf, fresh, shut, at-byte, unfinished, payloadOf, judgedOf, headerOf, readOf};
 use error::Refusal;
 use wire::field::U32Field;
+use wire::store::least;
 
 // The largest limit.
 pub const MAX_MESSAGE_SIZE: usize = 1073741824;
@@ -46,12 +47,6 @@ impl MessageReader {
             refused: false,
         }
     }
-}
-
-fn least(a: usize, b: usize) -> usize
-    ensures { λ r. ⌜ r ≡ min a b ⌝ }
-{
-    if a < b { a } else { b }
 }
 
 // The smaller of the setting and the largest limit.

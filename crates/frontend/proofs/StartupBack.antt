@@ -11,7 +11,7 @@ use lib.IntN.{ℤ}
 use lib.Signed.{mag}
 use denote.Ref.{RefT, now}
 use borrow.Author.Tests.{le-ltb, lt-leb}
-use Rattle.wire.specs.Bytes.{at, beBytes}
+use Rattle.wire.specs.Bytes.{beBytes}
 use Rattle.wire.specs.Field.{fieldAt, unsigned}
 use Rattle.wire.specs.Find.{indexOf, NoZero}
 use Rattle.wire.proofs.Laws.{length-beBytes}

@@ -1,10 +1,10 @@
 // A reader on its own, fed by pieces.
-ghost use Prim.Native.Nat.{_<_};
 use framing::Answer;
 use framing::MessageReader;
 use wire::field::U8Field;
 use wire::field::U16Field;
 use wire::field::U32Field;
+use wire::store::least;
 
 // The reader, how many bytes were taken, what is left of the piece that is offered, where the line goes on, whether reading does, and whether a
 // refusal ended it.
@@ -64,10 +64,10 @@ fn one_read(
         return ended(f);
     }
     let left = piece(f.left, size);
-    let n = lines::least(left, bytes.len() - at);
+    let n = least(left, bytes.len() - at);
     let reader = f.reader;
     let s = reader.read(setting, &bytes[at..at + n], false, payload);
-    let taken = lines::least(s.taken, n);
+    let taken = least(s.taken, n);
     let answer = s.answer;
     let next = s.reader;
     let behind = told(line, f.line, answer);
@@ -88,14 +88,6 @@ fn ended(f: Feed) -> Feed {
     g
 }
 
-// One turn fewer, or none where reading ends.
-fn turns_left(turns: usize, go: bool) -> usize
-    requires { ⌜ 0 < turns ⌝ }
-    ensures { λ r. ⌜ r < turns ⌝ }
-{
-    if go { turns - 1 } else { 0 }
-}
-
 // Every read takes a byte, so there are no more reads than bytes; the last turn meets the end.
 fn feed_all(
     line: &mut [u8],
@@ -113,10 +105,10 @@ fn feed_all(
         go: true,
         refused: false,
     };
-    let mut turns = bytes.len() + 1;
+    let mut turns = bytes.len() as u64 + 1;
     while turns > 0 {
         f = one_read(line, setting, size, bytes, f, payload);
-        turns = turns_left(turns, f.go);
+        turns = lines::left(turns, f.go);
     }
     f
 }

@@ -1,12 +1,12 @@
 // Rows, and the answers to a simple query.
 ghost use mathlib.Core.Path.{_≡_};
-ghost use Prim.Native.Nat.{_<_};
 ghost use lib.ListN.{length};
 use crate::records;
 use lossy::Lossy;
 use query::Column;
 use query::row::Row;
 use query::simple::SimpleQuery;
+use wire::store::least;
 
 fn column(line: &mut [u8], at: usize, payload: &[u8], c: Column) -> usize {
     match c {
@@ -146,14 +146,14 @@ fn one_message(
     match answer {
         framing::Answer::More => cut_off(line, s),
         framing::Answer::Whole(tag, n) => {
-            let n = lines::least(n, payload.len());
+            let n = least(n, payload.len());
             let q = query.message(tag, &payload[0..n], error);
             let told = q.answer;
             let behind = q.query;
             let t = Session {
                 reader: next,
                 query: behind,
-                at: at + lines::least(step.taken, bytes.len() - at),
+                at: at + least(step.taken, bytes.len() - at),
                 line: s.line,
                 begun: s.begun,
                 go: true,
@@ -167,13 +167,6 @@ fn one_message(
     }
 }
 
-fn turns_left(turns: usize, go: bool) -> usize
-    requires { ⌜ 0 < turns ⌝ }
-    ensures { λ r. ⌜ r < turns ⌝ }
-{
-    if go { turns - 1 } else { 0 }
-}
-
 // Every message takes a byte, so there are no more messages than bytes; the last turn meets the end.
 fn play(line: &mut [u8], bytes: &[u8], payload: &mut [u8], error: &mut [u8]) -> usize {
     let at = wire::store::place(line, 0, b"m");
@@ -185,10 +178,10 @@ fn play(line: &mut [u8], bytes: &[u8], payload: &mut [u8], error: &mut [u8]) -> 
         begun: false,
         go: true,
     };
-    let mut turns = bytes.len() + 1;
+    let mut turns = bytes.len() as u64 + 1;
     while turns > 0 {
         s = one_message(line, bytes, s, payload, error);
-        turns = turns_left(turns, s.go);
+        turns = lines::left(turns, s.go);
     }
     lines::end(line, s.line)
 }

@@ -1,25 +1,16 @@
 -- Laws of texts placed one behind the other, of sums, filled buffers and counted turns.
-use mathlib.Core.Path.{_≡_, refl, sym, ap, _∙_}
+use mathlib.Core.Path.{_≡_, refl, ap, _∙_}
 use mathlib.Core.Bool.{Bool, true, false}
 use mathlib.Core.List.{List, [], _∷_, _++_, append-nil}
-use Prim.Native.Nat.{ℕ, zero, suc, _+_, _*_, _-_, _/_, _%_, _^_, _≤_, _<_}
-use native.Mathlib.Nat.{le-of-suc-le-suc, not-suc-le-zero, pow-suc}
+use Prim.Native.Nat.{ℕ, zero, suc, _+_, _-_, _≤_, _<_}
+use native.Mathlib.Nat.{le-of-suc-le-suc, not-suc-le-zero}
 use native.Mathlib.Numerals.{add-one}
 use native.Mathlib.Omega.{arith}
-use lib.ListN.{length, take, drop, getD, set, replicate, length-append, drop-of-length-le}
-use lib.Seq.{drop-cons, take-at}
-use lib.Dec.{ltb}
-use borrow.Author.Tests.{lt-ltb, le-ltb, le-leb, lt-leb, ltb-true, ltb-false}
-use Rattle.wire.specs.Bytes.{pick, at, put, placed}
-use Rattle.wire.proofs.Laws.{by-test}
-use Rattle.text.specs.Numeral.{numeral, hexBytes}
-use Rattle.text.proofs.Laws.{shorter}
-use Rattle.error.specs.Writer.{writing, outcome}
-use Rattle.error.specs.declared.Refusal.{Refusal}
-use Rattle.error.specs.declared.Written.{Written}
-use Rattle.error.specs.declared.Written.the-variants.{Wrote, Refused}
-use Rattle.lsn.specs.Position.{displayOf}
-use Rattle.lsn.proofs.Laws.{length-display}
+use lib.ListN.{length, drop, getD, set, replicate, drop-of-length-le}
+use lib.Seq.{drop-cons}
+use borrow.Author.Tests.{le-leb, lt-leb}
+use Rattle.wire.specs.Bytes.{pick, at, placed}
+use Rattle.text.specs.Numeral.{hexBytes}
 use Rattle.lines.specs.Line.{sumNext, sumFrom, sumOf, pieces, bytesTexts, partTexts}
 
 -- ---- sums
@@ -101,48 +92,3 @@ part-none s from len h = simp (lt-leb _ _ h)
 pub part-some : (s : List ℕ) (from len : ℕ) → from + len ≤ length s → partTexts s from len ≡ bytesTexts (at s from len)
 unfolding partTexts
 part-some s from len h = simp (le-leb _ _ h)
-
--- ---- positions
-
--- a number below a power of 16 has at most so many digits
-digits-within : (n k v : ℕ) → v < 16 ^ suc k → length (numeral 16 n v) ≤ suc k
-unfolding numeral
-digits-within zero k v h = omega arith
-digits-within (suc n) k v h = by-test (ltb v 16) (λ t. simp t (omega arith)) (λ t. more k (λ j. digits-within n j (v / 16)) h t)
-  where
-    more : (k : ℕ) → ((j : ℕ) → v / 16 < 16 ^ suc j → length (numeral 16 n (v / 16)) ≤ suc j) → v < 16 ^ suc k → ltb v 16 ≡ false → length (numeral 16 (suc n) v) ≤ suc k
-    more zero f h t =
-        let l : 16 ≤ v = ltb-false _ _ t in
-        let g : v < 16 ^ 0 * 16 = rw pow-suc at h in
-        absurd (omega arith)
-    more (suc j) f h t =
-        let p : 0 < 16 = omega arith in
-        let l : length (numeral 16 n (v / 16)) ≤ suc j = f j (shorter 16 (suc j) v p h) in
-        simp (t, length-append) (omega arith)
-
-pub position-within : (v : ℕ) → v < 2 ^ 64 → length (displayOf v) ≤ 17
-position-within v h =
-    let a : v / 4294967296 < 16 ^ 8 = omega arith in
-    let b : v % 4294967296 < 16 ^ 8 = omega arith in
-    omega (arith, length-display v, digits-within 20 7 (v / 4294967296) a, digits-within 20 7 (v % 4294967296) b)
-
--- a position's text in a buffer of 17 bytes
-module _ (v : ℕ) (d : List ℕ) (h : v < 2 ^ 64) (l : length d ≡ 17) (w : Written) {q : List ℕ} (e : (outcome w, q) ≡ writing 0 (displayOf v) d) where
-  shown : _≡_ {A = (ℕ × ℕ) × List ℕ} (outcome w, q) ((0, length (displayOf v)), put d 0 (displayOf v))
-  unfolding writing
-  shown =
-      let m : length (displayOf v) ≤ 17 = position-within v h in
-      let k : length (displayOf v) ≤ length d = omega arith in
-      simp (le-ltb _ _ k) at e
-
-  pub shown-length : (n : ℕ) → w ≡ Wrote n → n ≡ length (displayOf v)
-  shown-length n f = ap (λ (x : Written). outcome x .1) (sym f) ∙ ap (λ (x : (ℕ × ℕ) × List ℕ). x .0 .1) shown
-
-  pub shown-text : take (length (displayOf v)) (drop 0 q) ≡ displayOf v
-  unfolding put
-  shown-text = rw (ap (λ (x : (ℕ × ℕ) × List ℕ). x .1) shown) (take-at (displayOf v) _ (length (displayOf v)) refl)
-
-  pub shown-always : (r : Refusal) → w ≡ Refused r → ⊥
-  shown-always r f =
-      let z : 0 ≡ length (displayOf v) = ap (λ (x : Written). outcome x .1) (sym f) ∙ ap (λ (x : (ℕ × ℕ) × List ℕ). x .0 .1) shown in
-      omega (arith, length-display v)

@@ -1,10 +1,9 @@
 // The pieces of a program's line, each placed behind the last, and what programs do with buffers.
 ghost use mathlib.Core.Path.{_≡_};
-ghost use Prim.Native.Nat.{_-_, _<_, min};
+ghost use Prim.Native.Nat.{_-_, _<_};
 ghost use lib.ListN.{length, replicate};
 ghost use Rattle.wire.specs.Bytes.{pick};
 ghost use Rattle.lines.specs.Line.{sumNext, sumOf, pieces, numberTexts, signedTexts, flagTexts, partTexts, bytesTexts, positionTexts, endTexts};
-use error::Written;
 use lsn::Lsn;
 
 // The sum of a buffer.
@@ -35,12 +34,6 @@ pub fn fill(out: &mut [u8], b: u8)
         out[i] = b;
         i += 1;
     }
-}
-
-pub fn least(a: usize, b: usize) -> usize
-    ensures { λ r. ⌜ r ≡ min a b ⌝ }
-{
-    if a < b { a } else { b }
 }
 
 // One turn fewer, or none where there is nothing more to do. Nothing says that an input ends, so programs count their turns down.
@@ -112,16 +105,7 @@ pub fn position(line: &mut [u8], at: usize, p: Lsn) -> usize
     ensures { λ r. ⌜ (r, now (line .exit)) ≡ pieces (now (line .entry)) at (positionTexts (p .0)) ⌝ }
 {
     let a = wire::store::place(line, at, b" ");
-    let mut t = [0u8; 17];
-    match p.display(&mut t) {
-        Written::Wrote(n) => {
-            if 17 < n {
-                return a;
-            }
-            wire::store::place(line, a, &t[0..n])
-        }
-        Written::Refused(_) => a,
-    }
+    p.place(line, a)
 }
 
 pub fn end(line: &mut [u8], at: usize) -> usize

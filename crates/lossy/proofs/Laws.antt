@@ -2,16 +2,16 @@
 use mathlib.Core.Path.{_≡_, refl, ap}
 use mathlib.Core.Bool.{Bool, true, false}
 use mathlib.Core.List.{List, [], _∷_, _++_}
-use Prim.Native.Nat.{ℕ, zero, suc, _*_, _-_, _≤_, max}
+use Prim.Native.Nat.{ℕ, zero, suc, _≤_, max}
 use native.Mathlib.Nat.{not-suc-le-zero}
 use native.Mathlib.Omega.{arith}
-use lib.ListN.{length, take, drop, length-append, length-take, length-drop, drop-of-length-le}
+use lib.ListN.{length, take, drop, length-take, length-drop, drop-of-length-le}
 use lib.Dec.{eqb, eqb·zero-suc}
 use Rattle.wire.specs.Bytes.{pick}
 use Rattle.lossy.specs.WellFormed.{Range, table, rowOf, matched}
 use Rattle.lossy.specs.Lossy.{Part, well, ill, partBy, bytesOf, partsOf, shown, shownAll, lossyOf}
 
--- ---- the part at the front has a byte, and no more than there are
+-- ---- the part at the front has a byte
 
 pub bytes-either : (t : Bool) (x : List ℕ) → bytesOf (pick t (well x) (ill x)) ≡ x
 bytes-either true x = refl
@@ -31,9 +31,6 @@ part-some row b s =
     let p = part-size row (b ∷ s) in
     let h : 1 ≤ p .0 = p .1 in
     rw (p .2) (simp length-take (omega arith))
-
-pub part-fits : (row : List Range) (s : List ℕ) → length (bytesOf (partBy row s)) ≤ length s
-part-fits row s = let p = part-size row s in rw (p .2) (simp length-take (omega arith))
 
 -- ---- lossy text, a part at a time
 
@@ -68,25 +65,3 @@ lossy-next b s =
 
 pub lossy-end : (s : List ℕ) (i : ℕ) → length s ≤ i → lossyOf (drop i s) ≡ []
 lossy-end s i h = rw (drop-of-length-le s h) lossy-none
-
--- ---- a text grows to three times its length at most
-
-shown-bound : (p : Part) → 1 ≤ length (bytesOf p) → length (shown p) ≤ 3 * length (bytesOf p)
-shown-bound (well s) h = omega arith
-shown-bound (ill s) h = omega arith
-
-parts-bound : (n : ℕ) (s : List ℕ) → length (shownAll (partsOf n s)) ≤ 3 * length s
-unfolding partsOf shownAll
-parts-bound zero s = omega arith
-parts-bound (suc n) [] = omega arith
-parts-bound (suc n) (b ∷ s) =
-    let p : Part = partBy (rowOf table b) (b ∷ s) in
-    let k : ℕ = length (bytesOf p) in
-    let h : length (shown p) ≤ 3 * k = shown-bound p (part-some (rowOf table b) b s) in
-    let f : k ≤ suc (length s) = part-fits (rowOf table b) (b ∷ s) in
-    let r : length (shownAll (partsOf n (drop k (b ∷ s)))) ≤ 3 * (suc (length s) - k) = rw (length-drop k (b ∷ s)) at (parts-bound n (drop k (b ∷ s))) in
-    simp length-append (omega arith)
-
-pub lossy-bound : (s : List ℕ) → length (lossyOf s) ≤ 3 * length s
-unfolding lossyOf
-lossy-bound s = parts-bound (length s) s

@@ -123,9 +123,7 @@ unfolding displayOf
 length-display v = simp length-append (omega arith)
 
 -- the three writes of Display
-pub displayed : (d : List ℕ) (v : ℕ) {d₁ d₂ d₃ : List ℕ} {r₁ r₂ r₃ : ℕ} → length (displayOf v) ≤ length d
-    → (r₁, d₁) ≡ placed d 0 (hexText (v / 2 ^ 32)) → (r₂, d₂) ≡ placed d₁ r₁ (47 ∷ []) → (r₃, d₃) ≡ placed d₂ r₂ (hexText (v % 2 ^ 32)) → (r₃, d₃) ≡ placed d 0 (displayOf v)
+pub displayed : (d : List ℕ) (to v : ℕ) {d₁ d₂ d₃ : List ℕ} {r₁ r₂ r₃ : ℕ} → to + length (displayOf v) ≤ length d
+    → (r₁, d₁) ≡ placed d to (hexText (v / 2 ^ 32)) → (r₂, d₂) ≡ placed d₁ r₁ (47 ∷ []) → (r₃, d₃) ≡ placed d₂ r₂ (hexText (v % 2 ^ 32)) → (r₃, d₃) ≡ placed d to (displayOf v)
 unfolding displayOf
-displayed d v h p q r =
-    let k : 0 + length (displayOf v) ≤ length d = omega arith in
-    filling-last k (filling-next k (47 ∷ []) (filling-next k (hexText (v / 2 ^ 32)) (filling-start refl) p) q) r
+displayed d to v h p q r = filling-last h (filling-next h (47 ∷ []) (filling-next h (hexText (v / 2 ^ 32)) (filling-start refl) p) q) r

@@ -3,6 +3,8 @@ mod hex;
 
 ghost use mathlib.Core.Path.{_≡_};
 ghost use lib.Dec.{eqb};
+ghost use lib.ListN.{length};
+ghost use Rattle.wire.specs.Bytes.{placed};
 ghost use Rattle.error.specs.Writer.{writing, outcome};
 ghost use Rattle.lsn.specs.Position.{positionOf, parseOutcome, displayOf, isBelow};
 use error::Refusal;
@@ -61,19 +63,37 @@ impl Lsn {
         Parsed::Position(Lsn((hi << 32) | lo))
     }
 
+    // How many bytes Display has.
+    pub fn text_len(self) -> usize
+        ensures { λ r. ⌜ r ≡ length (displayOf (self .0)) ⌝ }
+    {
+        text::hex_len(self.0 / 4294967296) + 1 + text::hex_len(self.0 % 4294967296)
+    }
+
+    // The place behind Display, written at `to` where it fits.
+    pub fn place(self, out: &mut [u8], to: usize) -> usize
+        ensures { λ r. ⌜ (r, now (out .exit)) ≡ placed (now (out .entry)) to (displayOf (self .0)) ⌝ }
+    {
+        if out.len() < to {
+            return to;
+        }
+        if out.len() - to < self.text_len() {
+            return to;
+        }
+        let a = text::place_hex(out, to, self.0 / 4294967296);
+        let b = wire::store::place(out, a, b"/");
+        text::place_hex(out, b, self.0 % 4294967296)
+    }
+
     // The Rust's Display.
     pub fn display(self, out: &mut [u8]) -> Written
         ensures { λ r. ⌜ (outcome r, now (out .exit)) ≡ writing 0 (displayOf (self .0)) (now (out .entry)) ⌝ }
     {
-        let hi = self.0 / 4294967296;
-        let lo = self.0 % 4294967296;
-        let n = text::hex_len(hi) + 1 + text::hex_len(lo);
+        let n = self.text_len();
         if out.len() < n {
             return Written::Refused(Refusal::OutputTooShort);
         }
-        let a = text::place_hex(out, 0, hi);
-        let b = wire::store::place(out, a, b"/");
-        text::place_hex(out, b, lo);
+        self.place(out, 0);
         Written::Wrote(n)
     }
 }

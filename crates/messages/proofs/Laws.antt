@@ -14,7 +14,7 @@ use Rattle.wire.specs.Bytes.{pick}
 use Rattle.wire.specs.Find.{indexOf, behind}
 use Rattle.wire.specs.declared.find.Found.{Found}
 use Rattle.wire.specs.declared.find.Found.the-variants.{At, Nothing}
-use Rattle.wire.proofs.Laws.{by-test}
+use Rattle.wire.proofs.Laws.{by-test, impossible}
 use Rattle.wire.proofs.FindLaws.{nothing-behind}
 use Rattle.messages.specs.declared.Field.{Field}
 use Rattle.messages.specs.Fields.{Entry, kept, entriesFrom, entriesOf, absent, lastOf, entered, letters, fieldsOf, replaced}
@@ -88,7 +88,7 @@ distinct [] = true
 distinct (l ∷ ls) = both (absentFrom (indexOf l ls)) (distinct ls)
 
 absent-from : (f : Found) (b : Bool) → both (absentFrom f) b ≡ true → (f ≡ Nothing) × (b ≡ true)
-absent-from (At i) b e = let z : _≡_ {A = ℕ} 0 1 = cc in absurd (omega arith)
+absent-from (At i) b e = impossible cc
 absent-from Nothing b e = (refl, e)
 
 pub letters-distinct : distinct letters ≡ true
@@ -122,7 +122,7 @@ after-skip [] fs e es h = refl
 after-skip (l ∷ ls) [] e es h = refl
 after-skip (l ∷ ls) (f ∷ fs) e es h =
     by-test (eqb l (e .letter))
-    (λ t. let z : _≡_ {A = ℕ} 0 1 = cc in absurd (omega arith))
+    (λ t. impossible cc)
     (λ t.
     let n : eqb (e .letter) l ≡ false = unequal l (e .letter) t in
     rw (n, after-skip ls fs e es (nothing-behind _ (rw t at h))))

@@ -12,6 +12,7 @@ use lib.Pow.{areBytes}
 use Rattle.wire.specs.Bytes.{beBytes}
 use Rattle.wire.specs.Field.{fieldAt, unsigned}
 use Rattle.wire.proofs.FieldLaws.{field-read, field-there, signed-unsigned, unsigned-signed, unsigned-below, signed-within}
+use Rattle.wire.proofs.Laws.{impossible}
 use Rattle.pgoutput.specs.Boundary.{begin, refused, time64, beginAt, boundaryOf, beginBytes}
 use Rattle.pgoutput.specs.BoundaryLayout.{Begin-is-read, SentBegin, Read-is-Begin}
 use Rattle.pgoutput.proofs.Laws.{begin-values}
@@ -66,9 +67,9 @@ read-is-begin s final time xid b e =
     (λ t q x.
     let f = begin-fields (begin final time xid) never s 1 (sym x ∙ e) in
     accepted s t final time xid (f .0) (f .1) (f .2) b q (f .3) (f .4) (f .5) (f .6))
-    (λ t q x. let f = commit-fields (begin final time xid) never s 1 (sym x ∙ e) in let y : _≡_ {A = ℕ} 0 1 = cc (f .8) in absurd (omega arith))
-    (λ t q x. let f = message-fields (begin final time xid) never s 1 (sym x ∙ e) in let y : _≡_ {A = ℕ} 0 1 = cc (f .10) in absurd (omega arith))
-    (λ x. let y : _≡_ {A = ℕ} 0 1 = cc in absurd (omega arith))
+    (λ t q x. let f = commit-fields (begin final time xid) never s 1 (sym x ∙ e) in impossible (cc (f .8)))
+    (λ t q x. let f = message-fields (begin final time xid) never s 1 (sym x ∙ e) in impossible (cc (f .10)))
+    (λ x. impossible cc)
   where
     never : (n : ℕ) → refused n ≡ begin final time xid → ⊥
-    never n p = let y : _≡_ {A = ℕ} 0 1 = cc in omega arith
+    never n p = impossible cc

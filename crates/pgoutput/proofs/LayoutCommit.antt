@@ -12,6 +12,7 @@ use lib.Pow.{areBytes}
 use Rattle.wire.specs.Bytes.{beBytes}
 use Rattle.wire.specs.Field.{fieldAt, unsigned}
 use Rattle.wire.proofs.FieldLaws.{beBytes-one, field-read, field-there, signed-unsigned, unsigned-signed, unsigned-below, signed-within}
+use Rattle.wire.proofs.Laws.{impossible}
 use Rattle.pgoutput.specs.Boundary.{commit, refused, time64, commitAt, boundaryOf, commitBytes}
 use Rattle.pgoutput.specs.BoundaryLayout.{Commit-is-read, SentCommit, Read-is-Commit}
 use Rattle.pgoutput.proofs.Laws.{commit-values}
@@ -71,12 +72,12 @@ accepted s t position end time v a b u bytes q d e f g h =
 pub read-is-commit : Read-is-Commit
 read-is-commit s position end time bytes e =
     by-letter s
-    (λ t q x. let f = begin-fields (commit position end time) never s 1 (sym x ∙ e) in let y : _≡_ {A = ℕ} 0 1 = cc (f .6) in absurd (omega arith))
+    (λ t q x. let f = begin-fields (commit position end time) never s 1 (sym x ∙ e) in impossible (cc (f .6)))
     (λ t q x.
     let f = commit-fields (commit position end time) never s 1 (sym x ∙ e) in
     accepted s t position end time (f .0) (f .1) (f .2) (f .3) bytes q (f .4) (f .5) (f .6) (f .7) (f .8))
-    (λ t q x. let f = message-fields (commit position end time) never s 1 (sym x ∙ e) in let y : _≡_ {A = ℕ} 0 1 = cc (f .10) in absurd (omega arith))
-    (λ x. let y : _≡_ {A = ℕ} 0 1 = cc in absurd (omega arith))
+    (λ t q x. let f = message-fields (commit position end time) never s 1 (sym x ∙ e) in impossible (cc (f .10)))
+    (λ x. impossible cc)
   where
     never : (n : ℕ) → refused n ≡ commit position end time → ⊥
-    never n p = let y : _≡_ {A = ℕ} 0 1 = cc in omega arith
+    never n p = impossible cc

@@ -14,7 +14,8 @@ use Rattle.wire.specs.Field.{fieldAt}
 use Rattle.wire.specs.Find.{indexOf, NoZero}
 use Rattle.wire.specs.declared.find.Found.the-variants.{At}
 use Rattle.wire.proofs.FindLaws.{zero-at, found-at}
-use Rattle.wire.proofs.FieldLaws.{beBytes-one, field-read, field-there}
+use Rattle.wire.proofs.FieldLaws.{beBytes-one, field-read, field-there, field-within}
+use Rattle.wire.proofs.Laws.{impossible}
 use Rattle.pgoutput.specs.Boundary.{message, refused, messageAt, boundaryOf, messageBytes}
 use Rattle.pgoutput.specs.BoundaryLayout.{Message-is-read, SentMessage, Read-is-Message}
 use Rattle.pgoutput.proofs.Laws.{message-values, prefix-within}
@@ -96,28 +97,45 @@ sent t v a n len bytes e f g h b l =
       },
     )
 
-accepted : (s t : List ℕ) (flag : Bool) (position pf pl cf cl v a n len : ℕ) → areBytes s ≡ true → s ≡ 77 ∷ t → fieldAt 1 s 1 ≡ some v → fieldAt 8 s 2 ≡ some a
-    → indexOf 0 (drop 10 s) ≡ At n → fieldAt 4 s (10 + n + 1) ≡ some len → len < 2147483648 → len ≤ length s - (10 + n + 1 + 4)
-    → message (eqb (v % 2) 1) a 10 n (10 + n + 1 + 4) len ≡ message flag position pf pl cf cl
-    → (length (at s pf pl) ≡ pl) × (length (at s cf cl) ≡ cl) × SentMessage s flag position (at s pf pl) (at s cf cl)
-accepted s t flag position pf pl cf cl v a n len bytes q d e f g b l h =
+-- what is read as Message has its letter and its fields, none of them cut
+as-message : {X : Type 0} (s : List ℕ) (flag : Bool) (position pf pl cf cl : ℕ) → boundaryOf s ≡ message flag position pf pl cf cl
+    → ((t : List ℕ) (v a n len : ℕ) → s ≡ 77 ∷ t → fieldAt 1 s 1 ≡ some v → fieldAt 8 s 2 ≡ some a → indexOf 0 (drop 10 s) ≡ At n → fieldAt 4 s (10 + n + 1) ≡ some len
+    → len < 2147483648 → len ≤ length s - (10 + n + 1 + 4) → message (eqb (v % 2) 1) a 10 n (10 + n + 1 + 4) len ≡ message flag position pf pl cf cl → X)
+    → X
+as-message s flag position pf pl cf cl e go =
+    by-letter s
+    (λ t q x. let f = begin-fields (message flag position pf pl cf cl) never s 1 (sym x ∙ e) in impossible (cc (f .6)))
+    (λ t q x. let f = commit-fields (message flag position pf pl cf cl) never s 1 (sym x ∙ e) in impossible (cc (f .8)))
+    (λ t q x.
+    let f = message-fields (message flag position pf pl cf cl) never s 1 (sym x ∙ e) in
+    go t (f .0) (f .1) (f .2) (f .3) q (f .4) (f .5) (f .6) (f .7) (f .8) (f .9) (f .10))
+    (λ x. impossible cc)
+  where
+    never : (n : ℕ) → refused n ≡ message flag position pf pl cf cl → ⊥
+    never n p = impossible cc
+
+pub read-is-message : Read-is-Message
+read-is-message s flag position pf pl cf cl bytes e =
+    as-message s flag position pf pl cf cl e
+    (λ t v a n len q d f g h b l w.
     let i₀ : flag ≡ eqb (v % 2) 1 = cc in
     let i₁ : position ≡ a = cc in
     let i₂ : pf ≡ 10 = cc in
     let i₃ : pl ≡ n = cc in
     let i₄ : cf ≡ 10 + n + 1 + 4 = cc in
     let i₅ : cl ≡ len = cc in
-    rw (q, i₀, i₁, i₂, i₃, i₄, i₅) (sent t v a n len (rw q at bytes) (rw q at d) (rw q at e) (rw q at f) (rw q at g) b (rw q at l))
+    rw (q, i₀, i₁, i₂, i₃, i₄, i₅) (sent t v a n len (rw q at bytes) (rw q at d) (rw q at f) (rw q at g) (rw q at h) b (rw q at l)))
 
-pub read-is-message : Read-is-Message
-read-is-message s flag position pf pl cf cl bytes e =
-    by-letter s
-    (λ t q x. let f = begin-fields (message flag position pf pl cf cl) never s 1 (sym x ∙ e) in let y : _≡_ {A = ℕ} 0 1 = cc (f .6) in absurd (omega arith))
-    (λ t q x. let f = commit-fields (message flag position pf pl cf cl) never s 1 (sym x ∙ e) in let y : _≡_ {A = ℕ} 0 1 = cc (f .8) in absurd (omega arith))
-    (λ t q x.
-    let f = message-fields (message flag position pf pl cf cl) never s 1 (sym x ∙ e) in
-    accepted s t flag position pf pl cf cl (f .0) (f .1) (f .2) (f .3) bytes q (f .4) (f .5) (f .6) (f .7) (f .8) (f .9) (f .10))
-    (λ x. let y : _≡_ {A = ℕ} 0 1 = cc in absurd (omega arith))
-  where
-    never : (n : ℕ) → refused n ≡ message flag position pf pl cf cl → ⊥
-    never n p = let y : _≡_ {A = ℕ} 0 1 = cc in omega arith
+-- .. of any list of numbers, the parts that are named lie within it
+pub parts-within : (s : List ℕ) (flag : Bool) (position pf pl cf cl : ℕ) → boundaryOf s ≡ message flag position pf pl cf cl
+    → (pf + pl ≤ length s) × (cf + cl ≤ length s)
+parts-within s flag position pf pl cf cl e =
+    as-message s flag position pf pl cf cl e
+    (λ t v a n len q d f g h b l w.
+    let i₂ : pf ≡ 10 = cc in
+    let i₃ : pl ≡ n = cc in
+    let i₄ : cf ≡ 10 + n + 1 + 4 = cc in
+    let i₅ : cl ≡ len = cc in
+    let j : 10 + n < length s = prefix-within s 10 n g in
+    let k : 10 + n + 1 + 4 ≤ length s = field-within 4 s (10 + n + 1) len h in
+    (omega arith, omega arith))

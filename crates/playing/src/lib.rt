@@ -1,9 +1,9 @@
 // Server bytes played through a run that is already open, and the events that it hands on: what the programs `events` and `streams` do.
 pub mod spelling;
 
-ghost use mathlib.Core.Path.{_≡_};
 use lsn::Lsn;
 use moment::Moment;
+use wire::store::least;
 use worker::Event;
 use worker::Input;
 use worker::Queue;
@@ -125,10 +125,10 @@ fn told(s: Stepped, payload: &[u8], line: &mut [u8]) -> bool {
 
 fn step(p: Playing, bytes: &[u8], payload: &mut [u8], out: &mut [u8], line: &mut [u8]) -> Playing {
     let run = p.run;
-    let to = lines::least(p.to, bytes.len());
-    let from = lines::least(p.from, to);
+    let to = least(p.to, bytes.len());
+    let from = least(p.from, to);
     let s = worker::steps::step(run, input(p.ended), &bytes[from..to], payload, out);
-    let taken = lines::least(s.taken, to - from);
+    let taken = least(s.taken, to - from);
     let next = s.run;
     let go = told(s, payload, line);
     Playing {

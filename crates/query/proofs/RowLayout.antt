@@ -14,6 +14,7 @@ use borrow.Author.Tests.{le-leb, lt-leb, le-ltb, leb-true, leb-false, ltb-false}
 use Rattle.wire.specs.Bytes.{pick, at, be, beBytes}
 use Rattle.wire.specs.Field.{fieldAt}
 use Rattle.wire.proofs.FieldLaws.{field-read, part-bytes, part-there}
+use Rattle.wire.proofs.Laws.{impossible}
 use Rattle.query.specs.Row.{columnBy, columnAt, also, andThen, columnsFrom, rowBy, rowOf, nth, columnOf}
 use Rattle.query.specs.RowLayout.{Cell, null, value, cellBytes, cellsBytes, Sendable, AllSendable, Laid, Told, bytes, told, toldBy, readOf, meant, cellOf, rowBytes, Short, Laid-is-read, Read-is-laid, Sent-is-read, Part-is-within}
 use Rattle.query.specs.declared.Column.{Column}
@@ -38,7 +39,7 @@ value-read v s i t h e =
     (rw (f .0) (simp (lt-leb _ _ h, le-ltb _ _ g)), rw (f .1) (take-append-seam v t), d)
 
 told-also : (s : List ℕ) (c : Column) (r : Option (List Column)) (ts : List Told) → toldBy s r ≡ some ts → toldBy s (also c r) ≡ some (told s c ∷ ts)
-told-also s c none ts e = let z : _≡_ {A = ℕ} 0 1 = cc in absurd (omega arith)
+told-also s c none ts e = impossible cc
 told-also s c (some cs) ts e = let f : map (told s) cs ≡ ts = cc in rw f
 
 cells-read : (cells : List Cell) (s : List ℕ) (i : ℕ) (rest : List ℕ) → AllSendable cells → drop i s ≡ cellsBytes cells ++ rest
@@ -132,14 +133,14 @@ one-more c n u t ts h e r =
     }
 
 also-some : (c : Column) (r : Option (List Column)) (cs : List Column) → also c r ≡ some cs → (ds : List Column) × (r ≡ some ds) × (cs ≡ c ∷ ds)
-also-some c none cs e = let z : _≡_ {A = ℕ} 0 1 = cc in absurd (omega arith)
+also-some c none cs e = impossible cc
 also-some c (some ds) cs e = (ds, refl, (cc))
 
 -- at a column: its bytes, and what the walk reads behind it
 column-laid : (n : ℕ) (s : List ℕ) (i : ℕ) (r : Option (Column × ℕ)) (go : ℕ → Option (List Column)) (cs : List Column) → areBytes s ≡ true → Stands s i r → andThen r go ≡ some cs
     → ((k : ℕ) (ds : List Column) → go k ≡ some ds → Begins n (drop k s) (map (told s) ds)) → Begins (suc n) (drop i s) (map (told s) cs)
 unfolding cellBytes
-column-laid n s i r go cs b cut e more = let z : _≡_ {A = ℕ} 0 1 = cc in absurd (omega arith)
+column-laid n s i r go cs b cut e more = impossible cc
 column-laid n s i r go cs b (a-null h a) e more =
     let w = also-some Null (go (i + 4)) cs e in
     rw (w .2) (one-more (null (be (at s i 4))) n (drop i s) (drop (i + 4) s) (map (told s) (w .0)) (a, part-bytes s i 4 b h .1) (part-there 4 s i b h) (more (i + 4) (w .0) (w .1)))
@@ -161,7 +162,7 @@ walk-laid zero s i cs b e =
 walk-laid (suc n) s i cs b e = column-laid n s i (columnAt s i) (λ k. columnsFrom n s k) cs b (stands s i) e (λ k ds. walk-laid n s k ds b)
 
 told-some : (s : List ℕ) (r : Option (List Column)) (ts : List Told) → toldBy s r ≡ some ts → (cs : List Column) × (r ≡ some cs) × (map (told s) cs ≡ ts)
-told-some s none ts e = let z : _≡_ {A = ℕ} 0 1 = cc in absurd (omega arith)
+told-some s none ts e = impossible cc
 told-some s (some cs) ts e = (cs, refl, (cc))
 
 pub read-is-laid : Read-is-laid
@@ -184,7 +185,7 @@ read-is-laid payload ts b e = there (leb 2 (length payload)) refl e
     there : (t : Bool) → leb 2 (length payload) ≡ t → toldBy payload (rowBy payload (pick t (some n) none)) ≡ some ts
         → (cells : List Cell) × Laid payload cells × (map meant cells ≡ ts)
     there true q p = sign (leb 32768 n) refl (leb-true 2 (length payload) q) p
-    there false q p = let z : _≡_ {A = ℕ} 0 1 = cc in absurd (omega arith)
+    there false q p = impossible cc
 
 -- ---- a part stands in the payload
 

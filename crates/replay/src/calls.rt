@@ -1,9 +1,9 @@
 // The calls of a script, and their lines.
-ghost use mathlib.Core.Path.{_≡_};
 use crate::fields;
 use lsn::Lsn;
 use moment::Moment;
 use playing::spelling;
+use wire::store::least;
 use worker::Input;
 use worker::Queue;
 use worker::Run;
@@ -113,7 +113,7 @@ fn behind(from: usize, to: usize, taken: usize) -> usize {
     if to < from {
         return to;
     }
-    from + lines::least(taken, to - from)
+    from + least(taken, to - from)
 }
 
 // A step with an output that was filled for it.
@@ -126,8 +126,8 @@ fn make_step(
     line: &mut [u8],
 ) -> Play {
     let run = p.run;
-    let from = lines::least(p.taken, server.len());
-    let to = from + lines::least(fields::word(call, 18), server.len() - from);
+    let from = least(p.taken, server.len());
+    let to = from + least(fields::word(call, 18), server.len() - from);
     let s = worker::steps::step(run, input(call), &server[from..to], payload, out);
     let next = s.run;
     let k = answer(line, s, out, payload);

@@ -11,6 +11,7 @@ use error::Written;
 use metrics::Metrics;
 use playing::spelling;
 use script::Script;
+use wire::store::least;
 use worker::Run;
 
 // The longest line has the payload's bytes in hexadecimal.
@@ -124,7 +125,7 @@ fn play(
     out: &mut [u8],
     line: &mut [u8],
 ) -> bool {
-    let n = lines::least(s.output, out.len());
+    let n = least(s.output, out.len());
     lines::fill(payload, s.payload_fill);
     let p = begin(s, list, &mut out[0..n], line);
     make_calls(p, s.calls, server, payload, out, line)
@@ -145,8 +146,8 @@ fn one_script(
     if !s.good {
         return bad();
     }
-    let n = lines::least(s.server, server.len());
-    let k = lines::least(s.payload, payload.len());
+    let n = least(s.server, server.len());
+    let k = least(s.payload, payload.len());
     if play(s, list, &server[0..n], &mut payload[0..k], out, line) {
         return true;
     }

@@ -1,9 +1,9 @@
 // The slot and the publications of a script. The publications stand behind the slot as the script has them, length and bytes.
-ghost use mathlib.Core.Path.{_≡_};
 ghost use Prim.Native.Nat.{_≤_};
 ghost use lib.ListN.{length};
 use crate::fields;
 use lsn::Lsn;
+use wire::store::least;
 use worker::Opened;
 use worker::Settings;
 
@@ -109,8 +109,8 @@ fn part_at(names: &[u8], at: usize) -> Part
     ensures { λ r. ⌜ (r .from ≤ r .to) × (r .to ≤ length (now (names .entry))) ⌝ }
 {
     let left = names.len() - at;
-    let from = at + lines::least(2, left);
-    let to = from + lines::least(fields::half(names, at), names.len() - from);
+    let from = at + least(2, left);
+    let to = from + least(fields::half(names, at), names.len() - from);
     Part { from, to }
 }
 
@@ -123,7 +123,7 @@ pub(crate) fn open(
     start: Lsn,
     out: &mut [u8],
 ) -> Opened {
-    let n = lines::least(slot, names.len());
+    let n = least(slot, names.len());
     let most = publications as usize;
     let mut list = [&names[0..0]; 256];
     let mut k: usize = 0;

@@ -12,7 +12,7 @@ use lib.Dec.{eqb}
 use borrow.Author.Tests.{lt-ltb, le-ltb, eq-eqb, ne-eqb, eqb-true}
 use Rattle.wire.specs.Bytes.{be, at}
 use Rattle.wire.specs.Field.{fieldAt, signed, signedOf}
-use Rattle.wire.proofs.Laws.{by-test}
+use Rattle.wire.proofs.Laws.{by-test, impossible}
 use Rattle.wire.proofs.FieldLaws.{field-whole, be-one, signed-none}
 use Rattle.replication.specs.CopyData.{Said, w, k, refused, xlogOf, keepAliveOf, copyDataOf}
 
@@ -24,7 +24,7 @@ time : (n half : ℕ) (s : List ℕ) (i : ℕ) (z : ℤ) → i + n ≤ length s 
 time n half s i z h e = let q : some z ≡ some (signed half (be (at s i n))) = rw (field-whole n s i h) at e in cc
 
 pub not-cut : (n : ℕ) (s : List ℕ) (i : ℕ) → i + n ≤ length s → none ≡ fieldAt n s i → ⊥
-not-cut n s i h e = let z : _≡_ {A = ℕ} 0 1 = cc (field-whole n s i h) in omega arith
+not-cut n s i h e = impossible (cc (field-whole n s i h))
 
 pub time-not-cut : (n half : ℕ) (s : List ℕ) (i : ℕ) → i + n ≤ length s → none ≡ signedOf half (fieldAt n s i) → ⊥
 time-not-cut n half s i h e = not-cut n s i h (sym (signed-none half (fieldAt n s i) (sym e)))

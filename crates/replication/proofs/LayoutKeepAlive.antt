@@ -13,7 +13,7 @@ use lib.Pow.{areBytes}
 use borrow.Author.Tests.{le-ltb, ltb-false}
 use Rattle.wire.specs.Bytes.{beBytes}
 use Rattle.wire.specs.Field.{unsigned}
-use Rattle.wire.proofs.Laws.{length-beBytes, by-test}
+use Rattle.wire.proofs.Laws.{length-beBytes, by-test, impossible}
 use Rattle.wire.proofs.FieldLaws.{part-read, part-there, part-bytes, first-byte, byte-at, signed-unsigned, unsigned-signed, unsigned-below, signed-within}
 use Rattle.replication.specs.CopyData.{k, int64, time64, xlogOf, keepAliveOf, copyDataOf, keepAlive}
 use Rattle.replication.specs.CopyDataLayout.{KeepAlive-is-read, SentKeepAlive, Read-is-KeepAlive}
@@ -42,7 +42,7 @@ fields : (s : List ℕ) (a : ℕ) (z : ℤ) (r : Bool) → keepAliveOf s ≡ k a
     → (17 ≤ length s) × (int64 s 0 ≡ a) × (time64 s 8 ≡ z) × (not (eqb (getD s 16 0) 0) ≡ r)
 fields s a z r e =
     by-test (ltb (length s) 17)
-    (λ t. let x : _≡_ {A = ℕ} 0 1 = cc in absurd (omega arith))
+    (λ t. impossible cc)
     (λ t.
     let q : k (int64 s 0) (time64 s 8) (not (eqb (getD s 16 0) 0)) ≡ k a z r = rw t at e in
     (ltb-false _ _ t, cc, cc, cc))
@@ -50,8 +50,8 @@ fields s a z r e =
 no-xlog-data : (s : List ℕ) (a : ℕ) (z : ℤ) (r : Bool) → xlogOf s ≡ k a z r → ⊥
 no-xlog-data s a z r e =
     by-test (ltb (length s) 24)
-    (λ t. let x : _≡_ {A = ℕ} 0 1 = cc in omega arith)
-    (λ t. let x : _≡_ {A = ℕ} 0 1 = cc in omega arith)
+    (λ t. impossible cc)
+    (λ t. impossible cc)
 
 -- the two fields, the reply byte and the surplus, of a body that is long enough
 body : (s : List ℕ) → areBytes s ≡ true → 17 ≤ length s
@@ -83,4 +83,4 @@ read-is-keep-alive payload end time reply e p =
     by-letter payload
     (λ s q x. absurd (no-xlog-data s end time reply (sym x ∙ p)))
     (λ s q x. rw q (sent s end time reply (first-byte 107 s (rw q at e) .1) (sym x ∙ p)))
-    (λ n x. let y : _≡_ {A = ℕ} 0 1 = cc in absurd (omega arith))
+    (λ n x. impossible cc)

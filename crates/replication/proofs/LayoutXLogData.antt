@@ -13,7 +13,7 @@ use lib.Pow.{areBytes}
 use borrow.Author.Tests.{le-ltb, ltb-false}
 use Rattle.wire.specs.Bytes.{at, beBytes}
 use Rattle.wire.specs.Field.{unsigned}
-use Rattle.wire.proofs.Laws.{length-beBytes, by-test}
+use Rattle.wire.proofs.Laws.{length-beBytes, by-test, impossible}
 use Rattle.wire.proofs.FieldLaws.{part-read, part-there, part-bytes, first-byte, signed-unsigned, unsigned-signed, unsigned-below, signed-within}
 use Rattle.replication.specs.CopyData.{w, int64, time64, xlogOf, keepAliveOf, copyDataOf, xlogData}
 use Rattle.replication.proofs.Laws.{by-letter}
@@ -45,7 +45,7 @@ fields : (s : List ℕ) (a b : ℕ) (z : ℤ) (from len : ℕ) → xlogOf s ≡ 
     → (24 ≤ length s) × (int64 s 0 ≡ a) × (int64 s 8 ≡ b) × (time64 s 16 ≡ z) × (25 ≡ from) × (length s - 24 ≡ len)
 fields s a b z from len e =
     by-test (ltb (length s) 24)
-    (λ t. let x : _≡_ {A = ℕ} 0 1 = cc in absurd (omega arith))
+    (λ t. impossible cc)
     (λ t.
     let q : w (int64 s 0) (int64 s 8) (time64 s 16) 25 (length s - 24) ≡ w a b z from len = rw t at e in
     (ltb-false _ _ t, cc, cc, cc, cc, cc))
@@ -53,8 +53,8 @@ fields s a b z from len e =
 no-keep-alive : (s : List ℕ) (a b : ℕ) (z : ℤ) (from len : ℕ) → keepAliveOf s ≡ w a b z from len → ⊥
 no-keep-alive s a b z from len e =
     by-test (ltb (length s) 17)
-    (λ t. let x : _≡_ {A = ℕ} 0 1 = cc in omega arith)
-    (λ t. let x : _≡_ {A = ℕ} 0 1 = cc in omega arith)
+    (λ t. impossible cc)
+    (λ t. impossible cc)
 
 -- the three fields and the data, of a body that is long enough
 body : (s : List ℕ) → areBytes s ≡ true → 24 ≤ length s
@@ -85,4 +85,12 @@ read-is-xlog-data payload start end time from len e p =
     by-letter payload
     (λ s q x. rw q (sent s start end time from len (first-byte 119 s (rw q at e) .1) (sym x ∙ p)))
     (λ s q x. absurd (no-keep-alive s start end time from len (sym x ∙ p)))
-    (λ n x. let y : _≡_ {A = ℕ} 0 1 = cc in absurd (omega arith))
+    (λ n x. impossible cc)
+
+-- .. of any list of numbers, the data that are named lie within it
+pub data-within : (payload : List ℕ) (start end : ℕ) (time : ℤ) (from len : ℕ) → copyDataOf payload ≡ w start end time from len → from + len ≤ length payload
+data-within payload start end time from len p =
+    by-letter payload
+    (λ s q x. let f = fields s start end time from len (sym x ∙ p) in rw q (omega (arith, f .0, f .4, f .5)))
+    (λ s q x. absurd (no-keep-alive s start end time from len (sym x ∙ p)))
+    (λ n x. impossible cc)

@@ -6,7 +6,7 @@ use mathlib.Core.Bool.{Bool, true, false}
 use mathlib.Core.Path.{_≡_, refl, sym, _∙_}
 use lib.Dec.{ltb, leb, eqb}
 use Rattle.wire.specs.Bytes.{pick}
-use Rattle.wire.proofs.Laws.{by-test}
+use Rattle.wire.proofs.Laws.{by-test, impossible}
 use Rattle.moment.specs.declared.Moment.{Moment}
 use Rattle.moment.specs.Moment.{inRange, sinceOf}
 use Rattle.worker.specs.declared.Queue.{Queue}
@@ -30,7 +30,7 @@ first true b h = refl
 first false b h = sym h
 
 second : (a b : Bool) → pick a false b ≡ true → b ≡ true
-second true b h = let z : _≡_ {A = ℕ} 0 1 = cc in absurd (omega arith)
+second true b h = impossible cc
 second false b h = h
 
 -- an accepted moment is a moment

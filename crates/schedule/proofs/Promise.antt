@@ -9,6 +9,7 @@ use lib.ListN.{length, getD, take}
 use lib.IntN.{ℤ}
 use lib.Dec.{ltb, leb, eqb}
 use Rattle.wire.specs.Bytes.{pick, at}
+use Rattle.wire.proofs.Laws.{impossible}
 use Rattle.framing.specs.declared.MessageReader.{MessageReader}
 use Rattle.framing.specs.Read.{Result, fresh, limitOf}
 use Rattle.framing.specs.Read as R
@@ -29,8 +30,8 @@ use Rattle.worker.specs.declared.Run.{Run}
 use Rattle.worker.specs.declared.State.{State}
 use Rattle.worker.specs.declared.State.the-variants.{Opening, Turn, Drain, Reading, Waiting, Handling, Offering, Ended}
 use Rattle.worker.specs.Run.{lsn, withState, wholeOf, withDrained, withMetrics, withReader, withWhole, accepted}
-use Rattle.worker.specs.Step.{Lent, Outcome, back, behindEvent, boundaryBy, copyDataBy, doneWith, drainOf, endedWith, handing, handlingOf, having, idleOf, intervalPassed, isEnded, isStoppedAt, moved, offeringOf, offers, openingBy, openingOf, readingBy, readingOf, refusedWith, stallEnded, stalledOf, stalls, stateOf, statusDue, statusOf, stepOf, turnOf, waitingOf, waits}
-use Rattle.schedule.specs.NextStep.{Next, atOnce, from, onInput, never, beyond, byClock, idleMoment, isWhole, nextStepOf, offeringNext, openingNext, readingNext, stateNext, statusMoment, waitingNext}
+use Rattle.worker.specs.Step.{Lent, Outcome, back, behindEvent, boundaryBy, copyDataBy, doneWith, drainOf, endedWith, handing, handlingOf, having, idleOf, intervalPassed, isEnded, isStoppedAt, moved, offeringOf, offers, openingBy, openingOf, readingBy, readingOf, refusedWith, stallEnded, stalledOf, stalls, stateOf, statusDue, statusOf, stepOf, turnOf, waitingOf}
+use Rattle.schedule.specs.NextStep.{Next, atOnce, onInput, never, beyond, byClock, idleMoment, isWhole, nextStepOf, offeringNext, openingNext, readingNext, stateNext, statusMoment, waitingNext}
 use Rattle.schedule.specs.Promise.{Moves, leaves, writes, passes, Stays, Not-both, Promised, quiet, noByte, Next-step-promised, Never-is-ended, Ended-is-never}
 use Rattle.schedule.proofs.Clock.{Timed, by-clock, in-range, one-clock, passed-by, two-clocks}
 use Rattle.schedule.proofs.Read.{quietRead, read-quietly}
@@ -39,10 +40,6 @@ use Rattle.schedule.proofs.Read.{quietRead, read-quietly}
 either : {r : Run} (b : Bool) {x y : Outcome} → Moves r x → Moves r y → Moves r (pick b x y)
 either true hx hy = hx
 either false hx hy = hy
-
--- no two cases of a type are the same: a contradiction that cc finds
-differ : _≡_ {A = ℕ} 0 1 → ⊥
-differ z = omega arith
 
 pub not-both : Not-both
 not-both r n q o (leaves f) s = f (s .state-kept)
@@ -74,13 +71,13 @@ module _ (r : Run) (p out : List ℕ) (time : ℤ) (m : Moment) where
 
   turn-moves : (q : Queue) → r .state ≡ Turn → Moves r (turnOf now (i q) l)
   unfolding turnOf
-  turn-moves q h = either (statusDue now) (status-moves q false Drain (withDrained 0 now)) (leaves (λ e. differ (cc)))
+  turn-moves q h = either (statusDue now) (status-moves q false Drain (withDrained 0 now)) (leaves (λ e. impossible cc))
 
   drain-moves : (q : Queue) → r .state ≡ Drain → Moves r (drainOf now (i q) l)
   unfolding drainOf
   drain-moves q h =
-      either (pick (ltb (r .drained) 256) false false) (leaves (λ e. differ (cc)))
-      (either (eqb (r .drained) 0) (leaves (λ e. differ (cc))) (leaves (λ e. differ (cc))))
+      either (pick (ltb (r .drained) 256) false false) (leaves (λ e. impossible cc))
+      (either (eqb (r .drained) 0) (leaves (λ e. impossible cc)) (leaves (λ e. impossible cc)))
 
   -- back to Drain, or to Turn after a wait
   back-moves : (s : State) (e : Event) (wait : Bool) (x : Run) → r .state ≡ s → (Turn ≡ s → ⊥) → (Drain ≡ s → ⊥)
@@ -90,25 +87,25 @@ module _ (r : Run) (p out : List ℕ) (time : ℤ) (m : Moment) where
 
   boundary-moves : (a : B.Said) (start end : ℕ) (t : ℤ) (place len : ℕ) (x : Run) → r .state ≡ Handling
       → Moves r (boundaryBy a start end t place len x l)
-  boundary-moves (B.begin final t xid) start end wt place len x h = leaves (λ e. differ (cc))
-  boundary-moves (B.commit c ce t) start end wt place len x h = leaves (λ e. differ (cc))
-  boundary-moves (B.message flag c pf pl cf cl) start end wt place len x h = leaves (λ e. differ (cc))
-  boundary-moves B.no-boundary start end wt place len x h = leaves (λ e. differ (cc))
-  boundary-moves (B.refused n) start end wt place len x h = leaves (λ e. differ (cc))
+  boundary-moves (B.begin final t xid) start end wt place len x h = leaves (λ e. impossible cc)
+  boundary-moves (B.commit c ce t) start end wt place len x h = leaves (λ e. impossible cc)
+  boundary-moves (B.message flag c pf pl cf cl) start end wt place len x h = leaves (λ e. impossible cc)
+  boundary-moves B.no-boundary start end wt place len x h = leaves (λ e. impossible cc)
+  boundary-moves (B.refused n) start end wt place len x h = leaves (λ e. impossible cc)
 
   copy-data-moves : (q : Queue) (a : C.Said) (x : Run) → r .state ≡ Handling → Moves r (copyDataBy a x (i q) l)
   unfolding statusOf
-  copy-data-moves q (C.k end t reply) x h = either reply (writes (omega arith)) (leaves (λ e. differ (cc)))
+  copy-data-moves q (C.k end t reply) x h = either reply (writes (omega arith)) (leaves (λ e. impossible cc))
   copy-data-moves q (C.w start end t place len) x h =
       boundary-moves (boundaryOf (at p place len)) start end t place len (withMetrics (withEnd (x .metrics) (lsn end)) x) h
-  copy-data-moves q (C.refused n) x h = leaves (λ e. differ (cc))
+  copy-data-moves q (C.refused n) x h = leaves (λ e. impossible cc)
 
   handling-moves : (q : Queue) → r .state ≡ Handling → Moves r (handlingOf now (i q) l)
   unfolding handlingOf
   handling-moves q h =
-      either (isError (r .whole .tag)) (leaves (λ e. differ (cc)))
+      either (isError (r .whole .tag)) (leaves (λ e. impossible cc))
       (either (isCopyData (r .whole .tag)) (copy-data-moves q (copyDataOf (take (r .whole .len) p)) now h)
-      (back-moves Handling Nothing (r .whole .«in_wait») now h (λ e. differ (cc)) (λ e. differ (cc))))
+      (back-moves Handling Nothing (r .whole .«in_wait») now h (λ e. impossible cc) (λ e. impossible cc)))
 
   -- ---- what stays
 
@@ -151,7 +148,7 @@ module _ (r : Run) (p out : List ℕ) (time : ℤ) (m : Moment) where
       waits-by q (r .pending) (intervalPassed now) (r .progress .signalled) (statusMoment r) (idleMoment r) k
       (passed-by (r .settings .«status_interval») (r .status .at) m k)
       (status-moves q false Turn now)
-      (leaves (λ e. differ (cc)))
+      (leaves (λ e. impossible cc))
       (idle-timed q h k)
 
   -- ---- Offering
@@ -159,8 +156,8 @@ module _ (r : Run) (p out : List ℕ) (time : ℤ) (m : Moment) where
   -- another event follows, or none
   behind-moves : (stops : Bool) (e : Event) (x : Run) → r .state ≡ Offering → isStoppedAt (r .offer .event) ≡ false
       → Moves r (handing e (pick stops (offers (StoppedAt (x .offer .reached)) false (lsn 0) x) (back x)) l)
-  behind-moves true e x h k = passes (λ j. let z : true ≡ isStoppedAt (r .offer .event) = ap isStoppedAt j in differ (cc))
-  behind-moves false e x h k = back-moves Offering e (x .whole .«in_wait») x h (λ j. differ (cc)) (λ j. differ (cc))
+  behind-moves true e x h k = passes (λ j. let z : true ≡ isStoppedAt (r .offer .event) = ap isStoppedAt j in impossible cc)
+  behind-moves false e x h k = back-moves Offering e (x .whole .«in_wait») x h (λ j. impossible cc) (λ j. impossible cc)
 
   -- the event is handed on or dropped
   next-by : (stopped : Bool) (e : Event) (x : Run) → r .state ≡ Offering → isStoppedAt (r .offer .event) ≡ stopped
@@ -196,8 +193,8 @@ module _ (r : Run) (p out : List ℕ) (time : ℤ) (m : Moment) where
       → let x : Result = pick refused (R.refused 7, r .reader, 0, p) (pick whole (R.whole tag n, fresh, 0, p) (R.more, r .reader, 0, p)) in
       Says q (pick refused atOnce (pick whole atOnce onInput)) (having (x .2) (x .3) (readingBy (x .0) (withReader (x .1) now) l))
   unfolding stateNext
-  reading-by q true whole tag n h = leaves (λ e. differ (cc))
-  reading-by q false true tag n h = leaves (λ e. differ (cc))
+  reading-by q true whole tag n h = leaves (λ e. impossible cc)
+  reading-by q false true tag n h = leaves (λ e. impossible cc)
   reading-by q false false tag n h = stays q Reading now h refl refl refl
 
   reading-promised : (q : Queue) → r .state ≡ Reading → limitOf (r .settings .«max_message_size») ≤ length p
@@ -216,8 +213,8 @@ module _ (r : Run) (p out : List ℕ) (time : ℤ) (m : Moment) where
       → Says q (pick both atOnce (pick error atOnce onInput))
       (having 0 p (pick both (moved (withState Turn (withReader fresh now)) l) (pick error (endedWith 19 x l) (moved (withReader fresh now) l))))
   unfolding stateNext openingNext isWhole
-  opening-whole q true error x h answer = leaves (λ e. differ (cc))
-  opening-whole q false true x h answer = leaves (λ e. differ (cc))
+  opening-whole q true error x h answer = leaves (λ e. impossible cc)
+  opening-whole q false true x h answer = leaves (λ e. impossible cc)
   opening-whole q false false x h answer = stays q Opening (withReader fresh now) h refl refl (sym answer)
 
   opening-by : (q : Queue) (refused whole : Bool) (tag n : ℕ) → r .state ≡ Opening
@@ -226,7 +223,7 @@ module _ (r : Run) (p out : List ℕ) (time : ℤ) (m : Moment) where
       openingNext (r .reader) (length p) ≡ answers
       → Says q answers (having (x .2) (x .3) (openingBy (x .0) (withReader (x .1) now) l))
   unfolding stateNext
-  opening-by q true whole tag n h answer = leaves (λ e. differ (cc))
+  opening-by q true whole tag n h answer = leaves (λ e. impossible cc)
   opening-by q false true tag n h answer =
       opening-whole q (isCopyBothResponse tag) (isError tag) (withWhole (wholeOf tag n false) (withReader fresh now)) h answer
   opening-by q false false tag n h answer = stays q Opening now h refl refl refl
@@ -266,14 +263,14 @@ not-never true hx hy = hx
 not-never false hx hy = hy
 
 at-once : atOnce ≡ never → ⊥
-at-once h = differ (cc)
+at-once h = impossible cc
 
 on-input : onInput ≡ never → ⊥
-on-input h = differ (cc)
+on-input h = impossible cc
 
 clock-not-never : (due : ℕ) → byClock due ≡ never → ⊥
 unfolding byClock
-clock-not-never due = not-never (eqb due 0) at-once (not-never (ltb due beyond) (λ h. differ (cc)) on-input)
+clock-not-never due = not-never (eqb due 0) at-once (not-never (ltb due beyond) (λ h. impossible cc) on-input)
 
 state-not-never : (s : State) (r : Run) (n : ℕ) (q : Queue) → stateNext s r n q ≡ never → s ≡ Ended
 unfolding stateNext openingNext readingNext waitingNext offeringNext

@@ -5,6 +5,7 @@ ghost use lib.ListN.{getD};
 ghost use Rattle.schedule.specs.NextStep.{nextBy, dueOf, byClock, isWhole, openingNext, readingNext, waitingNext, offeringNext, nextStepOf};
 use framing::MessageReader;
 use moment::Moment;
+use wire::store::least;
 use worker::Queue;
 use worker::Run;
 use worker::State;
@@ -22,12 +23,6 @@ pub enum NextStep {
 }
 
 fn sooner(a: u64, b: u64) -> u64
-    ensures { λ r. ⌜ r ≡ min a b ⌝ }
-{
-    if a < b { a } else { b }
-}
-
-fn lesser(a: usize, b: usize) -> usize
     ensures { λ r. ⌜ r ≡ min a b ⌝ }
 {
     if a < b { a } else { b }
@@ -75,7 +70,7 @@ fn is_whole(reader: MessageReader, payload_len: usize) -> bool
     if filled < 5 {
         return false;
     }
-    lesser(reader.payload_len, payload_len) <= filled - 5
+    least(reader.payload_len, payload_len) <= filled - 5
 }
 
 fn opening(reader: MessageReader, payload_len: usize) -> NextStep

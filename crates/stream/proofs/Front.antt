@@ -8,7 +8,7 @@ use lib.ListN.{length, take, drop, getD, length-drop}
 use lib.Seq.{take-append-le, drop-append-le}
 use lib.Dec.{ltb, leb}
 use borrow.Author.Tests.{le-leb, lt-leb, lt-ltb, le-ltb, leb-true, leb-false, ltb-true, ltb-false}
-use Rattle.wire.specs.Bytes.{pick, at, be}
+use Rattle.wire.specs.Bytes.{pick, be}
 use Rattle.stream.specs.Message.{Front, in-header, in-payload, bad-length, too-large, whole, lengthField, frontBy, frontOf}
 
 -- ---- from the bytes to the front

@@ -6,6 +6,7 @@ use native.Mathlib.Omega.{arith}
 use lib.ListN.{length, take, drop, getD, length-append, length-drop, List·getD-append}
 use lib.Seq.{take-append-le, drop-append-le}
 use Rattle.wire.specs.Bytes.{at}
+use Rattle.wire.proofs.Laws.{impossible}
 use Rattle.stream.specs.Message.{Front, in-header, in-payload, bad-length, too-large, whole, lengthField, frontOf}
 use Rattle.stream.specs.Cut.{Item, message, refused, Ending, header, payload, over, Cut, behind, ended, cutBy, cutFrom, cutOf}
 use Rattle.stream.proofs.Front.{Shows, cut-header, negative, short, large, cut-payload, complete, shows, header-front, negative-front, short-front, over-front, whole-front, length-field-append}
@@ -160,10 +161,10 @@ pub over-kept : (limit : ℕ) (s v : List ℕ) → frontOf limit s ≡ too-large
 over-kept limit s v e = by (frontOf limit s) e (shows limit s)
   where
     by : (f : Front) → f ≡ too-large → Shows limit s f → (5 ≤ length s) × (frontOf limit (s ++ v) ≡ too-large)
-    by in-header q w = let z : _≡_ {A = ℕ} 0 1 = cc in absurd (omega arith)
-    by in-payload q w = let z : _≡_ {A = ℕ} 0 1 = cc in absurd (omega arith)
-    by bad-length q w = let z : _≡_ {A = ℕ} 0 1 = cc in absurd (omega arith)
-    by (whole tag n) q w = let z : _≡_ {A = ℕ} 0 1 = cc in absurd (omega arith)
+    by in-header q w = impossible cc
+    by in-payload q w = impossible cc
+    by bad-length q w = impossible cc
+    by (whole tag n) q w = impossible cc
     by too-large q (large h a b c) =
         let f : lengthField (s ++ v) ≡ lengthField s = length-field-append s v h in
         let l : 5 ≤ length (s ++ v) = rw length-append (omega arith) in

@@ -14,7 +14,7 @@ use lib.Signed.{leZ}
 use borrow.Author.Tests.{lt-ltb, le-ltb}
 use Rattle.wire.specs.Bytes.{put}
 use Rattle.wire.proofs.Signed.{above}
-use Rattle.wire.proofs.Laws.{put-set, put-one, put-two, put-next, put-none, by-test}
+use Rattle.wire.proofs.Laws.{put-set, put-one, put-two, put-next, put-none, by-test, impossible}
 use Rattle.text.specs.Numeral.{glyphOf, numeral, decimalText, signedText, lowerOf, hexBytes}
 
 -- one digit less
@@ -113,10 +113,10 @@ bytes-end d s at i h = rw (drop-of-length-le s h) (put-none d at)
 
 pub text-positive : (z : ℤ) → leZ (pos 0) z ≡ true → signedText z ≡ decimalText (natAbs z)
 text-positive (pos n) t = refl
-text-positive (negsuc n) t = let q : _≡_ {A = ℕ} 0 1 = cc in absurd (omega arith)
+text-positive (negsuc n) t = impossible cc
 
 pub text-negative : (z : ℤ) (n : ℕ) → leZ (pos 0) z ≡ false → negsuc 0 -ℤ z ≡ pos n → signedText z ≡ 45 ∷ decimalText (n + 1)
-text-negative (pos k) n t e = let q : _≡_ {A = ℕ} 0 1 = cc (leb·zero k) in absurd (omega arith)
+text-negative (pos k) n t e = impossible (cc (leb·zero k))
 text-negative (negsuc k) n t e =
     let q : k ≡ n = cc (above k) in
     rw q

@@ -3,6 +3,7 @@ ghost use mathlib.Core.Path.{_≡_};
 ghost use lib.ListN.{length};
 use error::Written;
 use lsn::Lsn;
+use wire::store::least;
 use worker::Settings;
 
 // One byte more than the inputs of a call may have together.
@@ -50,10 +51,10 @@ fn tried(interval: u64, slot: &[u8], publications: &[&[u8]], out: &mut [u8]) {
 
 // A slot of that many bytes, and that many publications of three bytes each, at most two.
 fn names_of(interval: u64, bytes: &[u8], slot: usize, publications: usize, out: &mut [u8]) {
-    let n = lines::least(slot, bytes.len());
-    let three = lines::least(3, bytes.len());
+    let n = least(slot, bytes.len());
+    let three = least(3, bytes.len());
     let list = [&bytes[0..three]; 2];
-    let k = lines::least(publications, 2);
+    let k = least(publications, 2);
     tried(interval, &bytes[0..n], &list[0..k], out);
 }
 

@@ -8,8 +8,8 @@ use Prim.Native.Nat.{ℕ, zero, suc, _+_, _*_, _-_, _/_, _%_, _^_, _≤_, _<_}
 use native.Mathlib.Nat.{div-lt-iff-lt-mul, div-add-mod', mod-eq-of-lt, add-zero, pow-suc}
 use native.Mathlib.Numerals.{add-one}
 use native.Mathlib.Omega.{arith}
-use lib.ListN.{length, take, drop, getD, length-append, length-drop, take-append-drop}
-use lib.Seq.{take-suc, take-at, take-length, drop-at, drop-drop, getD-drop}
+use lib.ListN.{length, drop, getD, length-append, length-drop, take-append-drop}
+use lib.Seq.{take-suc, take-at, drop-at, drop-drop, getD-drop}
 use lib.IntN.{ℤ, pos, negsuc}
 use lib.Signed.{mag}
 use lib.Dec.{leb, ltb}
@@ -17,7 +17,7 @@ use lib.Pow.{areBytes}
 use borrow.Author.Tests.{lt-ltb, le-ltb, le-leb, ltb-true, ltb-false, leb-true}
 use Rattle.wire.specs.Bytes.{be, beFrom, beBytes, at}
 use Rattle.wire.specs.Field.{fieldAt, signed, unsigned, signedOf}
-use Rattle.wire.proofs.Laws.{be-snoc, be-more, be-none, length-beBytes, more, by-test}
+use Rattle.wire.proofs.Laws.{be-snoc, be-more, be-none, length-beBytes, more, by-test, impossible}
 
 -- ---- a number and the bytes that spell it
 
@@ -48,7 +48,7 @@ be-one s i h =
 
 both : (a b : Bool) → (a && b) ≡ true → (a ≡ true) × (b ≡ true)
 both true b e = (refl, e)
-both false b e = let z : _≡_ {A = ℕ} 0 1 = cc in absurd (omega arith)
+both false b e = impossible cc
 
 pub first-byte : (x : ℕ) (s : List ℕ) → areBytes (x ∷ s) ≡ true → (x < 256) × (areBytes s ≡ true)
 first-byte x s e = let p = both (ltb x 256) (areBytes s) e in (ltb-true x 256 (p .0), p .1)
@@ -71,11 +71,6 @@ part-bytes s i (suc n) e h =
     let t : at s i (n + 1) ≡ at s i n ++ (getD s (i + n) 0 ∷ []) = rw (add-one, take-suc (drop i s) n 0 k, getD-drop) in
     rw (← add-one n, be-more s i n l, t)
     (beBytes-more n (be (at s i n)) (getD s (i + n) 0) b ∙ ap (λ (x : List ℕ). x ++ (getD s (i + n) 0 ∷ [])) (r .0), more n (r .1) b)
-
-pub beBytes-be : (s : List ℕ) (n : ℕ) → areBytes s ≡ true → length s ≡ n → beBytes n (be s) ≡ s
-beBytes-be s n e l =
-    let t : take n s ≡ s = rw (← l, take-length) in
-    rw t at (part-bytes s 0 n e (omega arith) .0)
 
 -- ---- a signed number and the value that stands for it
 
@@ -115,7 +110,7 @@ unfolding fieldAt
 field-within n s i v e =
     by-test (leb (i + n) (length s))
     (λ t. leb-true _ _ t)
-    (λ t. let z : _≡_ {A = ℕ} 0 1 = cc in absurd (omega arith))
+    (λ t. impossible cc)
 
 pub field-whole : (n : ℕ) (s : List ℕ) (i : ℕ) → i + n ≤ length s → fieldAt n s i ≡ some (be (at s i n))
 unfolding fieldAt
@@ -123,12 +118,12 @@ field-whole n s i h = simp (le-leb _ _ h)
 
 -- a signed field is there where the unsigned one is
 pub signed-some : (half : ℕ) (o : Option ℕ) (z : ℤ) → signedOf half o ≡ some z → (v : ℕ) × (o ≡ some v) × (signed half v ≡ z)
-signed-some half none z e = let w : _≡_ {A = ℕ} 0 1 = cc in absurd (omega arith)
+signed-some half none z e = impossible cc
 signed-some half (some v) z e = (v, refl, cc)
 
 pub signed-none : (half : ℕ) (o : Option ℕ) → signedOf half o ≡ none → o ≡ none
 signed-none half none e = refl
-signed-none half (some v) e = let w : _≡_ {A = ℕ} 0 1 = cc in absurd (omega arith)
+signed-none half (some v) e = impossible cc
 
 -- ---- a field at its place: what the list holds from there on is the field's bytes and the rest
 

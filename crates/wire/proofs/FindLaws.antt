@@ -10,20 +10,20 @@ use borrow.Author.Tests.{eqb-true, eqb-false, ne-eqb}
 use Rattle.wire.specs.Find.{indexOf, behind, NoZero}
 use Rattle.wire.specs.declared.find.Found.{Found}
 use Rattle.wire.specs.declared.find.Found.the-variants.{At, Nothing}
-use Rattle.wire.proofs.Laws.{by-test}
+use Rattle.wire.proofs.Laws.{by-test, impossible}
 
 pub found-behind : (f : Found) (k : ℕ) → behind 1 f ≡ At k → (j : ℕ) × (f ≡ At j) × (k ≡ suc j)
 found-behind (At j) k e = let h : 1 + j ≡ k = cc in (j, refl, sym h ∙ one-add j)
-found-behind Nothing k e = let z : _≡_ {A = ℕ} 0 1 = cc in absurd (omega arith)
+found-behind Nothing k e = impossible cc
 
 pub nothing-behind : (f : Found) → behind 1 f ≡ Nothing → f ≡ Nothing
-nothing-behind (At j) e = let z : _≡_ {A = ℕ} 0 1 = cc in absurd (omega arith)
+nothing-behind (At j) e = impossible cc
 nothing-behind Nothing e = refl
 
 -- what is found stands in the list
 pub found-below : (b : ℕ) (s : List ℕ) (i : ℕ) → indexOf b s ≡ At i → i < length s
 unfolding indexOf
-found-below b [] i e = let z : _≡_ {A = ℕ} 0 1 = cc in absurd (omega arith)
+found-below b [] i e = impossible cc
 found-below b (x ∷ xs) i e =
     by-test (eqb x b)
     (λ t. let z : i ≡ 0 = cc in omega arith)
@@ -49,12 +49,12 @@ unfolding indexOf
 all-passed [] e = tt
 all-passed (b ∷ s) e =
     by-test (eqb b 0)
-    (λ t. let z : _≡_ {A = ℕ} 0 1 = cc in absurd (omega arith))
+    (λ t. impossible cc)
     (λ t. (eqb-false b 0 t, all-passed s (nothing-behind (indexOf 0 s) (rw t at e))))
 
 pub found-at : (s : List ℕ) (k : ℕ) → indexOf 0 s ≡ At k → NoZero (take k s) × (s ≡ take k s ++ (0 ∷ drop (k + 1) s))
 unfolding indexOf
-found-at [] k e = let z : _≡_ {A = ℕ} 0 1 = cc in absurd (omega arith)
+found-at [] k e = impossible cc
 found-at (b ∷ s) k e =
     by-test (eqb b 0)
     (λ t.

@@ -6,7 +6,7 @@ use native.Mathlib.Nat.{le-of-suc-le-suc, not-suc-le-zero, add-zero, pow-suc, lt
 use native.Mathlib.Numerals.{add-one}
 use native.Mathlib.Omega.{arith}
 use lib.ListN.{length, take, drop, getD, set, length-append, length-take, length-drop, length-set, take-append-drop, drop-of-length-le}
-use lib.Seq.{take-suc, getD-drop, drop-drop, take-all, take-set-le, take-length, drop-cons, set-split, take-at, drop-append-add}
+use lib.Seq.{take-suc, take-take, getD-drop, drop-drop, take-all, take-set-le, take-length, drop-cons, set-split, take-at, drop-append-add}
 use lib.Dec.{eqb}
 use mathlib.Core.Bool.{Bool, true, false}
 use borrow.Author.Tests.{eq-eqb, ne-eqb, le-leb, lt-leb}
@@ -115,6 +115,16 @@ lent-tail d ys src a k h e =
 pub tail-whole : (s : List ℕ) (a : ℕ) → take (length s - a) (drop a s) ≡ drop a s
 tail-whole s a = take-all (length s - a) (drop a s) (simp length-drop (omega arith))
 
+-- parts of parts are parts
+pub part-of-front : (n i k : ℕ) (s : List ℕ) → i + k ≤ n → at (take n s) i k ≡ at s i k
+part-of-front n zero k s h = take-take k n s (omega arith)
+part-of-front zero (suc i) k s h = absurd (omega arith)
+part-of-front (suc n) (suc i) k [] h = refl
+part-of-front (suc n) (suc i) k (x ∷ s) h = part-of-front n i k s (omega arith)
+
+pub part-of-part : (s : List ℕ) (i n j k : ℕ) → j + k ≤ n → at (at s i n) j k ≡ at s (i + j) k
+part-of-part s i n j k h = part-of-front n j k (drop i s) h ∙ ap (take k) (drop-drop j i s)
+
 -- two writes, the second where the first ends
 pub put-next : (d a b : List ℕ) (i n : ℕ) → length a ≡ n → i + n ≤ length d → put (put d i a) (i + n) b ≡ put d i (a ++ b)
 unfolding put
@@ -198,3 +208,7 @@ put-two d i a b h =
 pub by-test : {X : Type 0} (b : Bool) → (b ≡ true → X) → (b ≡ false → X) → X
 by-test true f g = f refl
 by-test false f g = g refl
+
+-- two cases of a type never meet: what `cc` finds of them
+pub impossible : {X : Type 0} → _≡_ {A = ℕ} 0 1 → X
+impossible e = absurd (omega arith)

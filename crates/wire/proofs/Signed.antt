@@ -13,6 +13,7 @@ use mir.ValLaws.{toZ-pos, toZ-ofZ}
 use borrow.Author.Tests.{lt-ltb, le-ltb}
 use Rattle.wire.specs.Field.{signed, unsigned, signedOf, u64Of}
 use Rattle.wire.specs.declared.field.U64Field.{U64Field}
+use Rattle.wire.proofs.Laws.{impossible}
 
 -- -1 - n
 pub below : (n : ℕ) → negsuc 0 -ℤ pos n ≡ negsuc n
@@ -54,13 +55,13 @@ module _ (half v : ℕ) (h : half ≤ 2 ^ 63) (b : v < half * 2) where
 pub not-negative : (half : ℕ) (z : ℤ) → half ≤ 2 ^ 63 → mag z < half → leZ (pos 0) z ≡ true → T (nonNeg z) × (Fits w64 (natAbs z) × (natAbs z ≡ unsigned half z))
 unfolding unsigned
 not-negative half (pos n) h m t = (tt, (record { fits = omega arith }, refl))
-not-negative half (negsuc n) h m t = let z : _≡_ {A = ℕ} 0 1 = cc in absurd (omega arith)
+not-negative half (negsuc n) h m t = impossible cc
 
 -- what -1 - z is where z is negative
 pub negated : (half : ℕ) (z : ℤ) → half ≤ 2 ^ 63 → mag z < half → leZ (pos 0) z ≡ false
     → (n : ℕ) × (negsuc 0 -ℤ z ≡ pos n) × (n < half) × (unsigned half z ≡ half - 1 - n + half)
 unfolding unsigned
-negated half (pos n) h m t = let z : _≡_ {A = ℕ} 0 1 = cc (leb·zero n) in absurd (omega arith)
+negated half (pos n) h m t = impossible (cc (leb·zero n))
 negated half (negsuc n) h m t = (n, above n, m, omega arith)
 
 -- ---- casts between the widths

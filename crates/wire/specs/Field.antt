@@ -1,5 +1,5 @@
 -- Integer fields of n bytes: one definition for every width, signed and unsigned. Document 01: "Numbers are big-endian on the wire".
-use Prim.Native.Nat.{ℕ, _+_, _*_, _-_, _^_}
+use Prim.Native.Nat.{ℕ, _+_, _*_, _-_}
 use mathlib.Core.List.{List}
 use mathlib.Core.Option.{Option, some, none}
 use lib.ListN.{length}

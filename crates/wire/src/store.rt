@@ -1,10 +1,11 @@
 // Bytes written into a lent slice.
 ghost use mathlib.Core.Path.{_≡_};
 ghost use Prim.Native.Nat.{_+_, _≤_, min};
-ghost use lib.ListN.{length, take};
+ghost use lib.ListN.{length};
 ghost use Rattle.wire.specs.Bytes.{placed, copied, put, beBytes};
 
-pub(crate) fn least(a: usize, b: usize) -> usize
+// The smaller of two counts: as much as is asked for, or as there is.
+pub fn least(a: usize, b: usize) -> usize
     ensures { λ r. ⌜ r ≡ min a b ⌝ }
 {
     if a < b { a } else { b }

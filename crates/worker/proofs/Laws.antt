@@ -2,7 +2,7 @@
 use mathlib.Core.Path.{_≡_, sym, ap, _∙_}
 use mathlib.Core.Bool.{Bool, true, false}
 use mathlib.Core.List.{List, []}
-use Prim.Native.Nat.{ℕ, _+_, _≤_, min}
+use Prim.Native.Nat.{ℕ, _≤_, min}
 use native.Mathlib.Omega.{arith}
 use lib.ListN.{length, take}
 use lib.Seq.{take-length, take-all}
@@ -10,9 +10,6 @@ use lib.IntN.{ℤ}
 use borrow.Author.Tests.{le-ltb, ltb-true, ltb-false}
 use lib.Dec.{ltb}
 use Rattle.wire.proofs.Laws.{by-test}
-use Rattle.wire.proofs.FieldLaws.{field-within}
-use Rattle.pgoutput.specs.Boundary.{message, refused, boundaryOf}
-use Rattle.pgoutput.proofs.LayoutFields.{by-letter, begin-fields, commit-fields, message-fields}
 use Rattle.wire.specs.Bytes.{pick, put}
 use Rattle.error.specs.Writer.{writing}
 use Rattle.frontend.specs.Frontend.{statusBody, statusUpdate, copyDone, copyData}
@@ -65,23 +62,3 @@ take-least n s =
     let l = ltb-false n (length s) h in
     let e : min n (length s) ≡ length s = omega arith in
     rw e (take-length s ∙ sym (take-all n s l)))
-
--- where prefix and content of a Message begin lies within the data
-pub message-within : (s : List ℕ) (flag : Bool) (position pf pl cf cl : ℕ) → boundaryOf s ≡ message flag position pf pl cf cl
-    → (pf ≤ length s) × (cf ≤ length s)
-message-within s flag position pf pl cf cl e =
-    by-letter s
-    (λ t q x. let f = begin-fields (message flag position pf pl cf cl) never s 1 (sym x ∙ e) in let y : _≡_ {A = ℕ} 0 1 = cc (f .6) in absurd (omega arith))
-    (λ t q x. let f = commit-fields (message flag position pf pl cf cl) never s 1 (sym x ∙ e) in let y : _≡_ {A = ℕ} 0 1 = cc (f .8) in absurd (omega arith))
-    (λ t q x.
-    let f = message-fields (message flag position pf pl cf cl) never s 1 (sym x ∙ e) in
-    let g = f .10 in
-    let n : ℕ = f .2 in
-    let i : pf ≡ 10 = cc in
-    let j : cf ≡ 10 + n + 1 + 4 = cc in
-    let w = field-within 4 s (10 + n + 1) _ (f .7) in
-    (omega arith, omega arith))
-    (λ x. let y : _≡_ {A = ℕ} 0 1 = cc in absurd (omega arith))
-  where
-    never : (n : ℕ) → refused n ≡ message flag position pf pl cf cl → ⊥
-    never n p = let y : _≡_ {A = ℕ} 0 1 = cc in omega arith

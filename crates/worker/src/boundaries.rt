@@ -1,7 +1,7 @@
 // The data of an XLogData: Begin reaches its final position, Commit its end, Message and other data the server's end.
 ghost use mathlib.Core.Path.{_≡_};
 ghost use mathlib.Core.List.{List};
-ghost use Prim.Native.Nat.{ℕ, min};
+ghost use Prim.Native.Nat.{ℕ};
 ghost use lib.ListN.{take};
 ghost use Rattle.wire.specs.Bytes.{at};
 ghost use Rattle.pgoutput.specs.Boundary.{boundaryOf, saidBy};
@@ -15,12 +15,7 @@ use crate::ends::ended;
 use crate::offered::offers_at;
 use lsn::Lsn;
 use pgoutput::Boundary;
-
-pub(crate) fn least(a: usize, b: usize) -> usize
-    ensures { λ r. ⌜ r ≡ min a b ⌝ }
-{
-    if a < b { a } else { b }
-}
+use wire::store::least;
 
 // What the first bytes say, as far as they are there.
 fn boundary_in(rest: &[u8], len: usize) -> Boundary

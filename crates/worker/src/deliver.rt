@@ -3,7 +3,6 @@ ghost use mathlib.Core.Path.{_≡_};
 ghost use mathlib.Core.List.{List};
 ghost use Prim.Native.Nat.{ℕ, _≤_};
 ghost use lib.ListN.{length};
-ghost use Rattle.wire.specs.Bytes.{pick};
 ghost use Rattle.worker.specs.Answer.{lent, outcomeBy};
 ghost use Rattle.worker.specs.Step.{isStoppedAt, behindEvent, nextOf, handsOn, stallEnded, stalls, stalledBy, stalledOf, offeringOf};
 ghost use Rattle.worker.specs.declared.Queue.{Queue};

@@ -13,7 +13,6 @@ use crate::Input;
 use crate::Run;
 use crate::State;
 use crate::Stepped;
-use crate::boundaries::least;
 use crate::boundaries::xlog_data;
 use crate::changes::with_metrics;
 use crate::ends::ended;
@@ -26,6 +25,7 @@ use framing::tag::is_copy_data;
 use framing::tag::is_error;
 use lsn::Lsn;
 use replication::CopyData;
+use wire::store::least;
 
 fn with_wal_end(wal_end: Lsn, run: Run) -> Run
     ensures { λ r. ⌜ r ≡ withMetrics (withEnd (run .metrics) «wal_end») run ⌝ }

@@ -6,7 +6,6 @@ ghost use Rattle.wire.specs.Bytes.{placed};
 ghost use Rattle.error.specs.Inputs.{total};
 ghost use Rattle.error.specs.Writer.{writing, outcome};
 ghost use Rattle.frontend.specs.Frontend.{query};
-ghost use Rattle.lsn.specs.Position.{displayOf};
 ghost use Rattle.worker.specs.Opening.{startReplication};
 ghost use Rattle.worker.specs.Request.{slotText, namesText, endText, payloadText};
 use crate::Settings;
@@ -15,23 +14,7 @@ use error::Refusal;
 use error::Written;
 use lsn::Lsn;
 
-// How many bytes a position's text has.
-fn position_len(position: Lsn) -> usize
-    ensures { λ r. ⌜ r ≡ length (displayOf (position .0)) ⌝ }
-{
-    text::hex_len(position.0 / 4294967296) + 1 + text::hex_len(position.0 % 4294967296)
-}
-
 // Each answers the place behind what it wrote.
-fn place_position(out: &mut [u8], to: usize, position: Lsn) -> usize
-    requires { ⌜ to + length (displayOf (position .0)) ≤ length (now out) ⌝ }
-    ensures { λ r. ⌜ (r, now (out .exit)) ≡ placed (now (out .entry)) to (displayOf (position .0)) ⌝ }
-{
-    let a = text::place_hex(out, to, position.0 / 4294967296);
-    let b = wire::store::place(out, a, b"/");
-    text::place_hex(out, b, position.0 % 4294967296)
-}
-
 fn place_slot(out: &mut [u8], to: usize, slot: &[u8]) -> usize
     requires { ⌜ to + length (slotText (now slot)) ≤ length (now out) ⌝ }
     ensures { λ r. ⌜ (r, now (out .exit)) ≡ placed (now (out .entry)) to (slotText (now (slot .entry))) ⌝ }
@@ -45,7 +28,7 @@ fn place_names(out: &mut [u8], to: usize, position: Lsn, publications: &[&[u8]])
     requires { ⌜ to + length (namesText (position .0) (now publications)) ≤ length (now out) ⌝ }
     ensures { λ r. ⌜ (r, now (out .exit)) ≡ placed (now (out .entry)) to (namesText (position .0) (now (publications .entry))) ⌝ }
 {
-    let a = place_position(out, to, position);
+    let a = position.place(out, to);
     let b = wire::store::place(out, a, b" (proto_version '1', publication_names '");
     config::place(out, b, publications)
 }
@@ -104,7 +87,7 @@ pub(crate) fn start_replication(
     let Counted::Fits(value) = config::count(publications, out.len()) else {
         return Written::Refused(Refusal::OutputTooShort);
     };
-    let n = slot.len() + 72 + position_len(position) + value + end_len(settings.binary);
+    let n = slot.len() + 72 + position.text_len() + value + end_len(settings.binary);
     if out.len() < n + 5 {
         return Written::Refused(Refusal::OutputTooShort);
     }

@@ -9,7 +9,7 @@ ghost use Rattle.wire.specs.Bytes.{pick};
 ghost use Rattle.moment.specs.Moment.{sinceOf};
 ghost use Rattle.framing.specs.Read.{saidBy};
 ghost use Rattle.worker.specs.Answer.{lent, outcomeBy};
-ghost use Rattle.worker.specs.Step.{Lent, having, intervalPassed, idleOf, waitingBy, waitingRead, waitingOf};
+ghost use Rattle.worker.specs.Step.{having, intervalPassed, idleOf, waitingBy, waitingRead, waitingOf};
 use crate::Event;
 use crate::Input;
 use crate::Run;

@@ -1,6 +1,5 @@
 -- The length is judged in the order of document 01.
 use Rattle.framing.proofs.Laws.{length-negative, length-short, length-over, length-good}
-use lib.ListN.{length}
 use borrow.Author.Needs.{needs}
 use Rattle.framing.proofs.judge.Statement.{statement}
 use Rattle.framing.proofs.judge.Tie as tie

@@ -4,6 +4,7 @@ use mathlib.Core.Option.{Option, some, none}
 use Prim.Native.Nat.{ℕ}
 use Rattle.stream.specs.Message.{lengthField}
 use Rattle.wire.proofs.FieldLaws.{field-whole}
+use Rattle.wire.proofs.Laws.{impossible}
 use native.Mathlib.Omega.{arith}
 use borrow.Author.Needs.{needs}
 use Rattle.framing.proofs.length_of.Statement.{statement}
@@ -30,8 +31,7 @@ returns-2 c =
     let h = c .before .before .before .before .args .header .now in
     let e : _≡_ {A = Option ℕ} none (some (lengthField h)) =
     (rw (c .enum-told .given .1) at (c .before .before .read-u32 .ensures)) ∙ field-whole 4 h 1 (omega arith) in
-    let z : _≡_ {A = ℕ} 0 1 = cc e in
-    absurd (omega arith)
+    impossible (cc e)
 
 pub length-of-spec : {M : Type 1} → statement M
 length-of-spec = tie.close (tie.spec read-u32-requires enum-known-v enum-told returns returns-2)

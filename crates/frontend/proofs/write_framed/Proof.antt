@@ -3,7 +3,6 @@ use Rattle.frontend.proofs.Laws.{framed-header, length-framed}
 use Rattle.wire.proofs.Pieces.{filling-start, filling-next, filling-last}
 use Rattle.error.proofs.Laws.{too-long, no-room, wrote-placed}
 use Rattle.stream.specs.Message.{framed}
-use Rattle.frontend.specs.Code.{header}
 use Prim.Native.Nat.{_≤_, _+_}
 use mathlib.Core.Path.{_≡_}
 use native.Mathlib.Omega.{arith}

@@ -13,17 +13,17 @@ use mir.ValLaws.{toZ-ofZ}
 use borrow.Author.Tests.{leb-true}
 use borrow.Author.Needs.{needs}
 use Rattle.wire.specs.Field.{fieldAt, signed, signedOf, i32Of}
-use Rattle.wire.proofs.Laws.{by-test}
+use Rattle.wire.proofs.Laws.{by-test, impossible}
 use Rattle.messages.specs.Auth.{authOf, authBy}
 use Rattle.messages.proofs.parse_auth_request.Statement.{statement}
 use Rattle.messages.proofs.parse_auth_request.Tie as tie
 
 asked : (n : ℕ) (o : Option ℕ) (z : ℤ) → some z ≡ signedOf 2147483648 o → (0, z, 4, n - 4) ≡ authBy n o
 asked n (some v) z e = let h : z ≡ signed 2147483648 v = cc in rw h
-asked n none z e = let w : _≡_ {A = ℕ} 0 1 = cc in absurd (omega arith)
+asked n none z e = impossible cc
 
 cut : (n : ℕ) (o : Option ℕ) → none ≡ signedOf 2147483648 o → (21, pos 0, 0, 0) ≡ authBy n o
-cut n (some v) e = let w : _≡_ {A = ℕ} 0 1 = cc in absurd (omega arith)
+cut n (some v) e = impossible cc
 cut n none e = refl
 
 whole : (s : List ℕ) (z : ℤ) → some z ≡ signedOf 2147483648 (fieldAt 4 s 0) → 4 ≤ length s
@@ -31,7 +31,7 @@ unfolding fieldAt
 whole s z e =
     by-test (leb (0 + 4) (length s))
     (λ t. leb-true _ _ t)
-    (λ t. let w : _≡_ {A = ℕ} 0 1 = cc in absurd (omega arith))
+    (λ t. impossible cc)
 
 read-i32-requires : tie.Need-read-i32-requires
 read-i32-requires c κs = search needs

@@ -1,4 +1,6 @@
 use lib.ListN.{length}
+use Rattle.lines.proofs.Laws.{left-less}
+use native.Mathlib.Omega.{arith}
 use borrow.Author.Needs.{needs}
 use mathlib.Core.Path.{_≡_}
 use Rattle.leaves.proofs.reader.feed_all.Statement.{statement}
@@ -28,11 +30,11 @@ loop-holds c = search needs
 one-read-requires : tie.Need-one-read-requires Inv-loop μ-loop
 one-read-requires c κs = search needs
 
-turns-left-requires : tie.Need-turns-left-requires Inv-loop μ-loop
-turns-left-requires c κs = search needs
+left-requires : tie.Need-left-requires Inv-loop μ-loop
+left-requires c κs = search needs
 
 loop-less : tie.Need-loop-less Inv-loop μ-loop
-loop-less c = search needs
+loop-less c = left-less (c .before .before .before .before .before .before .before .before .before .loop .turns) (c .before .before .before .before .before .one-read .result .go) (c .left .ensures) (omega arith)
 
 loop-again : tie.Need-loop-again Inv-loop μ-loop
 loop-again c = search needs
@@ -58,7 +60,7 @@ feed-all-spec =
     add-turns
     loop-holds
     one-read-requires
-    turns-left-requires
+    left-requires
     loop-less
     loop-again
     same-length

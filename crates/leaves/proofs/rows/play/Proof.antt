@@ -1,4 +1,6 @@
 use lib.ListN.{length}
+use Rattle.lines.proofs.Laws.{left-less}
+use native.Mathlib.Omega.{arith}
 use borrow.Author.Needs.{needs}
 use mathlib.Core.Path.{_≡_}
 use Rattle.leaves.proofs.rows.play.Statement.{statement}
@@ -31,11 +33,11 @@ loop-holds c = search needs
 one-message-requires : tie.Need-one-message-requires Inv-loop μ-loop
 one-message-requires c κs = search needs
 
-turns-left-requires : tie.Need-turns-left-requires Inv-loop μ-loop
-turns-left-requires c κs = search needs
+left-requires : tie.Need-left-requires Inv-loop μ-loop
+left-requires c κs = search needs
 
 loop-less : tie.Need-loop-less Inv-loop μ-loop
-loop-less c = search needs
+loop-less c = left-less (c .before .before .before .before .before .before .before .before .before .before .before .before .loop .turns) (c .before .before .before .before .before .before .before .one-message .result .go) (c .left .ensures) (omega arith)
 
 loop-again : tie.Need-loop-again Inv-loop μ-loop
 loop-again c = search needs
@@ -68,7 +70,7 @@ play-spec =
     add-turns
     loop-holds
     one-message-requires
-    turns-left-requires
+    left-requires
     loop-less
     loop-again
     end-requires

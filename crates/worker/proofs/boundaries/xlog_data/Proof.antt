@@ -5,7 +5,7 @@ use native.Mathlib.Omega.{arith}
 use mir.Syntax.{w64}
 use mir.ValLaws.{toZ-ofZ}
 use Rattle.worker.specs.Answer.{lent}
-use Rattle.worker.proofs.Laws.{message-within}
+use Rattle.pgoutput.proofs.LayoutMessage.{parts-within}
 use borrow.Author.Needs.{needs}
 use Rattle.worker.proofs.boundaries.xlog_data.Statement.{statement}
 use Rattle.worker.proofs.boundaries.xlog_data.Tie as tie
@@ -31,13 +31,13 @@ enum-known-transactional c = search needs
 add-prefix : tie.Need-add-prefix
 add-prefix c =
     let a = c .before .before .before .before .before .args in
-    let m = message-within _ _ _ _ _ _ _ (sym (rw (c .before .transactional .given .1) at (c .before .before .before .boundary-at .ensures))) in
+    let m = parts-within _ _ _ _ _ _ _ (sym (rw (c .before .transactional .given .1) at (c .before .before .before .boundary-at .ensures))) in
     omega (arith, length-take (a .len) (drop (a .from) (a .payload .now)), length-drop (a .from) (a .payload .now))
 
 add-content : tie.Need-add-content
 add-content c =
     let a = c .before .before .before .before .before .args in
-    let m = message-within _ _ _ _ _ _ _ (sym (rw (c .before .transactional .given .1) at (c .before .before .before .boundary-at .ensures))) in
+    let m = parts-within _ _ _ _ _ _ _ (sym (rw (c .before .transactional .given .1) at (c .before .before .before .boundary-at .ensures))) in
     omega (arith, length-take (a .len) (drop (a .from) (a .payload .now)), length-drop (a .from) (a .payload .now))
 
 offers-at-requires : tie.Need-offers-at-requires

@@ -1,4 +1,3 @@
-use mathlib.Core.Path.{_∙_}
 use Rattle.worker.specs.Answer.{lent}
 use borrow.Author.Needs.{needs}
 use Rattle.worker.proofs.deliver.next.Statement.{statement}

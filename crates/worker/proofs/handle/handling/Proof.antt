@@ -1,4 +1,3 @@
-use mathlib.Core.Path.{_∙_}
 use Rattle.worker.specs.Answer.{lent}
 use Rattle.worker.specs.Step.{handlingOf}
 use borrow.Author.Needs.{needs}

@@ -5,7 +5,7 @@ use lib.ListN.{length}
 use Rattle.wire.proofs.Pieces.{filling-room, filling-next, filling-last}
 use Rattle.frontend.specs.Frontend.{query}
 use Rattle.worker.specs.Opening.{startReplication}
-use Rattle.worker.specs.Request.{slotText, namesText, endText}
+use Rattle.worker.specs.Request.{slotText, namesText}
 use Rattle.worker.proofs.RequestLaws.{length-request, request-front}
 use borrow.Author.Needs.{needs}
 use Rattle.worker.proofs.request.place_query.Statement.{statement}

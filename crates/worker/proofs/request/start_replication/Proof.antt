@@ -56,8 +56,8 @@ returns-3 c =
 add-n : tie.Need-add-n
 add-n c = search needs
 
-position-len-requires : tie.Need-position-len-requires
-position-len-requires c κs = search needs
+text-len-requires : tie.Need-text-len-requires
+text-len-requires c κs = search needs
 
 add-n-2 : tie.Need-add-n-2
 add-n-2 c =
@@ -90,14 +90,14 @@ returns-4 c =
     let l = length-request (a .settings) (a .slot .now) (a .publications .now) (a .position) in
     let k = length-payload (a .settings) (a .slot .now) (a .publications .now) (a .position) in
     no-room (length (a .slot .now) + total (a .publications .now)) (query (startReplication (a .settings) (a .slot .now) (a .publications .now) (a .position))) (a .out .now) (omega (arith, c .before .before .before .before .before .before .before .before .before .before .if1 .left))
-    (omega (arith, c .if2 .taken, c .before .before .position-len .ensures, c .before .end-len .ensures))
+    (omega (arith, c .if2 .taken, c .before .before .text-len .ensures, c .before .end-len .ensures))
 
 place-query-requires : tie.Need-place-query-requires
 place-query-requires c κs =
     let a = c .before .before .before .before .before .before .before .before .before .before .before .before .before .before .args in
     let f = counted-fits _ _ _ (sym (c .before .before .before .before .before .before .before .count .ensures) ∙ c .before .before .before .before .before .value .given .1) in
     let k = length-payload (a .settings) (a .slot .now) (a .publications .now) (a .position) in
-    (omega (arith, c .before .before .before .position-len .ensures, c .before .before .end-len .ensures), omega (arith, c .before .if2 .left))
+    (omega (arith, c .before .before .before .text-len .ensures, c .before .before .end-len .ensures), omega (arith, c .before .if2 .left))
 
 add-t18 : tie.Need-add-t18
 add-t18 c = search needs
@@ -114,7 +114,7 @@ returns-5 c =
     let k = length-payload (a .settings) (a .slot .now) (a .publications .now) (a .position) in
     wrote-placed (length (a .slot .now) + total (a .publications .now)) (query (startReplication (a .settings) (a .slot .now) (a .publications .now) (a .position))) (a .out .now)
     (omega (arith, c .before .before .before .before .before .before .before .before .before .before .before .before .before .before .if1 .left))
-    (omega (arith, c .before .before .before .before .before .before .position-len .ensures, c .before .before .before .before .before .end-len .ensures))
+    (omega (arith, c .before .before .before .before .before .before .text-len .ensures, c .before .before .before .before .before .end-len .ensures))
     (omega (arith, c .before .before .before .before .if2 .left))
     (c .before .before .place-query .ensures)
 
@@ -133,7 +133,7 @@ start-replication-spec =
     enum-told-3
     returns-3
     add-n
-    position-len-requires
+    text-len-requires
     add-n-2
     add-n-3
     end-len-requires

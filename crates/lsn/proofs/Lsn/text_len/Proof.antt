@@ -1,0 +1,26 @@
+use Prim.Native.Nat.{_/_, _%_}
+use native.Mathlib.Omega.{arith}
+use Rattle.text.proofs.Laws.{numeral-length}
+use Rattle.lsn.proofs.Laws.{length-display}
+use borrow.Author.Needs.{needs}
+use Rattle.lsn.proofs.Lsn.text_len.Statement.{statement}
+use Rattle.lsn.proofs.Lsn.text_len.Tie as tie
+
+hex-len-requires : tie.Need-hex-len-requires
+hex-len-requires c κs = search needs
+
+add-result : tie.Need-add-result
+add-result c = omega (arith, numeral-length 16 20 (c .before .before .args .self .0 / 4294967296), numeral-length 16 20 (c .before .before .args .self .0 % 4294967296))
+
+hex-len-requires-2 : tie.Need-hex-len-requires-2
+hex-len-requires-2 c κs = search needs
+
+add-result-2 : tie.Need-add-result-2
+add-result-2 c = omega (arith, numeral-length 16 20 (c .before .before .before .before .args .self .0 / 4294967296), numeral-length 16 20 (c .before .before .before .before .args .self .0 % 4294967296))
+
+returns : tie.Need-returns
+returns c = omega (arith, length-display (c .before .before .before .before .args .self .0))
+
+pub text-len-spec : {M : Type 1} → statement M
+text-len-spec =
+    tie.close (tie.spec hex-len-requires add-result hex-len-requires-2 add-result-2 returns)
