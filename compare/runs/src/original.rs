@@ -44,6 +44,7 @@ struct Wire {
     /// What a message to the server takes to write, and the one that is being written.
     write_takes: Duration,
     writing: Option<Pin<Box<Sleep>>>,
+    write_fails: bool,
     reading: Option<Waker>,
     /// How many of the next writes are not noted.
     unnoted: usize,
@@ -187,6 +188,8 @@ impl AsyncWrite for Stream {
         let mut wire = self.0.lock().unwrap();
         if wire.unnoted > 0 {
             wire.unnoted -= 1;
+        } else if wire.write_fails {
+            return Poll::Ready(Err(io::ErrorKind::BrokenPipe.into()));
         } else if wire.writes(cx).is_pending() {
             return Poll::Pending;
         } else {
@@ -335,11 +338,11 @@ fn end_of(outcome: &Outcome) -> Line {
     match outcome {
         Ok(()) => Line::End(0, Vec::new()),
         Err(PgWireError::Server(text)) => Line::End(19, text.clone().into_bytes()),
-        Err(e) => {
-            let number = number_of(e);
-            assert_ne!(number, 255, "an error that has no number: {e}");
-            Line::End(number, Vec::new())
-        }
+        Err(e) => match number_of(e) {
+            // An error that has no number.
+            255 => Line::End(255, e.to_string().into_bytes()),
+            number => Line::End(number, Vec::new()),
+        },
     }
 }
 
@@ -411,8 +414,9 @@ pub struct Original {
     pub ended: Option<u8>,
     /// The stream hands over the next piece at once, where one is there: outside the domain of the comparison.
     pub at_once: bool,
-    /// What a message to the server takes to write: nothing in the domain of the comparison.
+    /// What a message to the server takes to write, and whether none can be written: nothing and false in the domain of the comparison.
     pub write_takes: Duration,
+    pub write_fails: bool,
 }
 
 impl Side for Original {
@@ -466,6 +470,7 @@ impl Original {
             at_once: self.at_once,
             write_takes: self.write_takes,
             writing: None,
+            write_fails: self.write_fails,
             reading: None,
             // The startup message, and where the run is open its query.
             unnoted: if s.open { 2 } else { 1 },

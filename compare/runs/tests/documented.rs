@@ -1,6 +1,7 @@
 //! The tables of docs/DIFFERENCES.md, row by row: the smallest input of each on the Rust and on the project.
 
 use original::protocol::framing::MessageReader;
+use rufflesquash::{Input, Lsn, Moment, Queue, Refusal, Run, Settings, State};
 use runs::compare::compare;
 use runs::leaf::{put_record_in, texts, Leaves, OriginalLeaves, Program};
 use runs::leaves::{self, Query, Told};
@@ -11,7 +12,6 @@ use runs::scenario::Scenario;
 use runs::server::{begin, commit, data, framed, keepalive, message};
 use runs::side::Side;
 use runs::text::hex;
-use rufflesquash::{Input, Lsn, Moment, Queue, Refusal, Run, Settings, State};
 use std::path::PathBuf;
 use std::time::Duration;
 
@@ -87,7 +87,8 @@ fn limit(max_message_size: usize) -> Settings {
 fn a_text_over_the_bound() {
     let slot = "a".repeat(1_048_577);
     let s = Scenario { open: false, slot: slot.clone(), ..Scenario::default() };
-    let query = leaves::write_simple_query(&format!("START_REPLICATION SLOT {slot} LOGICAL 0/0 (proto_version '1', publication_names 'p', messages 'true')"));
+    let query =
+        leaves::write_simple_query(&format!("START_REPLICATION SLOT {slot} LOGICAL 0/0 (proto_version '1', publication_names 'p', messages 'true')"));
     assert_eq!(Original::default().run(&s, &[]).lines, [(0, Line::Write(query))]);
     let mut out = vec![0xAA; 2_000_000];
     let refused = Run::open(&limit(0), slot.as_bytes(), &[], Lsn(0), Lsn(0), &mut out);
@@ -210,6 +211,13 @@ fn a_write_that_takes_time() {
     assert_eq!(told(&b), "0 status 00 reply 0; 2 status 01 reply 0");
 }
 
+/// Here a step has written into the output that it was lent, and sending is the host's.
+#[test]
+fn a_stream_that_fails() {
+    let (a, b) = apart("at 0\n", Original { write_fails: true, ..Original::default() });
+    assert_eq!((told(&a).as_str(), told(&b).as_str()), ("0 end 255", "0 status 00 reply 0"));
+}
+
 #[test]
 fn a_report_inside_a_step() {
     let (a, b) = apart("status 86400000\nidle 1\nat 0\nat 1\nbytes 4e\nduring 1 report 0/1\n", Original::default());
@@ -221,9 +229,12 @@ fn a_report_inside_a_step() {
 }
 
 #[test]
-fn a_position_text_that_is_no_utf8() {
+fn a_text_that_is_no_utf8() {
     assert_eq!(leaves::parse_position(b"\xFF"), None);
     assert_eq!(Lsn::parse(b"\xFF"), Err(Refusal::MissingSlash));
+    let mut out = [0; 200];
+    let (_, n) = Run::open(&limit(0), b"\xFF", &[], Lsn(0), Lsn(0), &mut out).unwrap();
+    assert!(out[..n].windows(8).any(|w| w == b"SLOT \xFF L"));
 }
 
 // ---- between the Rust and the PostgreSQL documentation: the project follows the Rust
@@ -290,7 +301,9 @@ fn the_run_ends_with_our_copy_done() {
 
 #[test]
 fn names_stand_unquoted() {
-    let query = |slot: &str, names: &str| format!("0 query START_REPLICATION SLOT {slot} LOGICAL 0/0 (proto_version '1', publication_names '{names}', messages 'true')");
+    let query = |slot: &str, names: &str| {
+        format!("0 query START_REPLICATION SLOT {slot} LOGICAL 0/0 (proto_version '1', publication_names '{names}', messages 'true')")
+    };
     assert_eq!(told(&alike("run opened\nslot 612062\nat 0\n")), query("a b", ""));
     assert_eq!(told(&alike("run opened\npublication 612c62\nat 0\n")), query("s", "a,b"));
 }
