@@ -58,6 +58,15 @@ pub mod worker {
             }
         }
 
+        /// The cell's own calls, with what stands around it: the clock, and the waking of the task.
+        pub fn take_signal(progress: &SharedProgress) -> Lsn {
+            progress.take_signal()
+        }
+
+        pub fn take_pending(progress: &SharedProgress, sent: Lsn) -> bool {
+            progress.cell.take_pending(sent.as_u64(), progress.clock()) != 0
+        }
+
         pub fn option_value(names: Vec<String>) -> String {
             crate::config::Publication::from(names).to_option_value()
         }
