@@ -7,7 +7,7 @@ use Prim.Native.Nat.{ℕ, zero, suc, _+_, _-_, _≤_, _<_, min}
 use native.Mathlib.Omega.{arith}
 use lib.IntN.{ℤ}
 use lib.ListN.{length, getD, take, drop, length-drop, drop-of-length-le, take-append-drop}
-use lib.Seq.{take-all, take-at, drop-append-le, length-take-le, getD-take, take-length}
+use lib.Seq.{take-all, take-at, drop-append-le, drop-drop, length-take-le, getD-take}
 use lib.Dec.{ltb, leb, eqb}
 use borrow.Author.Tests.{le-leb, lt-leb, lt-ltb, le-ltb, ltb-true, ltb-false, leb-false, eqb-true, eqb-false, eq-eqb, not-true}
 use Rattle.wire.specs.Bytes.{pick, at, be, put}
@@ -27,7 +27,7 @@ use Rattle.pgoutput.specs.Boundary as B
 use Rattle.replication.specs.CopyData.{copyDataOf, xlogOf, keepAliveOf}
 use Rattle.replication.specs.CopyData as C
 use Rattle.worker.specs.declared.Event.{Event}
-use Rattle.worker.specs.declared.Event.the-variants.{Nothing, Begin, Commit, XLogData}
+use Rattle.worker.specs.declared.Event.the-variants.{Nothing, Begin, Commit, Message, XLogData}
 use Rattle.worker.specs.declared.Input.{Input}
 use Rattle.worker.specs.declared.Queue.{Queue}
 use Rattle.worker.specs.declared.Queue.the-variants.{Free, Full, Closed}
@@ -39,7 +39,7 @@ use Rattle.worker.specs.Run.{lsn, clock, wholeOf, offer, run, withState, withRe
 use Rattle.worker.specs.Step.{Outcome, Lent, handing, moved, having, isEnded, badMoment, reaches, readBy, readingBy, readingOf, drainOf, boundaryBy, copyDataBy, handlingOf, firstBy, offeringOf, offers, offersAt, isStoppedAt, stateOf, stepOf}
 use Rattle.advance.specs.declared.AtHand.{AtHand}
 use Rattle.advance.specs.Advance.{isNothing, tells, lentBehind, behind, twice, advanceOf}
-use Rattle.advance.specs.AtHand.{atHand, nothing, within, wholeAt, byBoundary, byCopyData, messageOf, atHandOf, isDrain, isFree, isBetween, hasRoom, appliesOf, handedRun, handedOf, Hands-on-at-once}
+use Rattle.advance.specs.AtHand.{atHand, nothing, logicalOf, within, wholeAt, byBoundary, byCopyData, xlogAtHand, messageOf, atHandOf, isDrain, isFree, isBetween, hasRoom, appliesOf, handedRun, handedOf, Hands-on-at-once}
 
 -- ---- tests
 
@@ -293,11 +293,19 @@ module _ (r : Run) (i : Input) (u p o : List ℕ) (n : ℕ) (state : r .state �
     by-boundary : (b : B.Said) → boundaryOf (drop 25 s) ≡ b → eqb (byBoundary n start end time len b .len) 0 ≡ false
         → reaches r (byBoundary n start end time len b .reached) ≡ false
         → advanceOf r i l ≡ handedOf r m (byBoundary n start end time len b) u p o
+    unfolding logicalOf
     by-boundary (B.begin final commit-time xid) e h g =
         four (Begin (lsn final) commit-time xid) (lsn final) g refl refl (λ x y. ap (λ (z : B.Said). boundaryBy z start end time 25 len x y) e)
     by-boundary (B.commit position commit-end commit-time) e h g =
         four (Commit (lsn position) (lsn commit-end) commit-time) (lsn commit-end) g refl refl (λ x y. ap (λ (z : B.Said). boundaryBy z start end time 25 len x y) e)
-    by-boundary (B.message flag position pf pl cf cl) e h g = let z : _≡_ {A = ℕ} 0 1 = cc in absurd (omega arith)
+    by-boundary (B.message flag position pf pl cf cl) e h g =
+        by-test (ltb pf 2147483648)
+        (λ a. by-test (ltb cf 2147483648)
+        (λ b.
+        rw (a, b)
+        (four (Message flag (lsn position) (25 + pf) pl (25 + cf) cl) (lsn end) (rw (a, b) at g) refl refl (λ x y. ap (λ (z : B.Said). boundaryBy z start end time 25 len x y) e)))
+        (λ b. let z : _≡_ {A = Bool} true false = rw (a, b) at h in let y : _≡_ {A = ℕ} 0 1 = cc in absurd (omega arith)))
+        (λ a. let z : _≡_ {A = Bool} true false = rw a at h in let y : _≡_ {A = ℕ} 0 1 = cc in absurd (omega arith))
     by-boundary B.no-boundary e h g =
         four (XLogData (lsn start) (lsn end) time 25 len) (lsn end) g refl refl (λ x y. ap (λ (z : B.Said). boundaryBy z start end time 25 len x y) e)
     by-boundary (B.refused number) e h g = let z : _≡_ {A = ℕ} 0 1 = cc in absurd (omega arith)
@@ -313,9 +321,14 @@ module _ (r : Run) (i : Input) (u p o : List ℕ) (n : ℕ) (state : r .state �
 
 -- its length is the payload's
 boundary-len : (n start end : ℕ) (time : ℤ) (len : ℕ) (b : B.Said) → eqb (byBoundary n start end time len b .len) 0 ≡ false → byBoundary n start end time len b .len ≡ n
+unfolding logicalOf
 boundary-len n start end time len (B.begin final commit-time xid) h = refl
 boundary-len n start end time len (B.commit position commit-end commit-time) h = refl
-boundary-len n start end time len (B.message flag position pf pl cf cl) h = let z : _≡_ {A = ℕ} 0 1 = cc in absurd (omega arith)
+boundary-len n start end time len (B.message flag position pf pl cf cl) h =
+    by-test (ltb pf 2147483648)
+    (λ a. by-test (ltb cf 2147483648) (λ b. rw (a, b))
+    (λ b. let z : _≡_ {A = Bool} true false = rw (a, b) at h in let y : _≡_ {A = ℕ} 0 1 = cc in absurd (omega arith)))
+    (λ a. let z : _≡_ {A = Bool} true false = rw a at h in let y : _≡_ {A = ℕ} 0 1 = cc in absurd (omega arith))
 boundary-len n start end time len B.no-boundary h = refl
 boundary-len n start end time len (B.refused number) h = let z : _≡_ {A = ℕ} 0 1 = cc in absurd (omega arith)
 
@@ -324,16 +337,37 @@ copy-data-len n d (C.w start end time from len) h = boundary-len n start end tim
 copy-data-len n d (C.k end time reply) h = let z : _≡_ {A = ℕ} 0 1 = cc in absurd (omega arith)
 copy-data-len n d (C.refused number) h = let z : _≡_ {A = ℕ} 0 1 = cc in absurd (omega arith)
 
+-- an XLogData is its letter and what is behind it
+by-letter : (s : List ℕ) → (length s ≡ 0 → ⊥) → getD s 0 0 ≡ 119 → copyDataOf s ≡ xlogOf (drop 1 s)
+unfolding copyDataOf
+by-letter [] h e = absurd (h refl)
+by-letter (letter ∷ t) h e = rw (eq-eqb letter 119 e)
+
+payload-is : (s : List ℕ) → eqb (messageOf s .len) 0 ≡ false → messageOf s ≡ byCopyData (length s) (drop 25 s) (copyDataOf s)
+unfolding messageOf xlogAtHand
+payload-is s h =
+    by-test (eqb (length s) 0)
+    (λ a. let z : _≡_ {A = Bool} true false = rw a at h in let y : _≡_ {A = ℕ} 0 1 = cc in absurd (omega arith))
+    (λ a. by-test (eqb (getD s 0 0) 119)
+    (λ b. by-test (ltb (length (drop 1 s)) 24)
+    (λ c. let z : _≡_ {A = Bool} true false = rw (a, b, c) at h in let y : _≡_ {A = ℕ} 0 1 = cc in absurd (omega arith))
+    (λ c.
+    let k : 24 ≤ length (drop 1 s) = ltb-false _ _ c in
+    let l : length (drop 1 s) ≡ length s - 1 = length-drop 1 s in
+    let n : length (drop 1 s) - 24 + 25 ≡ length s = omega arith in
+    let d : drop 24 (drop 1 s) ≡ drop 25 s = drop-drop 24 1 s in
+    let e : copyDataOf s ≡ xlogOf (drop 1 s) = by-letter s (eqb-false _ _ a) (eqb-true _ _ b) in
+    rw (e, a, b, c, n, d)))
+    (λ b. let z : _≡_ {A = Bool} true false = rw (a, b) at h in let y : _≡_ {A = ℕ} 0 1 = cc in absurd (omega arith)))
+
 -- a message at hand is that of its payload
 at-hand-is : (u : List ℕ) → eqb (atHandOf u .len) 0 ≡ false
     → (wholeAt u ≡ 0 → ⊥) × (atHandOf u ≡ byCopyData (length (at u 5 (wholeAt u))) (drop 25 (at u 5 (wholeAt u))) (copyDataOf (at u 5 (wholeAt u))))
-unfolding atHandOf messageOf
+unfolding atHandOf
 at-hand-is u h =
     by-test (eqb (wholeAt u) 0)
     (λ a. let z : _≡_ {A = Bool} true false = rw a at h in let y : _≡_ {A = ℕ} 0 1 = cc in absurd (omega arith))
-    (λ a. by-test (ltb (length (at u 5 (wholeAt u))) 25)
-    (λ b. let z : _≡_ {A = Bool} true false = rw (a, b) at h in let y : _≡_ {A = ℕ} 0 1 = cc in absurd (omega arith))
-    (λ b. (eqb-false _ _ a, rw (a, b))))
+    (λ a. (eqb-false _ _ a, rw a (payload-is (at u 5 (wholeAt u)) (rw a at h))))
 
 pub hands-on-at-once : Hands-on-at-once
 unfolding appliesOf isBetween hasRoom

@@ -15,10 +15,10 @@ use Rattle.metrics.specs.Metrics.{more, withEvent, withEnd}
 use Rattle.moment.specs.declared.Moment.{Moment}
 use Rattle.pgoutput.specs.Boundary.{boundaryOf}
 use Rattle.pgoutput.specs.Boundary as B
-use Rattle.replication.specs.CopyData.{copyDataOf}
+use Rattle.replication.specs.CopyData.{xlogOf}
 use Rattle.replication.specs.CopyData as C
 use Rattle.worker.specs.declared.Event.{Event}
-use Rattle.worker.specs.declared.Event.the-variants.{Nothing, Begin, Commit, XLogData}
+use Rattle.worker.specs.declared.Event.the-variants.{Nothing, Begin, Commit, Message, XLogData}
 use Rattle.worker.specs.declared.Input.{Input}
 use Rattle.worker.specs.declared.Queue.{Queue}
 use Rattle.worker.specs.declared.Queue.the-variants.{Free, Full, Closed}
@@ -46,12 +46,19 @@ within n unread = pick (ltb n 29) 0 (pick (leb 2147483648 n) 0 (pick (ltb unread
 unfoldable pub wholeAt : List ℕ → ℕ
 wholeAt u = pick (ltb (length u) 30) 0 (pick (isCopyData (getD u 0 0)) (within (be (at u 1 4)) (length u)) 0)
 
--- by the boundary; a Message is left to single steps
+-- of a Message, whose parts begin at places of the data; places that no message reaches are left out, so that no sum wraps
+unfoldable pub logicalOf : ℕ → Lsn → Bool → Lsn → ℕ → ℕ → ℕ → ℕ → AtHand
+logicalOf n end flag position pf pl cf cl =
+    pick (ltb pf 2147483648)
+    (pick (ltb cf 2147483648) (atHand n end end (Message flag position (25 + pf) pl (25 + cf) cl)) nothing)
+    nothing
+
+-- by the boundary
 abbrev pub byBoundary : ℕ → ℕ → ℕ → ℤ → ℕ → B.Said → AtHand
 byBoundary n start end time len (B.begin final commit-time xid) = atHand n (lsn end) (lsn final) (Begin (lsn final) commit-time xid)
 byBoundary n start end time len (B.commit position commit-end commit-time) =
     atHand n (lsn end) (lsn commit-end) (Commit (lsn position) (lsn commit-end) commit-time)
-byBoundary n start end time len (B.message flag position pf pl cf cl) = nothing
+byBoundary n start end time len (B.message flag position pf pl cf cl) = logicalOf n (lsn end) flag (lsn position) pf pl cf cl
 byBoundary n start end time len B.no-boundary = atHand n (lsn end) (lsn end) (XLogData (lsn start) (lsn end) time 25 len)
 byBoundary n start end time len (B.refused number) = nothing
 
@@ -61,9 +68,13 @@ byCopyData n d (C.w start end time from len) = byBoundary n start end time len (
 byCopyData n d (C.k end time reply) = nothing
 byCopyData n d (C.refused number) = nothing
 
+-- an XLogData behind its letter
+unfoldable pub xlogAtHand : List ℕ → AtHand
+xlogAtHand b = pick (ltb (length b) 24) nothing (byCopyData (length b - 24 + 25) (drop 24 b) (xlogOf b))
+
 -- of the payload of a CopyData message
 unfoldable pub messageOf : List ℕ → AtHand
-messageOf s = pick (ltb (length s) 25) nothing (byCopyData (length s) (drop 25 s) (copyDataOf s))
+messageOf s = pick (eqb (length s) 0) nothing (pick (eqb (getD s 0 0) 119) (xlogAtHand (drop 1 s)) nothing)
 
 unfoldable pub atHandOf : List ℕ → AtHand
 atHandOf u = pick (eqb (wholeAt u) 0) nothing (messageOf (at u 5 (wholeAt u)))

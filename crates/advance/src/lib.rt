@@ -1,16 +1,18 @@
 // A message that lies at hand whole: what four steps make of it, found before any byte is taken.
 ghost use mathlib.Core.Path.{_≡_};
-ghost use Prim.Native.Nat.{_-_, _≤_};
+ghost use Prim.Native.Nat.{_+_, _-_, _≤_};
 ghost use lib.ListN.{length};
 ghost use Rattle.pgoutput.specs.Boundary.{saidBy};
 ghost use Rattle.worker.specs.Step.{reaches};
-ghost use Rattle.advance.specs.AtHand.{nothing, within, wholeAt, byBoundary, messageOf, atHandOf, isDrain, isFree, isBetween, hasRoom, appliesOf, handedRun};
+ghost use Rattle.worker.specs.declared.Event.{Event};
+ghost use Rattle.advance.specs.AtHand.{atHand, nothing, logicalOf, within, wholeAt, byBoundary, xlogAtHand, messageOf, atHandOf, isDrain, isFree, isBetween, hasRoom, appliesOf, handedRun};
 use framing::MessageReader;
 use lsn::Lsn;
 use moment::Moment;
 use pgoutput::Boundary;
-use replication::CopyData;
+use wire::field::I64Field;
 use wire::field::U32Field;
+use wire::field::U64Field;
 use worker::Event;
 use worker::Offer;
 use worker::Queue;
@@ -24,6 +26,12 @@ pub struct AtHand {
     pub wal_end: Lsn,
     pub reached: Lsn,
     pub event: Event,
+}
+
+// A part of the data: where it begins and how long it is.
+struct Part {
+    from: usize,
+    len: usize,
 }
 
 fn none() -> AtHand
@@ -70,6 +78,82 @@ fn within(n: usize, unread: usize) -> usize
     n - 4
 }
 
+fn begin(len: usize, end: Lsn, final_lsn: Lsn, commit_time: i64, xid: u32) -> AtHand
+    ensures { λ r. ⌜ r ≡ atHand len end «final_lsn» (Event.Begin «final_lsn» «commit_time» xid) ⌝ }
+{
+    let event = Event::Begin {
+        final_lsn,
+        commit_time,
+        xid,
+    };
+    AtHand {
+        len,
+        wal_end: end,
+        reached: final_lsn,
+        event,
+    }
+}
+
+fn commit(len: usize, end: Lsn, lsn: Lsn, end_lsn: Lsn, commit_time: i64) -> AtHand
+    ensures { λ r. ⌜ r ≡ atHand len end «end_lsn» (Event.Commit lsn «end_lsn» «commit_time») ⌝ }
+{
+    let event = Event::Commit {
+        lsn,
+        end_lsn,
+        commit_time,
+    };
+    AtHand {
+        len,
+        wal_end: end,
+        reached: end_lsn,
+        event,
+    }
+}
+
+fn other(len: usize, start: Lsn, end: Lsn, server_time: i64, data_len: usize) -> AtHand
+    ensures { λ r. ⌜ r ≡ atHand len end end (Event.XLogData start end «server_time» 25 «data_len») ⌝ }
+{
+    let event = Event::XLogData {
+        wal_start: start,
+        wal_end: end,
+        server_time,
+        from: 25,
+        len: data_len,
+    };
+    AtHand {
+        len,
+        wal_end: end,
+        reached: end,
+        event,
+    }
+}
+
+// A logical message, whose parts begin at places of the data.
+fn logical(len: usize, end: Lsn, flag: bool, lsn: Lsn, prefix: Part, content: Part) -> AtHand
+    ensures { λ r. ⌜ (r ≡ logicalOf len end flag lsn (prefix .from) (prefix .len) (content .from) (content .len)) × (r .len ≤ len) ⌝ }
+{
+    if prefix.from < 2147483648 {
+        if content.from < 2147483648 {
+            let event = Event::Message {
+                transactional: flag,
+                lsn,
+                prefix_from: 25 + prefix.from,
+                prefix_len: prefix.len,
+                content_from: 25 + content.from,
+                content_len: content.len,
+            };
+            return AtHand {
+                len,
+                wal_end: end,
+                reached: end,
+                event,
+            };
+        }
+        return none();
+    }
+    none()
+}
+
 fn by_boundary(
     len: usize,
     start: Lsn,
@@ -85,77 +169,64 @@ fn by_boundary(
             final_lsn,
             commit_time,
             xid,
-        } => {
-            let event = Event::Begin {
-                final_lsn,
-                commit_time,
-                xid,
-            };
-            AtHand {
-                len,
-                wal_end: end,
-                reached: final_lsn,
-                event,
-            }
-        }
+        } => begin(len, end, final_lsn, commit_time, xid),
         Boundary::Commit {
             lsn,
             end_lsn,
             commit_time,
-        } => {
-            let event = Event::Commit {
-                lsn,
-                end_lsn,
-                commit_time,
-            };
-            AtHand {
-                len,
-                wal_end: end,
-                reached: end_lsn,
-                event,
-            }
-        }
-        Boundary::Message { .. } => none(),
-        Boundary::NotBoundary => {
-            let event = Event::XLogData {
-                wal_start: start,
-                wal_end: end,
-                server_time,
-                from: 25,
-                len: data_len,
-            };
-            AtHand {
-                len,
-                wal_end: end,
-                reached: end,
-                event,
-            }
-        }
+        } => commit(len, end, lsn, end_lsn, commit_time),
+        Boundary::Message {
+            transactional: flag,
+            lsn,
+            prefix_from: pf,
+            prefix_len: pl,
+            content_from: cf,
+            content_len: cl,
+        } => logical(
+            len,
+            end,
+            flag,
+            lsn,
+            Part { from: pf, len: pl },
+            Part { from: cf, len: cl },
+        ),
+        Boundary::NotBoundary => other(len, start, end, server_time, data_len),
         Boundary::Refused(_) => none(),
     }
+}
+
+// An XLogData behind its letter. Its fields are read here: through the answer of `replication` they would go through memory.
+fn xlog_data(body: &[u8]) -> AtHand
+    ensures { λ r. ⌜ (r ≡ xlogAtHand (now (body .entry))) × (r .len ≤ 1 + length (now (body .entry))) ⌝ }
+{
+    if body.len() < 24 {
+        return none();
+    }
+    let U64Field::Value(start) = wire::field::read_u64(body, 0) else {
+        return none();
+    };
+    let U64Field::Value(end) = wire::field::read_u64(body, 8) else {
+        return none();
+    };
+    let I64Field::Value(server_time) = wire::field::read_i64(body, 16) else {
+        return none();
+    };
+    let said = pgoutput::parse_pgoutput_boundary(&body[24..]);
+    let n = body.len() - 24;
+    by_boundary(n + 25, Lsn(start), Lsn(end), server_time, n, said)
 }
 
 // Of the payload of a CopyData message.
 fn message(payload: &[u8]) -> AtHand
     ensures { λ r. ⌜ (r ≡ messageOf (now (payload .entry))) × (r .len ≤ length (now (payload .entry))) ⌝ }
 {
-    if payload.len() < 25 {
+    if payload.len() == 0 {
         return none();
     }
-    match replication::parse_copy_data(payload) {
-        CopyData::XLogData {
-            wal_start,
-            wal_end,
-            server_time,
-            from: _,
-            len,
-        } => {
-            let said = pgoutput::parse_pgoutput_boundary(&payload[25..]);
-            by_boundary(payload.len(), wal_start, wal_end, server_time, len, said)
-        }
-        CopyData::KeepAlive { .. } => none(),
-        CopyData::Refused(_) => none(),
+    if payload[0] == b'w' {
+        return xlog_data(&payload[1..]);
     }
+    none()
 }
 
 pub fn at_hand(unread: &[u8]) -> AtHand

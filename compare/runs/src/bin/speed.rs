@@ -29,8 +29,7 @@ const LIMIT: usize = 65_536;
 const QUEUE: usize = 8192;
 /// Within a core's cache, as bytes are that were just read from a socket; played again and again.
 const STREAM: usize = 1 << 20;
-const PLAYS: usize = 32;
-const RUNS: usize = 7;
+const RUNS: usize = 200;
 /// What a server sent; of each stream the CopyData messages are played.
 const RECORDED: [&[u8]; 4] = [
     include_bytes!("../../../../crates/streams/data/basic-text.bin"),
@@ -421,14 +420,10 @@ fn line(row: &str, rows: &str, s: &Stream) {
     );
 }
 
-/// The time of one of several plays, and what each of them gave.
-fn timed<T: PartialEq>(mut play: impl FnMut() -> T) -> (f64, T) {
-    let result = play();
+fn timed<T>(mut play: impl FnMut() -> T) -> (f64, T) {
     let begun = Instant::now();
-    for _ in 0..PLAYS {
-        assert!(play() == result, "two plays differ");
-    }
-    (begun.elapsed().as_secs_f64() / PLAYS as f64, result)
+    let result = play();
+    (begun.elapsed().as_secs_f64(), result)
 }
 
 /// A step of an ended run: the run's words in and out, and nothing else. Nanoseconds.
