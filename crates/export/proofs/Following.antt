@@ -22,7 +22,7 @@ use Rattle.advance.specs.declared.AtHand.{AtHand}
 use Rattle.advance.specs.Advance.{isNothing, tells, lentBehind, behind, twice, advanceOf}
 use Rattle.advance.specs.AtHand.{atHandOf, appliesOf, handedRun, handedOf}
 use Rattle.advance.proofs.FourSteps.{hands-on-at-once, applies-room}
-use Rattle.export.specs.Answers.{answerOf, tellsWords, takenWords, steppedWords}
+use Rattle.export.specs.Answers.{answerOf, tellsWords, takenWords, handedWords, steppedWords}
 use Rattle.export.specs.Words.{eventWords, runOf, wordsOf}
 
 nothing-by-kind : (e : Event) → eqb (getD (eventWords e) 0 0) 0 ≡ isNothing e
@@ -104,7 +104,7 @@ module _ (j : Input) (w u p out : List ℕ) {r : Run} {a : AtHand} {q : Queue} {
       → (n, p1) ≡ copied p (take (5 + a .len - 5) (drop 5 u))
       → r1 ≡ handedRun r (j .moment) a
       → (ws ≡ wordsOf r1) × (runOf ws ≡ r1)
-      → answer ≡ answerOf 0 (5 + a .len) 0 none (a .event)
+      → answer ≡ handedWords ws (5 + a .len)
       → Leaves (advanceOf (runOf w) j (lent u p out)) ws answer p1 out
   at-once {n} {p1} {ws} {answer} {r1} pc ph pw pn =
       let k = has-room in
@@ -117,5 +117,5 @@ module _ (j : Input) (w u p out : List ℕ) {r : Run} {a : AtHand} {q : Queue} {
       ap (λ (x : Run). handedOf x (j .moment) a u p out) pr
       ∙ (ap (λ (x : AtHand). handedOf (runOf w) (j .moment) x u p out) pa
       ∙ sym (hands-on-at-once (runOf w) j u p out refl g)) in
-      let t : (ws, answer, p1, out) ≡ steppedWords (handedOf r (j .moment) a u p out) = rw (pp, pn, pw .0, ph) in
+      let t : (ws, answer, p1, out) ≡ steppedWords (handedOf r (j .moment) a u p out) = rw (pn, pp, pw .0, ph) in
       (t ∙ ap steppedWords e, pw .1 ∙ (ph ∙ ap (λ (x : Outcome). x .run) e))

@@ -52,6 +52,11 @@ takenWords k a =
     getD a 0 0 ∷ more k (getD a 1 0) ∷ getD a 2 0 ∷ getD a 3 0 ∷ getD a 4 0 ∷ getD a 5 0 ∷ getD a 6 0 ∷ getD a 7 0 ∷ getD a 8 0 ∷ getD a 9 0
     ∷ getD a 10 0 ∷ getD a 11 0 ∷ []
 
+-- the answer where the event that a run offered is handed on, by the run's words
+abbrev pub handedWords : List ℕ → ℕ → List ℕ
+handedWords w taken =
+    0 ∷ taken ∷ 0 ∷ 0 ∷ 0 ∷ getD w 31 0 ∷ getD w 32 0 ∷ getD w 33 0 ∷ getD w 34 0 ∷ getD w 35 0 ∷ getD w 36 0 ∷ getD w 37 0 ∷ []
+
 -- refusal, run and bytes written, and output behind opening; refused, the run's words are as they were
 abbrev pub openedWords : List ℕ → Opened → ℕ × List ℕ × ℕ × List ℕ
 openedWords w o = (o .outcome .0, pick (eqb (o .outcome .0) 0) (wordsOf (o .run)) w, o .outcome .1, o .out)

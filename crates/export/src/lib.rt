@@ -140,9 +140,8 @@ pub extern "C" fn rufflesquash_advance(
     if advance::applies(before, Moment(moment), q, payload.len(), out.len(), at_hand) {
         let taken = 5 + at_hand.len;
         wire::store::copy(payload, &unread[5..taken]);
-        let event = at_hand.event;
         *run = words_of(advance::handed(before, Moment(moment), at_hand));
-        *answer = handed_words(event, taken as u64);
+        *answer = handed_words(*run, taken as u64);
         return;
     }
     four_steps(

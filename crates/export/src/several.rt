@@ -1,15 +1,12 @@
 // Steps one after another with the same input, over a run's words.
 ghost use mathlib.Core.Path.{_≡_};
-ghost use mathlib.Core.Option.{none};
 ghost use Prim.Native.Nat.{min};
 ghost use Rattle.advance.specs.Advance.{twice, advanceOf};
 ghost use Rattle.worker.specs.Answer.{lent};
 ghost use Rattle.worker.specs.Step.{stepOf};
-ghost use Rattle.export.specs.Answers.{inputOf, answerOf, tellsWords, takenWords, steppedWords};
+ghost use Rattle.export.specs.Answers.{inputOf, tellsWords, takenWords, handedWords, steppedWords};
 ghost use Rattle.export.specs.Words.{runOf};
 use crate::rufflesquash_step;
-use crate::words::event_words;
-use worker::Event;
 
 // Whether an answer has a refusal, bytes for the server, or an event.
 fn tells(answer: [u64; 12]) -> bool
@@ -55,12 +52,24 @@ fn least(taken: u64, len: usize) -> usize
     }
 }
 
-// The answer where an event is handed on.
-pub(crate) fn handed_words(event: Event, taken: u64) -> [u64; 12]
-    ensures { λ r. ⌜ r ≡ answerOf 0 taken 0 none event ⌝ }
+// The answer where the event that a run offered is handed on.
+pub(crate) fn handed_words(w: [u64; 48], taken: u64) -> [u64; 12]
+    ensures { λ r. ⌜ r ≡ handedWords w taken ⌝ }
 {
-    let e = event_words(event);
-    [0, taken, 0, 0, 0, e[0], e[1], e[2], e[3], e[4], e[5], e[6]]
+    [
+        0,
+        taken,
+        0,
+        0,
+        0,
+        w[31],
+        w[32],
+        w[33],
+        w[34],
+        w[35],
+        w[36],
+        w[37],
+    ]
 }
 
 // A second step where the first told nothing.

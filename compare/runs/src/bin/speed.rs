@@ -154,6 +154,12 @@ impl Sum {
         }
     }
 
+    /// The Rust hands on prefixes as lossy texts.
+    #[cold]
+    fn lossy(&mut self, prefix: &[u8]) {
+        self.part(String::from_utf8_lossy(prefix).as_bytes());
+    }
+
     fn theirs(&mut self, event: ReplicationEvent) {
         use ReplicationEvent as E;
         match event {
@@ -175,6 +181,7 @@ impl Sum {
         }
     }
 
+    #[inline(always)]
     fn ours(&mut self, event: Event) {
         match event {
             Event::KeepAlive { wal_end, server_time, reply_requested } => self.event(1, wal_end.0, server_time as u64, reply_requested as u64),
@@ -182,7 +189,7 @@ impl Sum {
             Event::Commit { lsn, end_lsn, commit_time } => self.event(3, lsn.0, end_lsn.0, commit_time as u64),
             Event::Message { transactional, lsn, prefix, content } => {
                 self.event(4, transactional as u64, lsn.0, 0);
-                self.part(String::from_utf8_lossy(prefix).as_bytes());
+                self.lossy(prefix);
                 self.part(content);
             }
             Event::XLogData { wal_start, wal_end, server_time, data } => {

@@ -62,9 +62,9 @@ same-length c = search needs
 
 returns : tie.Need-returns
 returns c =
-    let a = c .before .before .before .before .before .before .before .before .before .before .before .before .before .before .before .before .before .before .args in
+    let a = c .before .before .before .before .before .before .before .before .before .before .before .before .before .before .before .before .before .before .before .args in
     let i = inputOf (a .moment) (a .client-time) (a .stop) (a .queue) (a .ended) in
-    at-once i (a .run .now) (a .unread .now) (a .payload .now) (a .out .now) (c .before .before .before .before .before .before .before .before .before .before .before .before .before .run-of .ensures) (c .before .before .before .before .before .before .before .before .before .before .before .before .at-hand .ensures .0) (c .before .before .before .before .before .before .before .before .before .before .before .queue-of .ensures) (c .before .before .before .before .before .before .before .before .before .before .applies .ensures) (c .before .before .before .before .before .before .before .before .before .if1 .taken) (c .before .before .before .before .before .copy .ensures) (c .before .before .handed .ensures) (c .before .words-of .ensures) (c .handed-words .ensures)
+    at-once i (a .run .now) (a .unread .now) (a .payload .now) (a .out .now) (c .before .before .before .before .before .before .before .before .before .before .before .before .before .before .run-of .ensures) (c .before .before .before .before .before .before .before .before .before .before .before .before .before .at-hand .ensures .0) (c .before .before .before .before .before .before .before .before .before .before .before .before .queue-of .ensures) (c .before .before .before .before .before .before .before .before .before .before .before .applies .ensures) (c .before .before .before .before .before .before .before .before .before .before .if1 .taken) (c .before .before .before .before .before .before .copy .ensures) (c .before .before .before .handed .ensures) (c .before .before .words-of .ensures) (c .handed-words .ensures)
 
 four-steps-requires : tie.Need-four-steps-requires
 four-steps-requires c κs = search needs
