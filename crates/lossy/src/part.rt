@@ -1,7 +1,7 @@
 // The part of a text at a place: a well-formed sequence, or a maximal ill-formed part.
 ghost use mathlib.Core.Path.{_≡_};
 ghost use mathlib.Core.Bool.{true, false};
-ghost use Prim.Native.Nat.{_+_, _≤_, _<_};
+ghost use Prim.Native.Nat.{_≤_, _<_};
 ghost use lib.ListN.{length, drop};
 ghost use Rattle.wire.specs.Bytes.{pick};
 ghost use Rattle.lossy.specs.WellFormed.{table, rowOf, matched};

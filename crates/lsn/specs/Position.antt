@@ -10,6 +10,7 @@ use Rattle.wire.specs.Find.{indexOf}
 use Rattle.wire.specs.declared.find.Found.{Found}
 use Rattle.wire.specs.declared.find.Found.the-variants.{At, Nothing}
 use Rattle.error.specs.Refusal.{numberOf}
+use Rattle.moment.specs.declared.Moment.{Moment}
 use Rattle.text.specs.Numeral.{hexText}
 use Rattle.lsn.specs.Hex.{hexPart}
 use Rattle.lsn.specs.declared.Lsn.{Lsn}
@@ -44,6 +45,11 @@ parseOutcome (Refused r) = (numberOf r, 0)
 unfoldable pub displayOf : ℕ → List ℕ
 displayOf v = hexText (v / 2 ^ 32) ++ (47 ∷ hexText (v % 2 ^ 32))
 
--- the order of positions; there is none between a position and a moment
+-- the order of positions
 abbrev pub isBelow : Lsn → Lsn → Bool
 isBelow a b = ltb (a .0) (b .0)
+
+-- "A log position is never added to or compared with a clock moment": at every moment, one position is below another or not by the two
+-- positions alone
+abbrev pub isBelowAt : Moment → Lsn → Lsn → Bool
+isBelowAt moment a b = isBelow a b

@@ -3,8 +3,6 @@ use Prim.Native.Nat.{ℕ, _-_}
 use mathlib.Core.Bool.{Bool, false}
 use lib.Dec.{ltb, leb}
 use Rattle.wire.specs.Bytes.{pick}
-use Rattle.lsn.specs.Position.{isBelow}
-use Rattle.lsn.specs.declared.Lsn.{Lsn}
 use Rattle.moment.specs.declared.Moment.{Moment}
 
 -- the order of moments
@@ -18,8 +16,3 @@ inRange m = pick (ltb (m .0) 1) false (leb (m .0) 9223372036854775807)
 -- how long ago b was at a: "zero where the stored one lies ahead"
 abbrev pub sinceOf : Moment → Moment → ℕ
 sinceOf a b = a .0 - b .0
-
--- "A log position is never added to or compared with a clock moment": at every moment, one position is below another or not by the two
--- positions alone
-abbrev pub isBelowAt : Moment → Lsn → Lsn → Bool
-isBelowAt moment a b = isBelow a b
