@@ -164,9 +164,13 @@ drainOf r i l =
 
 -- ---- Reading: "message whole: handle; else stay, whatever the clock"
 
+-- "a whole message is handled by the next step"
+abbrev pub toHandle : ℕ → ℕ → Bool → Run → Run
+toHandle tag n in-wait r = withState Handling (withWhole (wholeOf tag n in-wait) r)
+
 abbrev pub readingBy : R.Said → Run → Lent → Outcome
 readingBy R.more r l = moved r l
-readingBy (R.whole tag n) r l = moved (withState Handling (withWhole (wholeOf tag n false) (withDrained (more (r .drained) 1) r))) l
+readingBy (R.whole tag n) r l = moved (toHandle tag n false (withDrained (more (r .drained) 1) r)) l
 readingBy (R.refused n) r l = endedWith n r l
 
 -- neither stop nor clock is looked at
@@ -183,7 +187,7 @@ idleOf r i l =
 
 abbrev pub waitingBy : R.Said → Run → Input → Lent → Outcome
 waitingBy R.more r i l = idleOf r i l
-waitingBy (R.whole tag n) r i l = moved (withState Handling (withWhole (wholeOf tag n true) r)) l
+waitingBy (R.whole tag n) r i l = moved (toHandle tag n true r) l
 waitingBy (R.refused n) r i l = endedWith n r l
 
 abbrev pub waitingRead : Run → Input → Lent → Outcome

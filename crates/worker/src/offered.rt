@@ -1,6 +1,5 @@
 // What is offered, and the way back from it.
 ghost use mathlib.Core.Path.{_≡_};
-ghost use mathlib.Core.Bool.{false};
 ghost use Rattle.worker.specs.Answer.{outcomeBy};
 ghost use Rattle.worker.specs.Step.{Lent, back, offers, reaches, offersAt};
 use crate::Event;

@@ -6,7 +6,7 @@ ghost use Rattle.framing.specs.Read.{saidBy, whole};
 ghost use Rattle.metrics.specs.Metrics.{more};
 ghost use Rattle.worker.specs.Run.{withDrained};
 ghost use Rattle.worker.specs.Answer.{lent, outcomeBy};
-ghost use Rattle.worker.specs.Step.{Lent, having, openingBy, openingOf, readingBy, readingOf};
+ghost use Rattle.worker.specs.Step.{Lent, moved, openingBy, openingOf, toHandle, readingBy, readingOf};
 use crate::Input;
 use crate::Run;
 use crate::State;
@@ -36,13 +36,13 @@ fn greeted(tag: u8, n: usize, run: Run) -> Stepped
     moved(run)
 }
 
-fn opening_by(answer: Answer, taken: usize, run: Run) -> Stepped
-    ensures { λ s. ⌜ ((l : Lent) (p : List ℕ) → outcomeBy s p (l .out) ≡ having taken p (openingBy (saidBy answer) run l)) ⌝ }
+fn opening_by(answer: Answer, run: Run) -> Stepped
+    ensures { λ s. ⌜ ((l : Lent) → outcomeBy s (l .payload) (l .out) ≡ openingBy (saidBy answer) run l) ⌝ }
 {
     match answer {
-        Answer::More => having(taken, moved(run)),
-        Answer::Whole(tag, n) => having(taken, greeted(tag, n, run)),
-        Answer::Refused(refusal) => having(taken, ended(refusal, run)),
+        Answer::More => moved(run),
+        Answer::Whole(tag, n) => greeted(tag, n, run),
+        Answer::Refused(refusal) => ended(refusal, run),
     }
 }
 
@@ -54,7 +54,7 @@ pub(crate) fn opening(run: Run, input: Input, unread: &[u8], payload: &mut [u8])
     let x = reader.read(run.settings.max_message_size, unread, input.ended, payload);
     let answer = x.answer;
     let after = x.reader;
-    opening_by(answer, x.taken, with_reader(after, run))
+    having(x.taken, opening_by(answer, with_reader(after, run)))
 }
 
 fn drained(run: Run) -> Run
@@ -64,16 +64,20 @@ fn drained(run: Run) -> Run
     with_drained(n, run)
 }
 
-fn reading_by(answer: Answer, taken: usize, run: Run) -> Stepped
-    ensures { λ s. ⌜ ((l : Lent) (p : List ℕ) → outcomeBy s p (l .out) ≡ having taken p (readingBy (saidBy answer) run l)) ⌝ }
+// A whole message is handled by the next step.
+pub(crate) fn to_handle(tag: u8, n: usize, in_wait: bool, run: Run) -> Stepped
+    ensures { λ s. ⌜ ((l : Lent) → outcomeBy s (l .payload) (l .out) ≡ moved (toHandle tag n «in_wait» run) l) ⌝ }
+{
+    moved(with_state(State::Handling, with_whole(tag, n, in_wait, run)))
+}
+
+fn reading_by(answer: Answer, run: Run) -> Stepped
+    ensures { λ s. ⌜ ((l : Lent) → outcomeBy s (l .payload) (l .out) ≡ readingBy (saidBy answer) run l) ⌝ }
 {
     match answer {
-        Answer::More => having(taken, moved(run)),
-        Answer::Whole(tag, n) => {
-            let next = with_whole(tag, n, false, drained(run));
-            having(taken, moved(with_state(State::Handling, next)))
-        }
-        Answer::Refused(refusal) => having(taken, ended(refusal, run)),
+        Answer::More => moved(run),
+        Answer::Whole(tag, n) => to_handle(tag, n, false, drained(run)),
+        Answer::Refused(refusal) => ended(refusal, run),
     }
 }
 
@@ -85,5 +89,5 @@ pub(crate) fn reading(run: Run, input: Input, unread: &[u8], payload: &mut [u8])
     let x = reader.read(run.settings.max_message_size, unread, input.ended, payload);
     let answer = x.answer;
     let after = x.reader;
-    reading_by(answer, x.taken, with_reader(after, run))
+    having(x.taken, reading_by(answer, with_reader(after, run)))
 }

@@ -9,7 +9,7 @@ ghost use Rattle.wire.specs.Bytes.{pick};
 ghost use Rattle.moment.specs.Moment.{sinceOf};
 ghost use Rattle.framing.specs.Read.{saidBy};
 ghost use Rattle.worker.specs.Answer.{lent, outcomeBy};
-ghost use Rattle.worker.specs.Step.{having, intervalPassed, idleOf, waitingBy, waitingRead, waitingOf};
+ghost use Rattle.worker.specs.Step.{intervalPassed, idleOf, waitingBy, waitingRead, waitingOf};
 use crate::Event;
 use crate::Input;
 use crate::Run;
@@ -17,11 +17,11 @@ use crate::State;
 use crate::Stepped;
 use crate::changes::with_reader;
 use crate::changes::with_state;
-use crate::changes::with_whole;
 use crate::ends::done;
 use crate::ends::ended;
 use crate::ends::having;
 use crate::ends::moved;
+use crate::receive::to_handle;
 use crate::status::interval_passed;
 use crate::status::send_feedback;
 use framing::Answer;
@@ -71,17 +71,14 @@ fn idle(run: Run, input: Input, out: &mut [u8]) -> Stepped
     moved(run)
 }
 
-fn waiting_by(answer: Answer, taken: usize, run: Run, input: Input, out: &mut [u8]) -> Stepped
+fn waiting_by(answer: Answer, run: Run, input: Input, out: &mut [u8]) -> Stepped
     requires { ⌜ 39 ≤ length (now out) ⌝ }
-    ensures { λ s. ⌜ ((u p q : List ℕ) → outcomeBy s p (now (out .exit)) ≡ having taken p (waitingBy (saidBy answer) run input (lent u q (now (out .entry))))) ⌝ }
+    ensures { λ s. ⌜ ((u p : List ℕ) → outcomeBy s p (now (out .exit)) ≡ waitingBy (saidBy answer) run input (lent u p (now (out .entry)))) ⌝ }
 {
     match answer {
-        Answer::More => having(taken, idle(run, input, out)),
-        Answer::Whole(tag, n) => {
-            let next = with_whole(tag, n, true, run);
-            having(taken, moved(with_state(State::Handling, next)))
-        }
-        Answer::Refused(refusal) => having(taken, ended(refusal, run)),
+        Answer::More => idle(run, input, out),
+        Answer::Whole(tag, n) => to_handle(tag, n, true, run),
+        Answer::Refused(refusal) => ended(refusal, run),
     }
 }
 
@@ -99,7 +96,8 @@ fn waiting_read(
     let x = reader.read(run.settings.max_message_size, unread, input.ended, payload);
     let answer = x.answer;
     let after = x.reader;
-    waiting_by(answer, x.taken, with_reader(after, run), input, out)
+    let stepped = waiting_by(answer, with_reader(after, run), input, out);
+    having(x.taken, stepped)
 }
 
 pub(crate) fn waiting(

@@ -1,5 +1,7 @@
+use mathlib.Core.Path.{_∙_}
 use Rattle.worker.specs.Answer.{lent}
 use Rattle.worker.specs.Step.{openingOf}
+use Rattle.worker.proofs.Laws.{having-same}
 use borrow.Author.Needs.{needs}
 use Rattle.worker.proofs.receive.opening.Statement.{statement}
 use Rattle.worker.proofs.receive.opening.Tie as tie
@@ -13,14 +15,26 @@ with-reader-requires c κs = search needs
 opening-by-requires : tie.Need-opening-by-requires
 opening-by-requires c κs = search needs
 
+having-requires : tie.Need-having-requires
+having-requires c κs = search needs
+
 same-length : tie.Need-same-length
 same-length c = search needs
 
 returns : tie.Need-returns
 unfolding openingOf
 returns c = λ o.
-    rw (← c .before .before .before .before .before .read .ensures, ← c .before .with-reader .ensures) (c .opening-by .ensures (lent (c .before .before .before .before .before .before .before .before .before .before .args .unread .now) (c .before .before .before .before .before .before .before .before .before .before .args .payload .now) o) _)
+    let a = c .before .before .before .before .before .before .before .before .before .before .before .args in
+    rw (← c .before .before .before .before .before .before .read .ensures, ← c .before .before .with-reader .ensures)
+    (c .having .ensures _ (a .payload .now) o ∙ having-same _ _ (c .before .opening-by .ensures (lent (a .unread .now) (a .payload .now) o)))
 
 pub opening-spec : {M : Type 1} → statement M
 opening-spec =
-    tie.close (tie.spec read-requires with-reader-requires opening-by-requires same-length returns)
+    tie.close
+    (tie.spec
+    read-requires
+    with-reader-requires
+    opening-by-requires
+    having-requires
+    same-length
+    returns)

@@ -1,5 +1,4 @@
 use mathlib.Core.Path.{_∙_}
-use Rattle.worker.proofs.Laws.{having-same}
 use borrow.Author.Needs.{needs}
 use Rattle.worker.proofs.receive.reading_by.Statement.{statement}
 use Rattle.worker.proofs.receive.reading_by.Tie as tie
@@ -10,26 +9,14 @@ enum-told c = search needs
 moved-requires : tie.Need-moved-requires
 moved-requires c κs = search needs
 
-having-requires : tie.Need-having-requires
-having-requires c κs = search needs
-
 enum-known-answer : tie.Need-enum-known-answer
 enum-known-answer c = search needs
 
 drained-requires : tie.Need-drained-requires
 drained-requires c κs = search needs
 
-with-whole-requires : tie.Need-with-whole-requires
-with-whole-requires c κs = search needs
-
-with-state-requires : tie.Need-with-state-requires
-with-state-requires c κs = search needs
-
-moved-requires-2 : tie.Need-moved-requires-2
-moved-requires-2 c κs = search needs
-
-having-requires-2 : tie.Need-having-requires-2
-having-requires-2 c κs = search needs
+to-handle-requires : tie.Need-to-handle-requires
+to-handle-requires c κs = search needs
 
 enum-known-answer-2 : tie.Need-enum-known-answer-2
 enum-known-answer-2 c = search needs
@@ -37,21 +24,14 @@ enum-known-answer-2 c = search needs
 ended-requires : tie.Need-ended-requires
 ended-requires c κs = search needs
 
-having-requires-3 : tie.Need-having-requires-3
-having-requires-3 c κs = search needs
-
 returns : tie.Need-returns
-returns c = λ l p. rw (c .before .before .enum-told .given .1) (c .having .ensures p (l .payload) (l .out) ∙ having-same _ p (c .before .moved .ensures l))
+returns c = λ l. rw (c .before .enum-told .given .1) (c .moved .ensures l)
 
 returns-2 : tie.Need-returns-2
-returns-2 c = λ l p.
-    rw (c .before .before .before .before .before .before .answer .given .1)
-    (c .having2 .ensures p (l .payload) (l .out)
-    ∙ (having-same _ p (c .before .moved2 .ensures l)
-    ∙ rw (c .before .before .with-state .ensures, c .before .before .before .with-whole .ensures, c .before .before .before .before .drained .ensures)))
+returns-2 c = λ l. rw (c .before .before .before .answer .given .1) (c .to-handle .ensures l ∙ rw (c .before .drained .ensures))
 
 returns-3 : tie.Need-returns-3
-returns-3 c = λ l p. rw (c .before .before .before .answer2 .given .1) (c .having3 .ensures p (l .payload) (l .out) ∙ having-same _ p (c .before .ended .ensures l))
+returns-3 c = λ l. rw (c .before .before .answer2 .given .1) (c .ended .ensures l)
 
 pub reading-by-spec : {M : Type 1} → statement M
 reading-by-spec =
@@ -59,16 +39,11 @@ reading-by-spec =
     (tie.spec
     enum-told
     moved-requires
-    having-requires
     enum-known-answer
     drained-requires
-    with-whole-requires
-    with-state-requires
-    moved-requires-2
-    having-requires-2
+    to-handle-requires
     enum-known-answer-2
     ended-requires
-    having-requires-3
     returns
     returns-2
     returns-3)
