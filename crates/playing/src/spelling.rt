@@ -1,11 +1,17 @@
-// How programs spell what a run answers.
+// How programs spell what a run answers. Each writer answers the place behind what it wrote.
+ghost use mathlib.Core.Path.{_≡_};
+ghost use Rattle.lines.specs.Line.{pieces};
+ghost use Rattle.worker.specs.Answer.{verdictNumber};
+ghost use Rattle.playing.specs.Spelling.{datedTexts, spannedTexts, flaggedTexts, stoppedTexts, partBy, lossyLength, prefixBy, dataTexts, eventTexts};
 use error::Counted;
 use lsn::Lsn;
 use worker::Event;
 use worker::Verdict;
 
 // Document 01's number, 0 for none.
-pub fn number(verdict: Verdict) -> u8 {
+pub fn number(verdict: Verdict) -> u8
+    ensures { λ r. ⌜ r ≡ verdictNumber verdict ⌝ }
+{
     match verdict {
         Verdict::Accepted => 0,
         Verdict::Refused(r) => r.number(),
@@ -13,7 +19,9 @@ pub fn number(verdict: Verdict) -> u8 {
 }
 
 // A part of the payload: its length, or its bytes.
-fn part(line: &mut [u8], at: usize, payload: &[u8], from: usize, len: usize, brief: bool) -> usize {
+fn part(line: &mut [u8], at: usize, payload: &[u8], from: usize, len: usize, brief: bool) -> usize
+    ensures { λ r. ⌜ (r, now (line .exit)) ≡ pieces (now (line .entry)) at (partBy brief (now (payload .entry)) from len) ⌝ }
+{
     if brief {
         return lines::number(line, at, len as u64);
     }
@@ -21,7 +29,9 @@ fn part(line: &mut [u8], at: usize, payload: &[u8], from: usize, len: usize, bri
 }
 
 // The length of a part's lossy text.
-fn lossy_len(payload: &[u8], from: usize, len: usize) -> u64 {
+fn lossy_len(payload: &[u8], from: usize, len: usize) -> u64
+    ensures { λ r. ⌜ r ≡ lossyLength (now (payload .entry)) from len ⌝ }
+{
     if payload.len() < from {
         return 0;
     }
@@ -35,78 +45,54 @@ fn lossy_len(payload: &[u8], from: usize, len: usize) -> u64 {
 }
 
 // A prefix: the length of its text, or its bytes.
-fn prefix(
-    line: &mut [u8],
-    at: usize,
-    payload: &[u8],
-    from: usize,
-    len: usize,
-    brief: bool,
-) -> usize {
+fn prefix(line: &mut [u8], at: usize, payload: &[u8], from: usize, len: usize, brief: bool) -> usize
+    ensures { λ r. ⌜ (r, now (line .exit)) ≡ pieces (now (line .entry)) at (prefixBy brief (now (payload .entry)) from len) ⌝ }
+{
     if brief {
         return lines::number(line, at, lossy_len(payload, from, len));
     }
     lines::part(line, at, payload, from, len)
 }
 
-fn keepalive(line: &mut [u8], at: usize, wal_end: Lsn, server_time: i64, reply: bool) -> usize {
-    let a = wire::store::place(line, at, b"K");
-    let b = lines::position(line, a, wal_end);
-    let c = lines::long(line, b, server_time);
-    lines::flag(line, c, reply)
+fn dated(line: &mut [u8], at: usize, letter: u8, p: Lsn, time: i64) -> usize
+    ensures { λ r. ⌜ (r, now (line .exit)) ≡ pieces (now (line .entry)) at (datedTexts letter p time) ⌝ }
+{
+    let head = [letter];
+    let a = wire::store::place(line, at, &head);
+    let b = lines::position(line, a, p);
+    lines::long(line, b, time)
 }
 
-fn begin(line: &mut [u8], at: usize, final_lsn: Lsn, commit_time: i64, xid: u32) -> usize {
-    let a = wire::store::place(line, at, b"B");
-    let b = lines::position(line, a, final_lsn);
-    let c = lines::long(line, b, commit_time);
-    lines::number(line, c, xid as u64)
+fn spanned(line: &mut [u8], at: usize, letter: u8, p: Lsn, q: Lsn, time: i64) -> usize
+    ensures { λ r. ⌜ (r, now (line .exit)) ≡ pieces (now (line .entry)) at (spannedTexts letter p q time) ⌝ }
+{
+    let head = [letter];
+    let a = wire::store::place(line, at, &head);
+    let b = lines::position(line, a, p);
+    let c = lines::position(line, b, q);
+    lines::long(line, c, time)
 }
 
-fn commit(line: &mut [u8], at: usize, position: Lsn, end: Lsn, commit_time: i64) -> usize {
-    let a = wire::store::place(line, at, b"C");
-    let b = lines::position(line, a, position);
-    let c = lines::position(line, b, end);
-    lines::long(line, c, commit_time)
-}
-
-fn flagged(line: &mut [u8], at: usize, flag: bool, position: Lsn) -> usize {
+fn flagged(line: &mut [u8], at: usize, flag: bool, position: Lsn) -> usize
+    ensures { λ r. ⌜ (r, now (line .exit)) ≡ pieces (now (line .entry)) at (flaggedTexts flag position) ⌝ }
+{
     let a = wire::store::place(line, at, b"M");
     let b = lines::flag(line, a, flag);
     lines::position(line, b, position)
 }
 
-fn other(line: &mut [u8], at: usize, wal_start: Lsn, wal_end: Lsn, server_time: i64) -> usize {
-    let a = wire::store::place(line, at, b"X");
-    let b = lines::position(line, a, wal_start);
-    let c = lines::position(line, b, wal_end);
-    lines::long(line, c, server_time)
-}
-
-fn stopped(line: &mut [u8], at: usize, reached: Lsn) -> usize {
+fn stopped(line: &mut [u8], at: usize, reached: Lsn) -> usize
+    ensures { λ r. ⌜ (r, now (line .exit)) ≡ pieces (now (line .entry)) at (stoppedTexts reached) ⌝ }
+{
     let a = wire::store::place(line, at, b"S");
     lines::position(line, a, reached)
 }
 
-// An event's letter and fields; brief: parts by their lengths. Nothing for no event.
-pub fn event(line: &mut [u8], at: usize, payload: &[u8], e: Event, brief: bool) -> usize {
+// An event that names parts.
+fn data_event(line: &mut [u8], at: usize, payload: &[u8], e: Event, brief: bool) -> usize
+    ensures { λ r. ⌜ (r, now (line .exit)) ≡ pieces (now (line .entry)) at (dataTexts brief (now (payload .entry)) e) ⌝ }
+{
     match e {
-        Event::Nothing => at,
-        Event::KeepAlive {
-            wal_end,
-            server_time,
-            reply_requested,
-        } => keepalive(line, at, wal_end, server_time, reply_requested),
-        Event::Begin {
-            final_lsn,
-            commit_time,
-            xid,
-        } => begin(line, at, final_lsn, commit_time, xid),
-        Event::Commit {
-            lsn,
-            end_lsn,
-            commit_time,
-        } => commit(line, at, lsn, end_lsn, commit_time),
         Event::Message {
             transactional,
             lsn,
@@ -126,9 +112,46 @@ pub fn event(line: &mut [u8], at: usize, payload: &[u8], e: Event, brief: bool) 
             from,
             len,
         } => {
-            let a = other(line, at, wal_start, wal_end, server_time);
+            let a = spanned(line, at, b'X', wal_start, wal_end, server_time);
             part(line, a, payload, from, len, brief)
         }
+        Event::Nothing => at,
+        Event::KeepAlive { .. } => at,
+        Event::Begin { .. } => at,
+        Event::Commit { .. } => at,
+        Event::StoppedAt { .. } => at,
+    }
+}
+
+// An event's letter and fields; brief: parts by their lengths. Nothing for no event.
+pub fn event(line: &mut [u8], at: usize, payload: &[u8], e: Event, brief: bool) -> usize
+    ensures { λ r. ⌜ (r, now (line .exit)) ≡ pieces (now (line .entry)) at (eventTexts brief (now (payload .entry)) e) ⌝ }
+{
+    match e {
+        Event::Nothing => at,
+        Event::KeepAlive {
+            wal_end,
+            server_time,
+            reply_requested,
+        } => {
+            let a = dated(line, at, b'K', wal_end, server_time);
+            lines::flag(line, a, reply_requested)
+        }
+        Event::Begin {
+            final_lsn,
+            commit_time,
+            xid,
+        } => {
+            let a = dated(line, at, b'B', final_lsn, commit_time);
+            lines::number(line, a, xid as u64)
+        }
+        Event::Commit {
+            lsn,
+            end_lsn,
+            commit_time,
+        } => spanned(line, at, b'C', lsn, end_lsn, commit_time),
+        Event::Message { .. } => data_event(line, at, payload, e, brief),
+        Event::XLogData { .. } => data_event(line, at, payload, e, brief),
         Event::StoppedAt { reached } => stopped(line, at, reached),
     }
 }
