@@ -47,25 +47,9 @@ either : {p : Lsn} {i : Input} {l : Lent} (b : Bool) {x y : Outcome} → Keeps p
 either true hx hy = hx
 either false hx hy = hy
 
-one-cell : (b : Bool) (x y : ProgressCell) (p : Lsn) → x .applied ≡ p → y .applied ≡ p → pick b x y .applied ≡ p
-one-cell true x y p hx hy = hx
-one-cell false x y p hx hy = hy
-
-one-run : (b : Bool) (x y : Run) (p : Lsn) → x .progress .applied ≡ p → y .progress .applied ≡ p → pick b x y .progress .applied ≡ p
-one-run true x y p hx hy = hx
-one-run false x y p hx hy = hy
-
-handing-keeps : (p : Lsn) (i : Input) (l : Lent) (e : Event) (r : Run) → r .progress .applied ≡ p → Keeps p i l (handing e r l)
-handing-keeps p i l e r h = record { kept = h; writes = nothing refl refl }
-
-moved-keeps : (p : Lsn) (i : Input) (l : Lent) (r : Run) → r .progress .applied ≡ p → Keeps p i l (moved r l)
-moved-keeps p i l r h = handing-keeps p i l Nothing r h
-
-ended-keeps : (p : Lsn) (i : Input) (l : Lent) (n : ℕ) (r : Run) → r .progress .applied ≡ p → Keeps p i l (endedWith n r l)
-ended-keeps p i l n r h = record { kept = h; writes = nothing refl refl }
-
-done-keeps : (p : Lsn) (i : Input) (l : Lent) (e : Event) (r : Run) → r .progress .applied ≡ p → Keeps p i l (doneWith e r l)
-done-keeps p i l e r h = record { kept = h; writes = done refl refl }
+one-of : {A : Type 0} (f : A → Lsn) (b : Bool) (x y : A) (p : Lsn) → f x ≡ p → f y ≡ p → f (pick b x y) ≡ p
+one-of f true x y p hx hy = hx
+one-of f false x y p hx hy = hy
 
 -- bytes taken and a payload buffer change neither
 having-writes : (n : ℕ) (i : Input) (l : Lent) (k : ℕ) (b : List ℕ) (o : Outcome) → Writes n i l o → Writes n i l (having k b o)
@@ -73,163 +57,176 @@ having-writes n i l k b o (nothing a c) = nothing a c
 having-writes n i l k b o (done a c) = done a c
 having-writes n i l k b o (status reply a c) = status reply a c
 
-having-keeps : (p : Lsn) (i : Input) (l : Lent) (k : ℕ) (b : List ℕ) (o : Outcome) → Keeps p i l o → Keeps p i l (having k b o)
-having-keeps p i l k b o h = record { kept = h .kept; writes = having-writes (p .0) i l k b o (h .writes) }
+module _ (p : Lsn) (i : Input) (l : Lent) where
+  handing-keeps : (e : Event) (r : Run) → r .progress .applied ≡ p → Keeps p i l (handing e r l)
+  handing-keeps e r h = record { kept = h; writes = nothing refl refl }
 
-status-keeps : (p : Lsn) (i : Input) (l : Lent) (reply : Bool) (to : State) (r : Run) → r .progress .applied ≡ p → Keeps p i l (statusOf reply to r i l)
-unfolding statusOf reportedOf
-status-keeps p i l reply to r h =
-    record {
-      kept = one-cell (takesPending r) (reportedOf (r .progress) (r .progress .applied) (r .clock .last) .cell) (r .progress) p h h;
-      writes = status reply refl (rw h);
-    }
+  moved-keeps : (r : Run) → r .progress .applied ≡ p → Keeps p i l (moved r l)
+  moved-keeps r h = handing-keeps Nothing r h
 
--- ---- each state
+  ended-keeps : (n : ℕ) (r : Run) → r .progress .applied ≡ p → Keeps p i l (endedWith n r l)
+  ended-keeps n r h = record { kept = h; writes = nothing refl refl }
 
-opening-by : (p : Lsn) (i : Input) (l : Lent) (a : R.Said) (r : Run) → r .progress .applied ≡ p → Keeps p i l (openingBy a r l)
-opening-by p i l R.more r h = moved-keeps p i l r h
-opening-by p i l (R.whole tag n) r h =
-    either (isCopyBothResponse tag) (moved-keeps p i l (withState Turn r) h)
-    (either (isError tag) (ended-keeps p i l 19 (withWhole (wholeOf tag n false) r) h)
-    (moved-keeps p i l r h))
-opening-by p i l (R.refused n) r h = ended-keeps p i l n r h
+  done-keeps : (e : Event) (r : Run) → r .progress .applied ≡ p → Keeps p i l (doneWith e r l)
+  done-keeps e r h = record { kept = h; writes = done refl refl }
 
-opening-keeps : (p : Lsn) (i : Input) (l : Lent) (r : Run) → r .progress .applied ≡ p → Keeps p i l (openingOf r i l)
-unfolding openingOf
-opening-keeps p i l r h =
-    let x : Result = readBy r i l in
-    having-keeps p i l (x .2) (x .3) (openingBy (x .0) (withReader (x .1) r) l) (opening-by p i l (x .0) (withReader (x .1) r) h)
+  having-keeps : (k : ℕ) (b : List ℕ) (o : Outcome) → Keeps p i l o → Keeps p i l (having k b o)
+  having-keeps k b o h = record { kept = h .kept; writes = having-writes (p .0) i l k b o (h .writes) }
 
-turn-keeps : (p : Lsn) (i : Input) (l : Lent) (r : Run) → r .progress .applied ≡ p → Keeps p i l (turnOf r i l)
-unfolding turnOf
-turn-keeps p i l r h =
-    either (statusDue r) (status-keeps p i l false Drain (withDrained 0 r) h) (moved-keeps p i l (withState Drain (withDrained 0 r)) h)
+  status-keeps : (reply : Bool) (to : State) (r : Run) → r .progress .applied ≡ p → Keeps p i l (statusOf reply to r i l)
+  unfolding statusOf reportedOf
+  status-keeps reply to r h =
+      record {
+        kept = one-of (λ (x : ProgressCell). x .applied) (takesPending r) (reportedOf (r .progress) (r .progress .applied) (r .clock .last) .cell) (r .progress) p h h;
+        writes = status reply refl (rw h);
+      }
 
-drain-keeps : (p : Lsn) (i : Input) (l : Lent) (r : Run) → r .progress .applied ≡ p → Keeps p i l (drainOf r i l)
-unfolding drainOf lookedOf
-drain-keeps p i l r h =
-    either (pick (ltb (r .drained) 256) (leb 5 (length (l .unread))) false) (moved-keeps p i l (withState Reading r) h)
-    (either (eqb (r .drained) 0) (moved-keeps p i l (waits r) h)
-    (either (i .stop) (done-keeps p i l Nothing r h)
-    (moved-keeps p i l (withState Turn r) h)))
+  -- ---- each state
 
-reading-by : (p : Lsn) (i : Input) (l : Lent) (a : R.Said) (r : Run) → r .progress .applied ≡ p → Keeps p i l (readingBy a r l)
-reading-by p i l R.more r h = moved-keeps p i l r h
-reading-by p i l (R.whole tag n) r h = moved-keeps p i l (withState Handling (withWhole (wholeOf tag n false) (withDrained (more (r .drained) 1) r))) h
-reading-by p i l (R.refused n) r h = ended-keeps p i l n r h
+  opening-by : (a : R.Said) (r : Run) → r .progress .applied ≡ p → Keeps p i l (openingBy a r l)
+  opening-by R.more r h = moved-keeps r h
+  opening-by (R.whole tag n) r h =
+      either (isCopyBothResponse tag) (moved-keeps (withState Turn r) h)
+      (either (isError tag) (ended-keeps 19 (withWhole (wholeOf tag n false) r) h)
+      (moved-keeps r h))
+  opening-by (R.refused n) r h = ended-keeps n r h
 
-reading-keeps : (p : Lsn) (i : Input) (l : Lent) (r : Run) → r .progress .applied ≡ p → Keeps p i l (readingOf r i l)
-unfolding readingOf
-reading-keeps p i l r h =
-    let x : Result = readBy r i l in
-    having-keeps p i l (x .2) (x .3) (readingBy (x .0) (withReader (x .1) r) l) (reading-by p i l (x .0) (withReader (x .1) r) h)
+  opening-keeps : (r : Run) → r .progress .applied ≡ p → Keeps p i l (openingOf r i l)
+  unfolding openingOf
+  opening-keeps r h =
+      let x : Result = readBy r i l in
+      having-keeps (x .2) (x .3) (openingBy (x .0) (withReader (x .1) r) l) (opening-by (x .0) (withReader (x .1) r) h)
 
-idle-keeps : (p : Lsn) (i : Input) (l : Lent) (r : Run) → r .progress .applied ≡ p → Keeps p i l (idleOf r i l)
-idle-keeps p i l r h =
-    either (leb (r .settings .«idle_wakeup_interval») (sinceOf (r .clock .last) (r .clock .«wait_began»)))
-    (status-keeps p i l false Turn r h) (moved-keeps p i l r h)
+  turn-keeps : (r : Run) → r .progress .applied ≡ p → Keeps p i l (turnOf r i l)
+  unfolding turnOf
+  turn-keeps r h =
+      either (statusDue r) (status-keeps false Drain (withDrained 0 r) h) (moved-keeps (withState Drain (withDrained 0 r)) h)
 
-waiting-by : (p : Lsn) (i : Input) (l : Lent) (a : R.Said) (r : Run) → r .progress .applied ≡ p → Keeps p i l (waitingBy a r i l)
-waiting-by p i l R.more r h = idle-keeps p i l r h
-waiting-by p i l (R.whole tag n) r h = moved-keeps p i l (withState Handling (withWhole (wholeOf tag n true) r)) h
-waiting-by p i l (R.refused n) r h = ended-keeps p i l n r h
+  drain-keeps : (r : Run) → r .progress .applied ≡ p → Keeps p i l (drainOf r i l)
+  unfolding drainOf lookedOf
+  drain-keeps r h =
+      either (pick (ltb (r .drained) 256) (leb 5 (length (l .unread))) false) (moved-keeps (withState Reading r) h)
+      (either (eqb (r .drained) 0) (moved-keeps (waits r) h)
+      (either (i .stop) (done-keeps Nothing r h)
+      (moved-keeps (withState Turn r) h)))
 
-waiting-read : (p : Lsn) (i : Input) (l : Lent) (r : Run) → r .progress .applied ≡ p → Keeps p i l (waitingRead r i l)
-waiting-read p i l r h =
-    let x : Result = readBy r i l in
-    having-keeps p i l (x .2) (x .3) (waitingBy (x .0) (withReader (x .1) r) i l) (waiting-by p i l (x .0) (withReader (x .1) r) h)
+  reading-by : (a : R.Said) (r : Run) → r .progress .applied ≡ p → Keeps p i l (readingBy a r l)
+  reading-by R.more r h = moved-keeps r h
+  reading-by (R.whole tag n) r h = moved-keeps (withState Handling (withWhole (wholeOf tag n false) (withDrained (more (r .drained) 1) r))) h
+  reading-by (R.refused n) r h = ended-keeps n r h
 
-waiting-keeps : (p : Lsn) (i : Input) (l : Lent) (r : Run) → r .progress .applied ≡ p → Keeps p i l (waitingOf r i l)
-unfolding waitingOf
-waiting-keeps p i l r h =
-    either (i .stop) (done-keeps p i l Nothing r h)
-    (either (pick (r .pending) (intervalPassed r) false) (status-keeps p i l false Turn r h)
-    (either (pick (r .pending) false (r .progress .signalled)) (moved-keeps p i l (withState Turn r) h)
-    (either (isReadable i l) (waiting-read p i l r h)
-    (idle-keeps p i l r h))))
+  reading-keeps : (r : Run) → r .progress .applied ≡ p → Keeps p i l (readingOf r i l)
+  unfolding readingOf
+  reading-keeps r h =
+      let x : Result = readBy r i l in
+      having-keeps (x .2) (x .3) (readingBy (x .0) (withReader (x .1) r) l) (reading-by (x .0) (withReader (x .1) r) h)
 
-offers-keeps : (p : Lsn) (i : Input) (l : Lent) (e : Event) (q : Lsn) (r : Run) → r .progress .applied ≡ p → Keeps p i l (offersAt e q r l)
-offers-keeps p i l e q r h = moved-keeps p i l (offers e (reaches r q) q r) h
+  idle-keeps : (r : Run) → r .progress .applied ≡ p → Keeps p i l (idleOf r i l)
+  idle-keeps r h =
+      either (leb (r .settings .«idle_wakeup_interval») (sinceOf (r .clock .last) (r .clock .«wait_began»)))
+      (status-keeps false Turn r h) (moved-keeps r h)
 
-boundary-by : (p : Lsn) (i : Input) (l : Lent) (a : B.Said) (start end : ℕ) (time : ℤ) (from len : ℕ) (r : Run) → r .progress .applied ≡ p → Keeps p i l (boundaryBy a start end time from len r l)
-boundary-by p i l (B.begin final t xid) start end time from len r h = offers-keeps p i l (Begin (lsn final) t xid) (lsn final) r h
-boundary-by p i l (B.commit position e t) start end time from len r h = offers-keeps p i l (Commit (lsn position) (lsn e) t) (lsn e) r h
-boundary-by p i l (B.message flag position pf pl cf cl) start end time from len r h =
-    offers-keeps p i l (Message flag (lsn position) (from + pf) pl (from + cf) cl) (lsn end) r h
-boundary-by p i l B.no-boundary start end time from len r h = offers-keeps p i l (XLogData (lsn start) (lsn end) time from len) (lsn end) r h
-boundary-by p i l (B.refused n) start end time from len r h = ended-keeps p i l n r h
+  waiting-by : (a : R.Said) (r : Run) → r .progress .applied ≡ p → Keeps p i l (waitingBy a r i l)
+  waiting-by R.more r h = idle-keeps r h
+  waiting-by (R.whole tag n) r h = moved-keeps (withState Handling (withWhole (wholeOf tag n true) r)) h
+  waiting-by (R.refused n) r h = ended-keeps n r h
 
-keep-alive : (p : Lsn) (i : Input) (l : Lent) (end : ℕ) (time : ℤ) (reply : Bool) (r : Run) → r .progress .applied ≡ p → Keeps p i l (keepAliveOf end time reply r i l)
-keep-alive p i l end time reply r h =
-    let offered : Run = offers (KeepAlive (lsn end) time reply) false (lsn 0) r in
-    either reply (status-keeps p i l true Offering (withMetrics (withReply (offered .metrics)) offered) h) (moved-keeps p i l offered h)
+  waiting-read : (r : Run) → r .progress .applied ≡ p → Keeps p i l (waitingRead r i l)
+  waiting-read r h =
+      let x : Result = readBy r i l in
+      having-keeps (x .2) (x .3) (waitingBy (x .0) (withReader (x .1) r) i l) (waiting-by (x .0) (withReader (x .1) r) h)
 
-copy-data-by : (p : Lsn) (i : Input) (l : Lent) (a : C.Said) (r : Run) → r .progress .applied ≡ p → Keeps p i l (copyDataBy a r i l)
-copy-data-by p i l (C.k end time reply) r h = keep-alive p i l end time reply (withMetrics (withEnd (r .metrics) (lsn end)) r) h
-copy-data-by p i l (C.w start end time from len) r h =
-    boundary-by p i l (boundaryOf (at (l .payload) from len)) start end time from len (withMetrics (withEnd (r .metrics) (lsn end)) r) h
-copy-data-by p i l (C.refused n) r h = ended-keeps p i l n r h
+  waiting-keeps : (r : Run) → r .progress .applied ≡ p → Keeps p i l (waitingOf r i l)
+  unfolding waitingOf
+  waiting-keeps r h =
+      either (i .stop) (done-keeps Nothing r h)
+      (either (pick (r .pending) (intervalPassed r) false) (status-keeps false Turn r h)
+      (either (pick (r .pending) false (r .progress .signalled)) (moved-keeps (withState Turn r) h)
+      (either (isReadable i l) (waiting-read r h)
+      (idle-keeps r h))))
 
-handling-keeps : (p : Lsn) (i : Input) (l : Lent) (r : Run) → r .progress .applied ≡ p → Keeps p i l (handlingOf r i l)
-unfolding handlingOf
-handling-keeps p i l r h =
-    either (isError (r .whole .tag)) (ended-keeps p i l 19 r h)
-    (either (isCopyData (r .whole .tag)) (copy-data-by p i l (copyDataOf (take (r .whole .len) (l .payload))) r h)
-    (moved-keeps p i l (back r) h))
+  offers-keeps : (e : Event) (q : Lsn) (r : Run) → r .progress .applied ≡ p → Keeps p i l (offersAt e q r l)
+  offers-keeps e q r h = moved-keeps (offers e (reaches r q) q r) h
 
-behind-event : (p : Lsn) (r : Run) → r .progress .applied ≡ p → behindEvent r .progress .applied ≡ p
-behind-event p r h = one-run (r .offer .stops) (offers (StoppedAt (r .offer .reached)) false (lsn 0) r) (back r) p h h
+  boundary-by : (a : B.Said) (start end : ℕ) (time : ℤ) (from len : ℕ) (r : Run) → r .progress .applied ≡ p → Keeps p i l (boundaryBy a start end time from len r l)
+  boundary-by (B.begin final t xid) start end time from len r h = offers-keeps (Begin (lsn final) t xid) (lsn final) r h
+  boundary-by (B.commit position e t) start end time from len r h = offers-keeps (Commit (lsn position) (lsn e) t) (lsn e) r h
+  boundary-by (B.message flag position pf pl cf cl) start end time from len r h =
+      offers-keeps (Message flag (lsn position) (from + pf) pl (from + cf) cl) (lsn end) r h
+  boundary-by B.no-boundary start end time from len r h = offers-keeps (XLogData (lsn start) (lsn end) time from len) (lsn end) r h
+  boundary-by (B.refused n) start end time from len r h = ended-keeps n r h
 
-next-keeps : (p : Lsn) (i : Input) (l : Lent) (e : Event) (r : Run) → r .progress .applied ≡ p → Keeps p i l (nextOf e r l)
-next-keeps p i l e r h =
-    either (isStoppedAt (r .offer .event)) (done-keeps p i l e r h) (handing-keeps p i l e (behindEvent r) (behind-event p r h))
+  keep-alive : (end : ℕ) (time : ℤ) (reply : Bool) (r : Run) → r .progress .applied ≡ p → Keeps p i l (keepAliveOf end time reply r i l)
+  keep-alive end time reply r h =
+      let offered : Run = offers (KeepAlive (lsn end) time reply) false (lsn 0) r in
+      either reply (status-keeps true Offering (withMetrics (withReply (offered .metrics)) offered) h) (moved-keeps offered h)
 
-hands-on : (p : Lsn) (i : Input) (l : Lent) (r : Run) → r .progress .applied ≡ p → Keeps p i l (handsOn r l)
-hands-on p i l r h = next-keeps p i l (r .offer .event) (withMetrics (withEvent (r .metrics)) r) h
+  copy-data-by : (a : C.Said) (r : Run) → r .progress .applied ≡ p → Keeps p i l (copyDataBy a r i l)
+  copy-data-by (C.k end time reply) r h = keep-alive end time reply (withMetrics (withEnd (r .metrics) (lsn end)) r) h
+  copy-data-by (C.w start end time from len) r h =
+      boundary-by (boundaryOf (at (l .payload) from len)) start end time from len (withMetrics (withEnd (r .metrics) (lsn end)) r) h
+  copy-data-by (C.refused n) r h = ended-keeps n r h
 
-stalled-by : (p : Lsn) (i : Input) (l : Lent) (q : Queue) (r : Run) → r .progress .applied ≡ p → Keeps p i l (stalledBy q r i l)
-stalled-by p i l Free r h = hands-on p i l (stallEnded r) h
-stalled-by p i l Closed r h = next-keeps p i l Nothing (stallEnded r) h
-stalled-by p i l Full r h = either (intervalPassed r) (status-keeps p i l false Offering r h) (moved-keeps p i l r h)
+  handling-keeps : (r : Run) → r .progress .applied ≡ p → Keeps p i l (handlingOf r i l)
+  unfolding handlingOf
+  handling-keeps r h =
+      either (isError (r .whole .tag)) (ended-keeps 19 r h)
+      (either (isCopyData (r .whole .tag)) (copy-data-by (copyDataOf (take (r .whole .len) (l .payload))) r h)
+      (moved-keeps (back r) h))
 
-stalled-keeps : (p : Lsn) (i : Input) (l : Lent) (r : Run) → r .progress .applied ≡ p → Keeps p i l (stalledOf r i l)
-unfolding stalledOf
-stalled-keeps p i l r h = either (i .stop) (done-keeps p i l Nothing r h) (stalled-by p i l (i .queue) r h)
+  behind-event : (r : Run) → r .progress .applied ≡ p → behindEvent r .progress .applied ≡ p
+  behind-event r h = one-of (λ (x : Run). x .progress .applied) (r .offer .stops) (offers (StoppedAt (r .offer .reached)) false (lsn 0) r) (back r) p h h
 
-first-by : (p : Lsn) (i : Input) (l : Lent) (q : Queue) (r : Run) → r .progress .applied ≡ p → Keeps p i l (firstBy q r i l)
-first-by p i l Free r h = hands-on p i l r h
-first-by p i l Closed r h = next-keeps p i l Nothing r h
-first-by p i l Full r h = stalled-keeps p i l (stalls r) h
+  next-keeps : (e : Event) (r : Run) → r .progress .applied ≡ p → Keeps p i l (nextOf e r l)
+  next-keeps e r h =
+      either (isStoppedAt (r .offer .event)) (done-keeps e r h) (handing-keeps e (behindEvent r) (behind-event r h))
 
-offering-keeps : (p : Lsn) (i : Input) (l : Lent) (r : Run) → r .progress .applied ≡ p → Keeps p i l (offeringOf r i l)
-unfolding offeringOf
-offering-keeps p i l r h = either (r .offer .stalled) (stalled-keeps p i l r h) (first-by p i l (i .queue) r h)
+  hands-on : (r : Run) → r .progress .applied ≡ p → Keeps p i l (handsOn r l)
+  hands-on r h = next-keeps (r .offer .event) (withMetrics (withEvent (r .metrics)) r) h
 
-state-keeps : (p : Lsn) (i : Input) (l : Lent) (s : State) (r : Run) → r .progress .applied ≡ p → Keeps p i l (stateOf s r i l)
-unfolding stateOf
-state-keeps p i l Opening r h = opening-keeps p i l r h
-state-keeps p i l Turn r h = turn-keeps p i l r h
-state-keeps p i l Drain r h = drain-keeps p i l r h
-state-keeps p i l Reading r h = reading-keeps p i l r h
-state-keeps p i l Waiting r h = waiting-keeps p i l r h
-state-keeps p i l Handling r h = handling-keeps p i l r h
-state-keeps p i l Offering r h = offering-keeps p i l r h
-state-keeps p i l Ended r h = record { kept = h; writes = nothing refl refl }
+  stalled-by : (q : Queue) (r : Run) → r .progress .applied ≡ p → Keeps p i l (stalledBy q r i l)
+  stalled-by Free r h = hands-on (stallEnded r) h
+  stalled-by Closed r h = next-keeps Nothing (stallEnded r) h
+  stalled-by Full r h = either (intervalPassed r) (status-keeps false Offering r h) (moved-keeps r h)
 
--- ---- a step, and any list of calls
+  stalled-keeps : (r : Run) → r .progress .applied ≡ p → Keeps p i l (stalledOf r i l)
+  unfolding stalledOf
+  stalled-keeps r h = either (i .stop) (done-keeps Nothing r h) (stalled-by (i .queue) r h)
 
--- refused with 2 to 5
-refused-keeps : (p : Lsn) (i : Input) (l : Lent) (n : ℕ) (r : Run) → r .progress .applied ≡ p → Keeps p i l (refusedWith n r l)
-refused-keeps p i l n r h = record { kept = h; writes = nothing refl refl }
+  first-by : (q : Queue) (r : Run) → r .progress .applied ≡ p → Keeps p i l (firstBy q r i l)
+  first-by Free r h = hands-on r h
+  first-by Closed r h = next-keeps Nothing r h
+  first-by Full r h = stalled-keeps (stalls r) h
 
-step-keeps : (p : Lsn) (i : Input) (l : Lent) (r : Run) → r .progress .applied ≡ p → Keeps p i l (stepOf r i l)
-unfolding stepOf
-step-keeps p i l r h =
-    either (isEnded (r .state)) (refused-keeps p i l 2 r h)
-    (either (ltb (length (l .payload)) (limitOf (r .settings .«max_message_size»))) (refused-keeps p i l 3 r h)
-    (either (ltb (length (l .out)) 39) (refused-keeps p i l 4 r h)
-    (either (badMoment r (i .moment)) (refused-keeps p i l 5 r h)
-    (state-keeps p i l (r .state) (accepted (i .moment) r) h))))
+  offering-keeps : (r : Run) → r .progress .applied ≡ p → Keeps p i l (offeringOf r i l)
+  unfolding offeringOf
+  offering-keeps r h = either (r .offer .stalled) (stalled-keeps r h) (first-by (i .queue) r h)
+
+  state-keeps : (s : State) (r : Run) → r .progress .applied ≡ p → Keeps p i l (stateOf s r i l)
+  unfolding stateOf
+  state-keeps Opening r h = opening-keeps r h
+  state-keeps Turn r h = turn-keeps r h
+  state-keeps Drain r h = drain-keeps r h
+  state-keeps Reading r h = reading-keeps r h
+  state-keeps Waiting r h = waiting-keeps r h
+  state-keeps Handling r h = handling-keeps r h
+  state-keeps Offering r h = offering-keeps r h
+  state-keeps Ended r h = record { kept = h; writes = nothing refl refl }
+
+  -- ---- a step, and any list of calls
+
+  -- refused with 2 to 5
+  refused-keeps : (n : ℕ) (r : Run) → r .progress .applied ≡ p → Keeps p i l (refusedWith n r l)
+  refused-keeps n r h = record { kept = h; writes = nothing refl refl }
+
+  step-keeps : (r : Run) → r .progress .applied ≡ p → Keeps p i l (stepOf r i l)
+  unfolding stepOf
+  step-keeps r h =
+      either (isEnded (r .state)) (refused-keeps 2 r h)
+      (either (ltb (length (l .payload)) (limitOf (r .settings .«max_message_size»))) (refused-keeps 3 r h)
+      (either (ltb (length (l .out)) 39) (refused-keeps 4 r h)
+      (either (badMoment r (i .moment)) (refused-keeps 5 r h)
+      (state-keeps (r .state) (accepted (i .moment) r) h))))
 
 writes-at : (n m : ℕ) (i : Input) (l : Lent) (o : Outcome) → n ≡ m → Writes n i l o → Writes m i l o
 writes-at n m i l o h (nothing a c) = nothing a c

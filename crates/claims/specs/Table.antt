@@ -44,6 +44,26 @@ pub record Say : Type 0 where
 abbrev pub say : ℕ → Writing → Say
 say n w = record { refusal = n; taken = 0; stored = []; writing = w }
 
+-- ---- a row of the table: its tests in their order, of which the first that holds counts
+
+infixl 20 _⇒_
+-- a test, and what is said where it holds
+abbrev pub _⇒_ : Bool → Say → Bool × Say
+c ⇒ y = (c, y)
+
+-- what the first test that holds says, or what stands behind them all
+abbrev pub firstOf : List (Bool × Say) → Say → Say
+firstOf [] y = y
+firstOf (t ∷ ts) y = pick (t .0) (t .1) (firstOf ts y)
+
+-- one test and another
+abbrev pub both : Bool → Bool → Bool
+both a b = pick a b false
+
+-- another, where the one fails
+abbrev pub unless : Bool → Bool → Bool
+unless a b = pick a false b
+
 -- ---- clocks
 
 -- "status interval passed"
@@ -76,7 +96,12 @@ readSay limit b u ended f =
 -- "`W`: turn; `E`: 19; others skipped"
 abbrev pub openingSay : Said → Say
 openingSay more = say 0 nothing
-openingSay (whole tag n) = pick (isCopyBothResponse tag) (say 0 nothing) (pick (isError tag) (say 19 nothing) (say 0 nothing))
+openingSay (whole tag n) =
+    firstOf
+    ((isCopyBothResponse tag ⇒ say 0 nothing)
+    ∷ (isError tag ⇒ say 19 nothing)
+    ∷ [])
+    (say 0 nothing)
 openingSay (refused n) = say n nothing
 
 abbrev pub readingSay : Said → Say
@@ -113,27 +138,38 @@ copyDataSay p (C.w start end time from len) = say (boundaryRefusal (boundaryOf (
 copyDataSay p (C.k end time reply) = say 0 (pick reply (status true) nothing)
 copyDataSay p (C.refused n) = say n nothing
 
+-- "`E`: 19; not `d`: skipped"
 abbrev pub handlingSay : ℕ × List ℕ → Say
-handlingSay m = pick (isError (m .0)) (say 19 nothing) (pick (isCopyData (m .0)) (copyDataSay (m .1) (copyDataOf (m .1))) (say 0 nothing))
+handlingSay m =
+    firstOf
+    ((isError (m .0) ⇒ say 19 nothing)
+    ∷ (isCopyData (m .0) ⇒ copyDataSay (m .1) (copyDataOf (m .1)))
+    ∷ [])
+    (say 0 nothing)
 
 -- ---- each state
 
 -- "under 256 messages and 5 bytes unread: read; some drained: stop gives CopyDone and end, else turn; none drained: .. wait"
 abbrev pub drainSay : List Past → Input → List ℕ → Say
 drainSay h i u =
-    pick (pick (ltb (drainedOf h) 256) (leb 5 (length u)) false) (say 0 nothing)
-    (pick (eqb (drainedOf h) 0) (say 0 nothing)
-    (pick (i .stop) (say 0 done) (say 0 nothing)))
+    firstOf
+    ((both (ltb (drainedOf h) 256) (leb 5 (length u)) ⇒ say 0 nothing)
+    ∷ (eqb (drainedOf h) 0 ⇒ say 0 nothing)
+    ∷ (i .stop ⇒ say 0 done)
+    ∷ [])
+    (say 0 nothing)
 
 -- "stop: CopyDone, end; pending and interval passed: status, turn; not pending and signalled: turn; bytes or input ended: read ..; idle
 -- interval since the wait began: status, turn; else stay"
 abbrev pub waitingTests : Settings → Lsn → List Past → Input → List ℕ → List ℕ → Say
 waitingTests s start h i b u =
-    pick (i .stop) (say 0 done)
-    (pick (pick (pendingOf start h) (isPassed s h i) false) (say 0 (status false))
-    (pick (pick (pendingOf start h) false (signalledOf start h)) (say 0 nothing)
-    (pick (pick (eqb (length u) 0) (i .ended) true) (readSay (limitOf (s .«max_message_size»)) b u (i .ended) (waitingSay (isIdle s h i)))
-    (say 0 (statusIf (isIdle s h i))))))
+    firstOf
+    ((i .stop ⇒ say 0 done)
+    ∷ (both (pendingOf start h) (isPassed s h i) ⇒ say 0 (status false))
+    ∷ (unless (pendingOf start h) (signalledOf start h) ⇒ say 0 nothing)
+    ∷ (pick (eqb (length u) 0) (i .ended) true ⇒ readSay (limitOf (s .«max_message_size»)) b u (i .ended) (waitingSay (isIdle s h i)))
+    ∷ [])
+    (say 0 (statusIf (isIdle s h i)))
 
 -- with StoppedAt handed on or dropped the run ends
 abbrev pub behindOffer : List Past → Say
@@ -165,11 +201,13 @@ isBadMoment h m = pick (inRange m) (isBefore m (lastAccepted h)) true
 -- 2 to 5 in their order, then the state's row
 abbrev pub sayOf : State → Settings → Lsn → List Past → Input → List ℕ → Lent → Say
 sayOf state s start h i b l =
-    pick (isEnded state) (say 2 nothing)
-    (pick (ltb (length (l .payload)) (limitOf (s .«max_message_size»))) (say 3 nothing)
-    (pick (ltb (length (l .out)) 39) (say 4 nothing)
-    (pick (isBadMoment h (i .moment)) (say 5 nothing)
-    (tableOf state s start h i b (l .unread)))))
+    firstOf
+    ((isEnded state ⇒ say 2 nothing)
+    ∷ (ltb (length (l .payload)) (limitOf (s .«max_message_size»)) ⇒ say 3 nothing)
+    ∷ (ltb (length (l .out)) 39 ⇒ say 4 nothing)
+    ∷ (isBadMoment h (i .moment) ⇒ say 5 nothing)
+    ∷ [])
+    (tableOf state s start h i b (l .unread))
 
 -- ---- the promise
 
