@@ -8,7 +8,7 @@ use borrow.Author.Tests.{ltb-false}
 use lib.ListN.{length, take, drop}
 use lib.Dec.{ltb}
 use Rattle.wire.specs.Bytes.{pick}
-use Rattle.wire.proofs.Laws.{put-none, impossible}
+use Rattle.wire.proofs.Laws.{impossible}
 use Rattle.framing.specs.Read.{limitOf}
 use Rattle.lsn.specs.declared.Lsn.{Lsn}
 use Rattle.moment.specs.declared.Moment.{Moment}
@@ -29,7 +29,7 @@ use Rattle.claims.specs.Condition3.{Condition-3}
 use Rattle.claims.proofs.Confirms.{confirms-largest}
 use Rattle.claims.proofs.HandsOn.{hands-on, events-begin, no-base}
 use Rattle.claims.proofs.Facts.{Facts, factsBy, factsOf, fresh-facts, report-facts, early-facts}
-use Rattle.claims.proofs.Table.{Placed, Bounded, AgreeingIn, Next, turn-next, drain-next, reading-next, waiting-next, opening-next}
+use Rattle.claims.proofs.Table.{refused-answers, Placed, Bounded, AgreeingIn, Next, turn-next, drain-next, reading-next, waiting-next, opening-next}
 use Rattle.claims.proofs.TableOffers.{handling-next, offering-next}
 
 agree-now : (x : State) (f g : Facts) → isEnded x ≡ false → AgreeingIn x f g → f ≡ g
@@ -42,12 +42,12 @@ agree-now Handling f g e a = a
 agree-now Offering f g e a = a
 agree-now Ended f g e a = impossible cc
 
-module _ (s : Settings) (opening : Bool) (start : Lsn) (bytes : List ℕ) where
+module _ (s : Settings) (opening : Bool) (bytes : List ℕ) (start : Lsn) where
   abbrev L : ℕ
   L = limitOf (s .«max_message_size»)
 
   abbrev PlacedOf : Run → List ℕ → ℕ → Type 0
-  PlacedOf r p t = Placed s opening start bytes (r .state) (r .settings) (r .reader) (r .whole) p t
+  PlacedOf r p t = Placed s opening bytes (r .state) (r .settings) (r .reader) (r .whole) p t
 
   module _ (t : ℕ) (h : List Past) (i : Input) (n : ℕ) (p out : List ℕ) where
     abbrev l : Lent
@@ -59,7 +59,7 @@ module _ (s : Settings) (opening : Bool) (start : Lsn) (bytes : List ℕ) where
       facts : AgreeingIn (o .run .state) (factsBy (o .run)) (factsOf start (a-step i from (o .run .state) (o .refusal) (o .written) ∷ h))
       settings : o .run .settings ≡ s
       placed : L ≤ length (o .payload) → PlacedOf (o .run) (o .payload) (t + o .taken)
-      bounded : Bounded s opening start bytes (o .run .state) (o .run .drained)
+      bounded : Bounded (o .run .state) (o .run .drained)
 
     either : (from : State) (c : Bool) (y z : Say) (x o : Outcome) → (c ≡ true → Kept from y x) → (c ≡ false → Kept from z o) → Kept from (pick c y z) (pick c x o)
     either from true y z x o hx ho = hx refl
@@ -70,26 +70,26 @@ module _ (s : Settings) (opening : Bool) (start : Lsn) (bytes : List ℕ) where
         → Kept from (pick d y z) (pick c x o)
     either-is from c d q y z x o hx ho = rw (← q) (either from c y z x o hx ho)
 
-    by-next : (from : State) (y : Say) (o : Outcome) → Next s opening start bytes t h i l from y o → Kept from y o
+    by-next : (from : State) (y : Say) (o : Outcome) → Next s opening bytes start t h i l from y o → Kept from y o
     by-next from y o k =
         record { answers = k .answers; facts = k .facts; settings = k .settings; placed = λ w. k .placed; bounded = k .bounded }
 
-    module _ (r : Run) (hs : r .settings ≡ s) (pl : L ≤ length p → PlacedOf r p t) (bd : Bounded s opening start bytes (r .state) (r .drained)) where
+    module _ (r : Run) (hs : r .settings ≡ s) (pl : L ≤ length p → PlacedOf r p t) (bd : Bounded (r .state) (r .drained)) where
       -- the row of a state
-      row-next : (x : State) → r .state ≡ x → factsBy r ≡ factsOf start h → Placed s opening start bytes x (r .settings) (r .reader) (r .whole) p t
-          → Bounded s opening start bytes x (r .drained)
-          → Next s opening start bytes t h i l x (tableOf x s start h i (take t bytes) (take n (drop t bytes))) (stateOf x (accepted (i .moment) r) i l)
+      row-next : (x : State) → r .state ≡ x → factsBy r ≡ factsOf start h → Placed s opening bytes x (r .settings) (r .reader) (r .whole) p t
+          → Bounded x (r .drained)
+          → Next s opening bytes start t h i l x (tableOf x s start h i (take t bytes) (take n (drop t bytes))) (stateOf x (accepted (i .moment) r) i l)
       unfolding stateOf
-      row-next Opening hst e w d = opening-next s opening start bytes t h i n p out r hs e w hst
-      row-next Turn hst e w d = turn-next s opening start bytes t h i l r hs e w
-      row-next Drain hst e w d = drain-next s opening start bytes t h i l r hs e w
-      row-next Reading hst e w d = reading-next s opening start bytes t h i n p out r hs e w hst d
-      row-next Waiting hst e w d = waiting-next s opening start bytes t h i n p out r hs e w hst
-      row-next Handling hst e w d = handling-next s opening start bytes t h i l r hs e w
-      row-next Offering hst e w d = offering-next s opening start bytes t h i l r hs e w hst
+      row-next Opening hst e w d = opening-next s opening bytes start t h i n p out r hs e w hst
+      row-next Turn hst e w d = turn-next s opening bytes start t h i l r hs e w
+      row-next Drain hst e w d = drain-next s opening bytes start t h i l r hs e w
+      row-next Reading hst e w d = reading-next s opening bytes start t h i n p out r hs e w hst d
+      row-next Waiting hst e w d = waiting-next s opening bytes start t h i n p out r hs e w hst
+      row-next Handling hst e w d = handling-next s opening bytes start t h i l r hs e w
+      row-next Offering hst e w d = offering-next s opening bytes start t h i l r hs e w hst
       row-next Ended hst e w d =
           record {
-            answers = record { refusal = refl; taken = refl; payload = sym (put-none p 0); output = refl };
+            answers = refused-answers 2 (accepted (i .moment) r);
             facts = rw hst tt;
             settings = hs;
             placed = rw hst tt;
@@ -100,7 +100,7 @@ module _ (s : Settings) (opening : Bool) (start : Lsn) (bytes : List ℕ) where
       early-kept : (ag : AgreeingIn (r .state) (factsBy r) (factsOf start h)) (k : ℕ) → isRefusedEarly k ≡ true → Kept (r .state) (say k nothing) (refusedWith k r l)
       early-kept ag k e =
           record {
-            answers = record { refusal = refl; taken = refl; payload = sym (put-none p 0); output = refl };
+            answers = refused-answers k r;
             facts = rw (early-facts start h i (r .state) k e) ag;
             settings = hs;
             placed = λ w. (let q : t + 0 ≡ t = omega arith in rw q (pl w));
@@ -134,7 +134,7 @@ module _ (s : Settings) (opening : Bool) (start : Lsn) (bytes : List ℕ) where
     settings : z .run .settings ≡ s
     facts : AgreeingIn (z .run .state) (factsBy (z .run)) (factsOf start (z .past))
     placed : L ≤ length (z .payload) → PlacedOf (z .run) (z .payload) (z .taken)
-    bounded : Bounded s opening start bytes (z .run .state) (z .run .drained)
+    bounded : Bounded (z .run .state) (z .run .drained)
 
   stood-step : (z : Played) (i : Input) (n : ℕ) (out : List ℕ) → Stood z
       → Kept (z .taken) (z .past) i n (z .payload) out (z .run .state)
@@ -167,7 +167,7 @@ module _ (s : Settings) (opening : Bool) (start : Lsn) (bytes : List ℕ) where
 
 -- on a fresh run
 fresh-stood : (s : Settings) (opening : Bool) (start : Lsn) (bytes p : List ℕ)
-    → Stood s opening start bytes (record { run = freshRun s (pick opening Opening Turn) start; payload = p; taken = 0; told = []; past = []; events = []; written = [] })
+    → Stood s opening bytes start (record { run = freshRun s (pick opening Opening Turn) start; payload = p; taken = 0; told = []; past = []; events = []; written = [] })
 unfolding freshRun
 fresh-stood s true start bytes p =
     record {
@@ -187,8 +187,8 @@ fresh-stood s false start bytes p =
 pub calls-as-told : Calls-as-told
 unfolding played
 calls-as-told s opening start bytes p cs i n out =
-    stood-step s opening start bytes (played s opening start bytes p cs) i n out
-    (stood-all s opening start bytes cs _ (fresh-stood s opening start bytes p)) .answers
+    stood-step s opening bytes start (played s opening start bytes p cs) i n out
+    (stood-all s opening bytes start cs _ (fresh-stood s opening start bytes p)) .answers
 
 -- ---- condition 3
 

@@ -2,6 +2,7 @@
 use mathlib.Core.Path.{_≡_, refl, sym, _∙_}
 use mathlib.Core.Bool.{Bool, true, false}
 use mathlib.Core.List.{List, [], _∷_, _++_, append-nil}
+use mathlib.Core.Option.{Option}
 use Prim.Native.Nat.{ℕ, _+_}
 use lib.ListN.{length, take, drop}
 use lib.Dec.{ltb, leb, eqb}
@@ -30,6 +31,12 @@ abbrev pub tell : Input → Outcome → Told
 tell i o = record { stop = i .stop; queue = i .queue; refusal = o .refusal; taken = o .taken }
 
 module _ (s : Settings) (opening : Bool) (bytes : List ℕ) (t : ℕ) (ts : List Told) (es : List Happened) where
+  abbrev S : Option ℕ
+  S = stop s opening bytes
+
+  abbrev L : ℕ
+  L = limit s opening bytes
+
   -- what holds behind an outcome
   abbrev pub After : Input → Outcome → Type 0
   After i o =
@@ -77,7 +84,7 @@ module _ (s : Settings) (opening : Bool) (bytes : List ℕ) (t : ℕ) (ts : List
           ws = grown y (g .ws);
           base = rw e (base-more s opening bytes st rd p t (g .ms) n end (g .base) h);
           account =
-              same-ones (limit s opening bytes) bytes t ts (g .ms) (g .ws) y (g .account)
+              same-ones L bytes t ts (g .ms) (g .ws) y (g .account)
               (rw e (ones-more s opening bytes st rd p t (g .ms) n end (g .base) h));
           all = append-nil es ∙ g .all;
           goes = g .goes;
@@ -105,17 +112,6 @@ module _ (s : Settings) (opening : Bool) (bytes : List ℕ) (t : ℕ) (ts : List
   abbrev pub lent : ℕ → List ℕ → List ℕ → Lent
   lent n p out = record { unread = take n (drop t bytes); payload = p; out = out }
 
-  -- ---- Reading, Waiting
-
-  pub reading-keeps : (r : Run) (i : Input) (n : ℕ) (p out : List ℕ) → r .state ≡ Reading → Goings r (lent n p out) → After i (readingOf r i (lent n p out))
-  unfolding readingOf
-  reading-keeps r i n p out hs g = by (readBy r i (lent n p out) .0) refl
-    where
-      by : (a : R.Said) → readBy r i (lent n p out) .0 ≡ a → After i (having (readBy r i (lent n p out) .2) (readBy r i (lent n p out) .3) (readingBy a (withReader (readBy r i (lent n p out) .1) r) (lent n p out)))
-      by R.more h = rw hs (going-more (r .settings) (r .reader) p n (i .ended) g _ refl h)
-      by (R.whole tag k) h = going-whole (r .settings) (r .reader) p n (i .ended) g _ false tag k refl h
-      by (R.refused m) h = going-refused (r .settings) (r .reader) p n (i .ended) g _ m refl h
-
   idle-keeps : (r : Run) (i : Input) (l : Lent) → r .state ≡ Waiting → Goings r l → After i (idleOf r i l)
   unfolding statusOf
   idle-keeps r i l hs g =
@@ -123,45 +119,18 @@ module _ (s : Settings) (opening : Bool) (bytes : List ℕ) (t : ℕ) (ts : List
       (λ e. going-still s opening bytes _ _ _ t ts es _ refl g)
       (λ e. rw hs (going-still s opening bytes _ _ _ t ts es _ refl g))
 
-  waiting-read : (r : Run) (i : Input) (n : ℕ) (p out : List ℕ) → r .state ≡ Waiting → Goings r (lent n p out) → After i (waitingRead r i (lent n p out))
-  unfolding statusOf
-  waiting-read r i n p out hs g = by (readBy r i (lent n p out) .0) refl
-    where
-      by : (a : R.Said) → readBy r i (lent n p out) .0 ≡ a → After i (having (readBy r i (lent n p out) .2) (readBy r i (lent n p out) .3) (waitingBy a (withReader (readBy r i (lent n p out) .1) r) i (lent n p out)))
-      by R.more h = idle (leb (r .settings .«idle_wakeup_interval») (sinceOf (r .clock .last) (r .clock .«wait_began»)))
-        where
-          idle : (c : Bool) → After i (having (readBy r i (lent n p out) .2) (readBy r i (lent n p out) .3) (pick c (statusOf false Turn (withReader (readBy r i (lent n p out) .1) r) i (lent n p out)) (moved (withReader (readBy r i (lent n p out) .1) r) (lent n p out))))
-          idle true = going-more (r .settings) (r .reader) p n (i .ended) g _ refl h
-          idle false = rw hs (going-more (r .settings) (r .reader) p n (i .ended) g _ refl h)
-      by (R.whole tag k) h = going-whole (r .settings) (r .reader) p n (i .ended) g _ true tag k refl h
-      by (R.refused m) h = going-refused (r .settings) (r .reader) p n (i .ended) g _ m refl h
-
-  pub waiting-keeps : (r : Run) (i : Input) (n : ℕ) (p out : List ℕ) → r .state ≡ Waiting → Goings r (lent n p out) → After i (waitingOf r i (lent n p out))
-  unfolding waitingOf statusOf
-  waiting-keeps r i n p out hs g =
-      let l : Lent = lent n p out in
-      either i (i .stop) (doneWith Nothing r l) _
-      (λ a. going-done s opening bytes _ _ _ t ts es _ refl g)
-      (λ a.
-      either i (pick (r .pending) (intervalPassed r) false) (statusOf false Turn r i l) _
-      (λ b. going-still s opening bytes _ _ _ t ts es _ refl g)
-      (λ b.
-      either i (pick (r .pending) false (r .progress .signalled)) (moved (withState Turn r) l) _
-      (λ c. going-still s opening bytes _ _ _ t ts es _ refl g)
-      (λ c. either i (isReadable i l) (waitingRead r i l) (idleOf r i l) (λ d. waiting-read r i n p out hs g) (λ d. idle-keeps r i l hs g))))
-
   -- ---- Opening
 
   -- nothing is handed on yet
-  none-over : (ms : List Msg) (ws : List Told) (k : ℕ) (us : List Told) → Account (limit s opening bytes) bytes k us ms ws → es ≡ [] → all-of (stop s opening bytes) opening ms ≡ []
+  none-over : (ms : List Msg) (ws : List Told) (k : ℕ) (us : List Told) → Account L bytes k us ms ws → es ≡ [] → all-of S opening ms ≡ []
       → Over s opening bytes k us (es ++ [])
   none-over ms ws k us a h e =
-      let z : last-of (stop s opening bytes) opening ms ≡ [] = none-last (stop s opening bytes) opening ms e in
+      let z : last-of S opening ms ≡ [] = none-last S opening ms e in
       record {
         ms = ms;
         ws = ws;
         account = a;
-        fits = append-nil es ∙ (h ∙ (sym e ∙ settled-all (stop s opening bytes) opening ms ws (none-settled (stop s opening bytes) opening ms ws z)));
+        fits = append-nil es ∙ (h ∙ (sym e ∙ settled-all S opening ms ws (none-settled S opening ms ws z)));
       }
 
   module _ (st : Settings) (rd : MessageReader) (p : List ℕ) (n : ℕ) (end : Bool) (b : Before s opening bytes st rd p t ts es) where
@@ -175,7 +144,7 @@ module _ (s : Settings) (opening : Bool) (bytes : List ℕ) (t : ℕ) (ts : List
           ws = grown y (b .ws);
           base = rw e (base-more s opening bytes st rd p t (b .ms) n end (b .base) h);
           account =
-              same-ones (limit s opening bytes) bytes t ts (b .ms) (b .ws) y (b .account)
+              same-ones L bytes t ts (b .ms) (b .ws) y (b .account)
               (rw e (ones-more s opening bytes st rd p t (b .ms) n end (b .base) h));
           begun = b .begun;
           none = append-nil es ∙ b .none;
@@ -185,15 +154,15 @@ module _ (s : Settings) (opening : Bool) (bytes : List ℕ) (t : ℕ) (ts : List
     opening-refused : (y : Told) (m : ℕ) → y .taken ≡ z .2 → z .0 ≡ R.refused m → Over s opening bytes (t + y .taken) (ts ++ (y ∷ [])) (es ++ [])
     opening-refused y m e h =
         none-over (b .ms) (grown y (b .ws)) (t + y .taken) (ts ++ (y ∷ []))
-        (same-ones (limit s opening bytes) bytes t ts (b .ms) (b .ws) y (b .account) (rw e (ones-refused s opening bytes st rd p t (b .ms) n end (b .base) m h)))
-        (b .none) (rw (b .begun) (none-opened (stop s opening bytes) (b .ms) (b .yet)))
+        (same-ones L bytes t ts (b .ms) (b .ws) y (b .account) (rw e (ones-refused s opening bytes st rd p t (b .ms) n end (b .base) m h)))
+        (b .none) (rw (b .begun) (none-opened S (b .ms) (b .yet)))
 
     -- a whole message
     module _ (y : Told) (tag k : ℕ) (e : y .taken ≡ z .2) (h : z .0 ≡ R.whole tag k) where
       abbrev ns : List Msg
       ns = b .ms ++ ((tag, take k (z .3)) ∷ [])
 
-      now-account : Account (limit s opening bytes) bytes (t + y .taken) (ts ++ (y ∷ [])) ns []
+      now-account : Account L bytes (t + y .taken) (ts ++ (y ∷ [])) ns []
       now-account = account-whole s opening bytes st rd p t (b .ms) n end (b .base) ts (b .ws) y tag k (b .account) e h
 
       now-base : Base s opening bytes st (z .1) (z .3) (t + y .taken) ns
@@ -208,19 +177,19 @@ module _ (s : Settings) (opening : Bool) (bytes : List ℕ) (t : ℕ) (ts : List
             account = now-account;
             begun = b .begun;
             none = append-nil es ∙ b .none;
-            yet = skipped (stop s opening bytes) (b .ms) (tag, take k (z .3)) (b .yet) c d;
+            yet = skipped S (b .ms) (tag, take k (z .3)) (b .yet) c d;
           }
 
       opening-error : isCopyBothResponse tag ≡ false → isError tag ≡ true → Over s opening bytes (t + y .taken) (ts ++ (y ∷ [])) (es ++ [])
       opening-error c d =
           none-over ns [] (t + y .taken) (ts ++ (y ∷ [])) now-account (b .none)
-          (rw (b .begun) (refused-opening (stop s opening bytes) (b .ms) (tag, take k (z .3)) (b .yet) c d))
+          (rw (b .begun) (refused-opening S (b .ms) (tag, take k (z .3)) (b .yet) c d))
 
       opening-goes : isCopyBothResponse tag ≡ true → Going s opening bytes st (z .1) (z .3) (t + y .taken) (ts ++ (y ∷ [])) (es ++ [])
       opening-goes c =
-          let o = opened (stop s opening bytes) (b .ms) (tag, take k (z .3)) (b .yet) c in
-          let a : all-of (stop s opening bytes) opening ns ≡ [] = rw (b .begun) (o .0) in
-          let l : last-of (stop s opening bytes) opening ns ≡ [] = none-last (stop s opening bytes) opening ns a in
+          let o = opened S (b .ms) (tag, take k (z .3)) (b .yet) c in
+          let a : all-of S opening ns ≡ [] = rw (b .begun) (o .0) in
+          let l : last-of S opening ns ≡ [] = none-last S opening ns a in
           record {
             ms = ns;
             ws = [];
@@ -228,25 +197,69 @@ module _ (s : Settings) (opening : Bool) (bytes : List ℕ) (t : ℕ) (ts : List
             account = now-account;
             all = append-nil es ∙ (b .none ∙ sym a);
             goes = rw (b .begun) (o .1);
-            settled = none-settled (stop s opening bytes) opening ns [] l;
+            settled = none-settled S opening ns [] l;
           }
 
-  pub opening-keeps : (r : Run) (i : Input) (n : ℕ) (p out : List ℕ) → r .state ≡ Opening → Before s opening bytes (r .settings) (r .reader) p t ts es
-      → After i (openingOf r i (lent n p out))
-  unfolding openingOf
-  opening-keeps r i n p out hs b = by (readBy r i (lent n p out) .0) refl
-    where
-      by-tag : (tag k : ℕ) → readBy r i (lent n p out) .0 ≡ R.whole tag k → (c d : Bool) → isCopyBothResponse tag ≡ c → isError tag ≡ d
-          → After i (having (readBy r i (lent n p out) .2) (readBy r i (lent n p out) .3)
-          (pick c (moved (withState Turn (withReader (readBy r i (lent n p out) .1) r)) (lent n p out))
-          (pick d (endedWith 19 (withWhole (wholeOf tag k false) (withReader (readBy r i (lent n p out) .1) r)) (lent n p out))
-          (moved (withReader (readBy r i (lent n p out) .1) r) (lent n p out)))))
-      by-tag tag k h true d ec ed = opening-goes (r .settings) (r .reader) p n (i .ended) b _ tag k refl h ec
-      by-tag tag k h false true ec ed = opening-error (r .settings) (r .reader) p n (i .ended) b _ tag k refl h ec ed
-      by-tag tag k h false false ec ed = rw hs (opening-skips (r .settings) (r .reader) p n (i .ended) b _ tag k refl h ec ed)
+  -- ---- states that read, with the next untaken bytes
 
-      by : (a : R.Said) → readBy r i (lent n p out) .0 ≡ a
-          → After i (having (readBy r i (lent n p out) .2) (readBy r i (lent n p out) .3) (openingBy a (withReader (readBy r i (lent n p out) .1) r) (lent n p out)))
-      by R.more h = rw hs (opening-more (r .settings) (r .reader) p n (i .ended) b _ refl h)
-      by (R.whole tag k) h = by-tag tag k h (isCopyBothResponse tag) (isError tag) refl refl
-      by (R.refused m) h = opening-refused (r .settings) (r .reader) p n (i .ended) b _ m refl h
+  module _ (r : Run) (i : Input) (n : ℕ) (p out : List ℕ) where
+    abbrev l' : Lent
+    l' = lent n p out
+
+    abbrev x' : Result
+    x' = readBy r i l'
+
+    pub reading-keeps : r .state ≡ Reading → Goings r l' → After i (readingOf r i l')
+    unfolding readingOf
+    reading-keeps hs g = by (x' .0) refl
+      where
+        by : (a : R.Said) → x' .0 ≡ a → After i (having (x' .2) (x' .3) (readingBy a (withReader (x' .1) r) l'))
+        by R.more h = rw hs (going-more (r .settings) (r .reader) p n (i .ended) g _ refl h)
+        by (R.whole tag k) h = going-whole (r .settings) (r .reader) p n (i .ended) g _ false tag k refl h
+        by (R.refused m) h = going-refused (r .settings) (r .reader) p n (i .ended) g _ m refl h
+
+    waiting-read : r .state ≡ Waiting → Goings r l' → After i (waitingRead r i l')
+    unfolding statusOf
+    waiting-read hs g = by (x' .0) refl
+      where
+        by : (a : R.Said) → x' .0 ≡ a → After i (having (x' .2) (x' .3) (waitingBy a (withReader (x' .1) r) i l'))
+        by R.more h = idle (leb (r .settings .«idle_wakeup_interval») (sinceOf (r .clock .last) (r .clock .«wait_began»)))
+          where
+            idle : (c : Bool) → After i (having (x' .2) (x' .3) (pick c (statusOf false Turn (withReader (x' .1) r) i l') (moved (withReader (x' .1) r) l')))
+            idle true = going-more (r .settings) (r .reader) p n (i .ended) g _ refl h
+            idle false = rw hs (going-more (r .settings) (r .reader) p n (i .ended) g _ refl h)
+        by (R.whole tag k) h = going-whole (r .settings) (r .reader) p n (i .ended) g _ true tag k refl h
+        by (R.refused m) h = going-refused (r .settings) (r .reader) p n (i .ended) g _ m refl h
+
+    pub waiting-keeps : r .state ≡ Waiting → Goings r l' → After i (waitingOf r i l')
+    unfolding waitingOf statusOf
+    waiting-keeps hs g =
+        either i (i .stop) (doneWith Nothing r l') _
+        (λ a. going-done s opening bytes _ _ _ t ts es _ refl g)
+        (λ a.
+        either i (pick (r .pending) (intervalPassed r) false) (statusOf false Turn r i l') _
+        (λ b. going-still s opening bytes _ _ _ t ts es _ refl g)
+        (λ b.
+        either i (pick (r .pending) false (r .progress .signalled)) (moved (withState Turn r) l') _
+        (λ c. going-still s opening bytes _ _ _ t ts es _ refl g)
+        (λ c. either i (isReadable i l') (waitingRead r i l') (idleOf r i l') (λ d. waiting-read hs g) (λ d. idle-keeps r i l' hs g))))
+
+    pub opening-keeps : r .state ≡ Opening → Before s opening bytes (r .settings) (r .reader) p t ts es
+        → After i (openingOf r i l')
+    unfolding openingOf
+    opening-keeps hs b = by (x' .0) refl
+      where
+        by-tag : (tag k : ℕ) → x' .0 ≡ R.whole tag k → (c d : Bool) → isCopyBothResponse tag ≡ c → isError tag ≡ d
+            → After i (having (x' .2) (x' .3)
+            (pick c (moved (withState Turn (withReader (x' .1) r)) l')
+            (pick d (endedWith 19 (withWhole (wholeOf tag k false) (withReader (x' .1) r)) l')
+            (moved (withReader (x' .1) r) l'))))
+        by-tag tag k h true d ec ed = opening-goes (r .settings) (r .reader) p n (i .ended) b _ tag k refl h ec
+        by-tag tag k h false true ec ed = opening-error (r .settings) (r .reader) p n (i .ended) b _ tag k refl h ec ed
+        by-tag tag k h false false ec ed = rw hs (opening-skips (r .settings) (r .reader) p n (i .ended) b _ tag k refl h ec ed)
+
+        by : (a : R.Said) → x' .0 ≡ a
+            → After i (having (x' .2) (x' .3) (openingBy a (withReader (x' .1) r) l'))
+        by R.more h = rw hs (opening-more (r .settings) (r .reader) p n (i .ended) b _ refl h)
+        by (R.whole tag k) h = by-tag tag k h (isCopyBothResponse tag) (isError tag) refl refl
+        by (R.refused m) h = opening-refused (r .settings) (r .reader) p n (i .ended) b _ m refl h

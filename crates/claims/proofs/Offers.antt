@@ -33,7 +33,7 @@ use Rattle.worker.specs.declared.Event.{Event}
 use Rattle.worker.specs.declared.Event.the-variants.{Nothing, KeepAlive, StoppedAt}
 use Rattle.worker.specs.declared.Run.{Run}
 use Rattle.worker.specs.Run.{lsn, offer, withState, withMetrics}
-use Rattle.worker.specs.Step.{Lent, back, boundaryBy, copyDataBy, doneWith, endedWith, firstBy, handing, handlingOf, intervalPassed, isStoppedAt, keepAliveOf, moved, nextOf, offeringOf, offers, reaches, stalledBy, stalledOf, stalls, statusOf}
+use Rattle.worker.specs.Step.{Lent, Outcome, back, boundaryBy, copyDataBy, doneWith, endedWith, firstBy, handing, handlingOf, intervalPassed, isStoppedAt, keepAliveOf, moved, nextOf, offeringOf, offers, reaches, stalledBy, stalledOf, stalls, statusOf}
 use Rattle.claims.specs.Happened.{Happened, happenedBy}
 use Rattle.claims.specs.Happened as H
 use Rattle.claims.specs.Plain.{Told, Gives, gives, reaching, dataGives, payloadGives, offered, isCutOff, isRefusedEarly, isFull}
@@ -41,7 +41,8 @@ use Rattle.claims.specs.Begins.{isClosed}
 use Rattle.claims.proofs.Account.{Account, grown, same-ones}
 use Rattle.claims.proofs.Course.{Msg, all-of, gives-of, last-of, read-off, and-one, goes-behind, front-of, last-is, none-settled, settled-all, nothing-offered, Settled}
 use Rattle.claims.proofs.Standing.{Base, Going, Held, Offers, Over, following, stop, limit, base-still, ones-still}
-use Rattle.claims.proofs.Moves.{After, either, tell}
+use Rattle.claims.proofs.Moves.{tell}
+use Rattle.claims.proofs.Moves as M
 
 -- the stop position is reached, as the step and as the plain reading test it
 reaching-is : (has : Bool) (z position : ℕ) (e : Happened)
@@ -57,6 +58,15 @@ module _ (s : Settings) (opening : Bool) (bytes : List ℕ) (t : ℕ) (ts : List
   abbrev S : Option ℕ
   S = stop s opening bytes
 
+  abbrev L : ℕ
+  L = limit s opening bytes
+
+  abbrev After : Input → Outcome → Type 0
+  After = M.After s opening bytes t ts es
+
+  either : (i : Input) (c : Bool) (x y : Outcome) → (c ≡ true → After i x) → (c ≡ false → After i y) → After i (pick c x y)
+  either = M.either s opening bytes t ts es
+
   -- ---- Handling
 
   module _ (st : Settings) (rd : MessageReader) (w : Whole) (p : List ℕ) (h : Held s opening bytes st rd w p t ts es) where
@@ -66,9 +76,9 @@ module _ (s : Settings) (opening : Bool) (bytes : List ℕ) (t : ℕ) (ts : List
     abbrev what : Gives
     what = gives-of S opening (h .m)
 
-    now-account : (x : Told) → x .taken ≡ 0 → Account (limit s opening bytes) bytes (t + x .taken) (ts ++ (x ∷ [])) ns (grown x [])
+    now-account : (x : Told) → x .taken ≡ 0 → Account L bytes (t + x .taken) (ts ++ (x ∷ [])) ns (grown x [])
     now-account x z =
-        same-ones (limit s opening bytes) bytes t ts ns [] x (h .account) (ones-still s opening bytes t (x .taken) ns z (h .account .whole))
+        same-ones L bytes t ts ns [] x (h .account) (ones-still s opening bytes t (x .taken) ns z (h .account .whole))
 
     now-base : (k : ℕ) → k ≡ 0 → Base s opening bytes st rd p (t + k) ns
     now-base k z = base-still s opening bytes st rd p t k ns z (h .base)
@@ -141,14 +151,14 @@ module _ (s : Settings) (opening : Bool) (bytes : List ℕ) (t : ℕ) (ts : List
 
     -- an event that reaches a position is offered
     reaching-keeps : (end : ℕ) (ev : Event) (e : Happened) (position : ℕ) → happenedBy ev (l .payload) ≡ e ∷ [] → gives-now ≡ reaching S position e
-        → After s opening bytes t ts es i (moved (offers ev (reaches r (lsn position)) (lsn position) (withMetrics (withEnd (r .metrics) (lsn end)) r)) l)
+        → After i (moved (offers ev (reaches r (lsn position)) (lsn position) (withMetrics (withEnd (r .metrics) (lsn end)) r)) l)
     reaching-keeps end ev e position he hg =
         handled-offer (r .settings) (r .reader) (r .whole) (l .payload) h _ (offer ev false (reaches r (lsn position)) (lsn position)) e refl refl refl he
         (hg ∙ reached-is position e)
 
     boundary-keeps : (c : B.Said) (start end : ℕ) (time : ℤ) (from len : ℕ) → boundaryOf (at (l .payload) from len) ≡ c
         → gives-now ≡ dataGives S start end time (at (l .payload) from len) c
-        → After s opening bytes t ts es i (boundaryBy c start end time from len (withMetrics (withEnd (r .metrics) (lsn end)) r) l)
+        → After i (boundaryBy c start end time from len (withMetrics (withEnd (r .metrics) (lsn end)) r) l)
     boundary-keeps (B.begin final at-time xid) start end time from len e g = reaching-keeps end _ _ final refl g
     boundary-keeps (B.commit position commit-end at-time) start end time from len e g = reaching-keeps end _ _ commit-end refl g
     boundary-keeps (B.message flag position pf pl cf cl) start end time from len e g =
@@ -162,14 +172,14 @@ module _ (s : Settings) (opening : Bool) (bytes : List ℕ) (t : ℕ) (ts : List
         handled-over (r .settings) (r .reader) (r .whole) (l .payload) h _ refl (ap (λ (y : Gives). y .events) g)
 
     keep-alive-keeps : (end : ℕ) (time : ℤ) (reply : Bool) → gives-now ≡ gives (H.keepAlive end time reply ∷ []) false
-        → After s opening bytes t ts es i (keepAliveOf end time reply (withMetrics (withEnd (r .metrics) (lsn end)) r) i l)
+        → After i (keepAliveOf end time reply (withMetrics (withEnd (r .metrics) (lsn end)) r) i l)
     unfolding statusOf
     keep-alive-keeps end time true g =
         handled-offer (r .settings) (r .reader) (r .whole) (l .payload) h _ (offer (KeepAlive (lsn end) time true) false false (lsn 0)) _ refl refl refl refl g
     keep-alive-keeps end time false g =
         handled-offer (r .settings) (r .reader) (r .whole) (l .payload) h _ (offer (KeepAlive (lsn end) time false) false false (lsn 0)) _ refl refl refl refl g
 
-    copy-data-keeps : (c : C.Said) → copyDataOf message-of ≡ c → gives-now ≡ payloadGives S message-of c → After s opening bytes t ts es i (copyDataBy c r i l)
+    copy-data-keeps : (c : C.Said) → copyDataOf message-of ≡ c → gives-now ≡ payloadGives S message-of c → After i (copyDataBy c r i l)
     copy-data-keeps (C.k end time reply) e g = keep-alive-keeps end time reply g
     copy-data-keeps (C.w start end time from len) e g =
         let w : from + len ≤ length message-of = data-within message-of start end time from len e in
@@ -183,20 +193,20 @@ module _ (s : Settings) (opening : Bool) (bytes : List ℕ) (t : ℕ) (ts : List
     gives-by : gives-now ≡ pick (isError (r .whole .tag)) (gives [] true) (pick (isCopyData (r .whole .tag)) (payloadGives S message-of (copyDataOf message-of)) (gives [] false))
     gives-by = rw (h .tag, h .payload)
 
-    back-keeps : gives-now ≡ gives [] false → After s opening bytes t ts es i (moved (back r) l)
+    back-keeps : gives-now ≡ gives [] false → After i (moved (back r) l)
     back-keeps g = by (r .whole .«in_wait»)
       where
-        by : (c : Bool) → After s opening bytes t ts es i (moved (withState (pick c Turn Drain) r) l)
+        by : (c : Bool) → After i (moved (withState (pick c Turn Drain) r) l)
         by true = handled-back (r .settings) (r .reader) (r .whole) (l .payload) h _ refl (ap (λ (y : Gives). y .events) g) (ap (λ (y : Gives). y .ends) g)
         by false = handled-back (r .settings) (r .reader) (r .whole) (l .payload) h _ refl (ap (λ (y : Gives). y .events) g) (ap (λ (y : Gives). y .ends) g)
 
-    pub handling-keeps : After s opening bytes t ts es i (handlingOf r i l)
+    pub handling-keeps : After i (handlingOf r i l)
     unfolding handlingOf
     handling-keeps =
-        either s opening bytes t ts es i (isError (r .whole .tag)) (endedWith 19 r l) _
+        either i (isError (r .whole .tag)) (endedWith 19 r l) _
         (λ a. handled-over (r .settings) (r .reader) (r .whole) (l .payload) h _ refl (ap (λ (y : Gives). y .events) gives-by ∙ simp a))
         (λ a.
-        either s opening bytes t ts es i (isCopyData (r .whole .tag)) (copyDataBy (copyDataOf message-of) r i l) (moved (back r) l)
+        either i (isCopyData (r .whole .tag)) (copyDataBy (copyDataOf message-of) r i l) (moved (back r) l)
         (λ b. copy-data-keeps (copyDataOf message-of) refl (gives-by ∙ simp (a, b)))
         (λ b. back-keeps (gives-by ∙ simp (a, b))))
 
@@ -210,9 +220,9 @@ module _ (s : Settings) (opening : Bool) (bytes : List ℕ) (t : ℕ) (ts : List
     abbrev grown-ws : List Told
     grown-ws = h .ws ++ (x ∷ [])
 
-    offers-account : Account (limit s opening bytes) bytes (t + x .taken) (ts ++ (x ∷ [])) all-ms grown-ws
+    offers-account : Account L bytes (t + x .taken) (ts ++ (x ∷ [])) all-ms grown-ws
     offers-account =
-        rw n at (same-ones (limit s opening bytes) bytes t ts all-ms (h .ws) x (h .account) (ones-still s opening bytes t (x .taken) all-ms z (h .account .whole)))
+        rw n at (same-ones L bytes t ts all-ms (h .ws) x (h .account) (ones-still s opening bytes t (x .taken) all-ms z (h .account .whole)))
 
     offers-base : Base s opening bytes st rd p (t + x .taken) all-ms
     offers-base = base-still s opening bytes st rd p t (x .taken) all-ms z (h .base)
@@ -331,19 +341,19 @@ module _ (s : Settings) (opening : Bool) (bytes : List ℕ) (t : ℕ) (ts : List
   module _ (r : Run) (i : Input) (l : Lent) (h : Offers s opening bytes (r .settings) (r .reader) (r .offer) (l .payload) t ts es) (hs : r .state ≡ Offering) where
     -- handed on
     next-keeps : (m : Metrics) → isCutOff (tell i (moved r l)) (r .offer .stalled) ≡ false → i .queue ≡ Free
-        → After s opening bytes t ts es i (nextOf (r .offer .event) (withMetrics m r) l)
+        → After i (nextOf (r .offer .event) (withMetrics m r) l)
     next-keeps m c q =
-        either s opening bytes t ts es i (isStoppedAt (r .offer .event)) (doneWith (r .offer .event) (withMetrics m r) l) _
+        either i (isStoppedAt (r .offer .event)) (doneWith (r .offer .event) (withMetrics m r) l) _
         (λ e. hands-last (r .settings) (r .reader) (r .offer) (l .payload) h (tell i (moved r l)) refl refl c q)
         (λ e. by (r .offer .stops) refl e)
       where
         back-by : (w : Bool) → r .offer .stops ≡ false → isStoppedAt (r .offer .event) ≡ false
-            → After s opening bytes t ts es i (handing (r .offer .event) (withState (pick w Turn Drain) (withMetrics m r)) l)
+            → After i (handing (r .offer .event) (withState (pick w Turn Drain) (withMetrics m r)) l)
         back-by true y k = hands-and-goes (r .settings) (r .reader) (r .offer) (l .payload) h (tell i (moved r l)) refl refl c q y k
         back-by false y k = hands-and-goes (r .settings) (r .reader) (r .offer) (l .payload) h (tell i (moved r l)) refl refl c q y k
 
         by : (b : Bool) → r .offer .stops ≡ b → isStoppedAt (r .offer .event) ≡ false
-            → After s opening bytes t ts es i
+            → After i
             (handing (r .offer .event) (pick b (offers (StoppedAt (r .offer .reached)) false (lsn 0) (withMetrics m r)) (back (withMetrics m r))) l)
         by true y k = hands-then-stopped (r .settings) (r .reader) (r .offer) (l .payload) h (tell i (moved r l)) refl refl c q y
         by false y k = back-by (r .whole .«in_wait») y k
@@ -352,16 +362,16 @@ module _ (s : Settings) (opening : Bool) (bytes : List ℕ) (t : ℕ) (ts : List
     full-keeps : (q : Run) → q .state ≡ Offering → q .settings ≡ r .settings → q .reader ≡ r .reader
         → q .offer ≡ offer (r .offer .event) true (r .offer .stops) (r .offer .reached)
         → isCutOff (tell i (moved r l)) (r .offer .stalled) ≡ false → i .queue ≡ Full
-        → After s opening bytes t ts es i (pick (intervalPassed q) (statusOf false Offering q i l) (moved q l))
+        → After i (pick (intervalPassed q) (statusOf false Offering q i l) (moved q l))
     unfolding statusOf
     full-keeps q es-q hst hrd ho c e =
         let w : Offers s opening bytes (q .settings) (q .reader) (q .offer) (l .payload) (t + 0) (ts ++ (tell i (moved r l) ∷ [])) (es ++ []) =
         rw (hst, hrd, ho) (waits-on (r .settings) (r .reader) (r .offer) (l .payload) h (tell i (moved r l)) refl refl c e) in
-        either s opening bytes t ts es i (intervalPassed q) (statusOf false Offering q i l) (moved q l)
+        either i (intervalPassed q) (statusOf false Offering q i l) (moved q l)
         (λ a. w)
         (λ a. rw es-q w)
 
-    done-keeps : (q : Run) → isCutOff (tell i (moved r l)) (r .offer .stalled) ≡ true → After s opening bytes t ts es i (doneWith Nothing q l)
+    done-keeps : (q : Run) → isCutOff (tell i (moved r l)) (r .offer .stalled) ≡ true → After i (doneWith Nothing q l)
     done-keeps q c = cut-off (r .settings) (r .reader) (r .offer) (l .payload) h (tell i (moved r l)) refl refl c
 
     -- a stop request while the queue is full, or was at an earlier offer
@@ -375,13 +385,13 @@ module _ (s : Settings) (opening : Bool) (bytes : List ℕ) (t : ℕ) (ts : List
     was-full true e = refl
     was-full false e = e
 
-    stalled-by : (q : Queue) → i .queue ≡ q → isClosed q ≡ false → i .stop ≡ false → r .offer .stalled ≡ true → After s opening bytes t ts es i (stalledBy q r i l)
+    stalled-by : (q : Queue) → i .queue ≡ q → isClosed q ≡ false → i .stop ≡ false → r .offer .stalled ≡ true → After i (stalledBy q r i l)
     stalled-by Free e n a b = next-keeps _ (no-stop a) e
     stalled-by Full e n a b = full-keeps r hs refl refl (ap (λ (c : Bool). offer (r .offer .event) c (r .offer .stops) (r .offer .reached)) b) (no-stop a) e
     stalled-by Closed e n a b = impossible cc
 
     -- at the first try
-    first-by : (q : Queue) → i .queue ≡ q → isClosed q ≡ false → r .offer .stalled ≡ false → After s opening bytes t ts es i (firstBy q r i l)
+    first-by : (q : Queue) → i .queue ≡ q → isClosed q ≡ false → r .offer .stalled ≡ false → After i (firstBy q r i l)
     unfolding stalledOf
     first-by Free e n b = next-keeps _ (by (i .stop)) e
       where
@@ -389,22 +399,22 @@ module _ (s : Settings) (opening : Bool) (bytes : List ℕ) (t : ℕ) (ts : List
         by true = rw (e, b) refl
         by false = refl
     first-by Full e n b =
-        either s opening bytes t ts es i (i .stop) (doneWith Nothing (stalls r) l) _
+        either i (i .stop) (doneWith Nothing (stalls r) l) _
         (λ a. done-keeps (stalls r) (cut-now a (rw e refl)))
         (λ a. by (i .queue) e (no-stop a))
       where
-        by : (q : Queue) → q ≡ Full → isCutOff (tell i (moved r l)) (r .offer .stalled) ≡ false → After s opening bytes t ts es i (stalledBy q (stalls r) i l)
+        by : (q : Queue) → q ≡ Full → isCutOff (tell i (moved r l)) (r .offer .stalled) ≡ false → After i (stalledBy q (stalls r) i l)
         by Full f a = full-keeps (stalls r) hs refl refl refl a e
         by Free f a = impossible cc
         by Closed f a = impossible cc
     first-by Closed e n b = impossible cc
 
-    pub offering-keeps : isClosed (i .queue) ≡ false → After s opening bytes t ts es i (offeringOf r i l)
+    pub offering-keeps : isClosed (i .queue) ≡ false → After i (offeringOf r i l)
     unfolding offeringOf stalledOf
     offering-keeps n =
-        either s opening bytes t ts es i (r .offer .stalled) (stalledOf r i l) (firstBy (i .queue) r i l)
+        either i (r .offer .stalled) (stalledOf r i l) (firstBy (i .queue) r i l)
         (λ b.
-        either s opening bytes t ts es i (i .stop) (doneWith Nothing r l) (stalledBy (i .queue) r i l)
+        either i (i .stop) (doneWith Nothing r l) (stalledBy (i .queue) r i l)
         (λ a. done-keeps r (cut-now a (was-full (isFull (i .queue)) b)))
         (λ a. stalled-by (i .queue) refl n a b))
         (λ b. first-by (i .queue) refl n b)

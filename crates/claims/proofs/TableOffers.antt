@@ -1,5 +1,5 @@
 -- .. of the states that handle a message and offer its events.
-use mathlib.Core.Path.{_≡_, refl, sym, ap, _∙_}
+use mathlib.Core.Path.{_≡_, refl, ap, _∙_}
 use mathlib.Core.Bool.{Bool, true, false}
 use mathlib.Core.List.{List, [], _∷_, _++_}
 use Prim.Native.Nat.{ℕ, _+_, _≤_}
@@ -9,7 +9,7 @@ use lib.ListN.{length, take, length-take}
 use lib.IntN.{ℤ}
 use lib.Dec.{leb}
 use Rattle.wire.specs.Bytes.{pick, at}
-use Rattle.wire.proofs.Laws.{put-none, impossible, part-of-front}
+use Rattle.wire.proofs.Laws.{impossible, part-of-front}
 use Rattle.stream.specs.Cut.{Item}
 use Rattle.framing.specs.Read.{limitOf}
 use Rattle.framing.specs.Tag.{isError, isCopyData}
@@ -23,7 +23,7 @@ use Rattle.replication.specs.CopyData.{copyDataOf}
 use Rattle.replication.specs.CopyData as C
 use Rattle.replication.proofs.LayoutXLogData.{data-within}
 use Rattle.worker.specs.declared.Settings.{Settings}
-use Rattle.worker.specs.declared.State.the-variants.{Turn, Drain, Handling, Offering}
+use Rattle.worker.specs.declared.State.the-variants.{Turn, Drain, Ended, Handling, Offering}
 use Rattle.worker.specs.declared.Queue.{Queue}
 use Rattle.worker.specs.declared.Queue.the-variants.{Free, Full, Closed}
 use Rattle.worker.specs.declared.Input.{Input}
@@ -34,19 +34,19 @@ use Rattle.worker.specs.Run.{lsn, offer, withState, withMetrics, withOffer, acc
 use Rattle.worker.specs.Step.{Lent, Outcome, back, boundaryBy, copyDataBy, doneWith, endedWith, firstBy, handing, handlingOf, intervalPassed, isStoppedAt, moved, nextOf, offeringOf, offers, stalledBy, stalledOf, stalls, statusOf}
 use Rattle.claims.specs.Plain.{wholeOnes, isFull, byQueue}
 use Rattle.claims.specs.Past.{Past, confirmedOf, lastAccepted, hasSent, sentAt, sentPosition, waitBegan, pendingOf, signalledOf, drainedOf, fullBefore, stoppedNext}
-use Rattle.claims.specs.Table.{nothing, done, status, Say, say, statusIf, isPassed, lastOr, lastMessage, boundaryRefusal, copyDataSay, handlingSay, behindOffer, againSay, offeringSay, Answers}
+use Rattle.claims.specs.Table.{nothing, done, status, Say, say, statusIf, isPassed, lastOr, lastMessage, boundaryRefusal, copyDataSay, handlingSay, behindOffer, againSay, offeringSay}
 use Rattle.claims.proofs.Course.{Msg}
 use Rattle.claims.proofs.Facts.{Facts, factsBy, factsOf, with-status, confirmed-facts, at-moment, with-offer}
 use Rattle.claims.proofs.Spans.{whole-items}
 use Rattle.claims.proofs.Standing.{base-still}
-use Rattle.claims.proofs.Table.{Standing, Holding, Next, either, still, moved-answers, ended-answers, done-answers, status-answers, applied-is}
+use Rattle.claims.proofs.Table.{Standing, Holding, Next, either, still, handing-answers, moved-answers, refused-answers, done-answers, status-answers, applied-is}
 
 last-one : (d m : Msg) (ms : List Msg) → lastOr d (ms ++ (m ∷ [])) ≡ m
 unfolding lastOr
 last-one d m [] = refl
 last-one d m (n ∷ ms) = last-one n m ms
 
-module _ (s : Settings) (opening : Bool) (start : Lsn) (bytes : List ℕ) (t : ℕ) (h : List Past) (i : Input) (l : Lent) (r : Run) (hs : r .settings ≡ s)
+module _ (s : Settings) (opening : Bool) (bytes : List ℕ) (start : Lsn) (t : ℕ) (h : List Past) (i : Input) (l : Lent) (r : Run) (hs : r .settings ≡ s)
     (e : factsBy r ≡ factsOf start h) where
   abbrev R' : Run
   R' = accepted (i .moment) r
@@ -54,10 +54,10 @@ module _ (s : Settings) (opening : Bool) (start : Lsn) (bytes : List ℕ) (t : �
   -- ---- Handling
 
   abbrev N : Say → Outcome → Type 0
-  N y o = Next s opening start bytes t h i l Handling y o
+  N y o = Next s opening bytes start t h i l Handling y o
 
-  module _ (w : Holding s opening start bytes (r .settings) (r .reader) (r .whole) (l .payload) t) where
-    stands-still : Standing s opening start bytes (r .settings) (r .reader) (l .payload) (t + 0)
+  module _ (w : Holding s opening bytes (r .settings) (r .reader) (r .whole) (l .payload) t) where
+    stands-still : Standing s opening bytes (r .settings) (r .reader) (l .payload) (t + 0)
     stands-still =
         record {
           ms = w .ms ++ (w .m ∷ []);
@@ -74,14 +74,14 @@ module _ (s : Settings) (opening : Bool) (start : Lsn) (bytes : List ℕ) (t : �
         ∙ (last-one (0, []) (w .m) (w .ms) ∙ (ap (λ (n : ℕ). (n, w .m .1)) (w .tag) ∙ ap (λ (y : List ℕ). (r .whole .tag, y)) (w .payload))))
 
     ended-next : (n : ℕ) (m : Run) → m .settings ≡ s → N (say n nothing) (endedWith n m l)
-    ended-next n m hm = record { answers = ended-answers s opening start bytes t h i l Handling n m; facts = tt; settings = hm; placed = tt; bounded = tt }
+    ended-next n m hm = record { answers = refused-answers n (withState Ended m); facts = tt; settings = hm; placed = tt; bounded = tt }
 
     -- an event is offered
     offers-next : (ev : Event) (stops : Bool) (reached : Lsn) (m : Metrics) → isStoppedAt ev ≡ false → N (say 0 nothing) (moved (offers ev stops reached (withMetrics m R')) l)
     unfolding lastAccepted waitBegan sentAt confirmedOf sentPosition signalledOf hasSent drainedOf pendingOf fullBefore stoppedNext
     offers-next ev stops reached m x =
         record {
-          answers = moved-answers s opening start bytes t h i l Handling (offers ev stops reached (withMetrics m R'));
+          answers = moved-answers (offers ev stops reached (withMetrics m R'));
           facts =
               ap (λ (y : Bool). with-offer false y (at-moment (i .moment) (factsBy r))) x
               ∙ ap (λ (f : Facts). with-offer false false (at-moment (i .moment) f)) e;
@@ -113,7 +113,7 @@ module _ (s : Settings) (opening : Bool) (start : Lsn) (bytes : List ℕ) (t : �
         rw a (boundary-next (boundaryOf (at (l .payload) from len)) start' end time from len)
     copy-data-next (C.k end time true) hc =
         record {
-          answers = status-answers s opening start bytes t h i l Handling true Offering (replying end time) (applied-is s opening start bytes t h i l Handling r hs e);
+          answers = status-answers true Offering (replying end time) (applied-is start h r e);
           facts =
               confirmed-facts (withOffer (offer (KeepAlive (lsn end) time true) false false (lsn 0)) r) (i .moment)
               ∙ ap (λ (f : Facts). with-status (i .moment) (with-offer false false f)) e;
@@ -128,7 +128,7 @@ module _ (s : Settings) (opening : Bool) (start : Lsn) (bytes : List ℕ) (t : �
     unfolding lastAccepted waitBegan sentAt confirmedOf sentPosition signalledOf hasSent drainedOf pendingOf fullBefore stoppedNext
     back-next true =
         record {
-          answers = moved-answers s opening start bytes t h i l Handling (withState Turn R');
+          answers = moved-answers (withState Turn R');
           facts = ap (at-moment (i .moment)) e;
           settings = hs;
           placed = stands-still;
@@ -136,7 +136,7 @@ module _ (s : Settings) (opening : Bool) (start : Lsn) (bytes : List ℕ) (t : �
         }
     back-next false =
         record {
-          answers = moved-answers s opening start bytes t h i l Handling (withState Drain R');
+          answers = moved-answers (withState Drain R');
           facts = ap (at-moment (i .moment)) e;
           settings = hs;
           placed = stands-still;
@@ -147,19 +147,19 @@ module _ (s : Settings) (opening : Bool) (start : Lsn) (bytes : List ℕ) (t : �
     unfolding handlingOf
     handling-next =
         rw last-message
-        (either s opening start bytes t h i l Handling (isError (r .whole .tag)) (say 19 nothing) _ (endedWith 19 R' l) _
+        (either s opening bytes start t h i l Handling (isError (r .whole .tag)) (say 19 nothing) _ (endedWith 19 R' l) _
         (λ a. ended-next 19 R' hs)
         (λ a.
-        either s opening start bytes t h i l Handling (isCopyData (r .whole .tag)) (copyDataSay q (copyDataOf q)) (say 0 nothing) (copyDataBy (copyDataOf q) R' i l) (moved (back R') l)
+        either s opening bytes start t h i l Handling (isCopyData (r .whole .tag)) (copyDataSay q (copyDataOf q)) (say 0 nothing) (copyDataBy (copyDataOf q) R' i l) (moved (back R') l)
         (λ b. copy-data-next (copyDataOf q) refl)
         (λ b. back-next (r .whole .«in_wait»))))
 
   -- ---- Offering
 
   abbrev O : Say → Outcome → Type 0
-  O y o = Next s opening start bytes t h i l Offering y o
+  O y o = Next s opening bytes start t h i l Offering y o
 
-  module _ (b : Standing s opening start bytes (r .settings) (r .reader) (l .payload) t) (hst : r .state ≡ Offering) where
+  module _ (b : Standing s opening bytes (r .settings) (r .reader) (l .payload) t) (hst : r .state ≡ Offering) where
     stopped-is : isStoppedAt (r .offer .event) ≡ stoppedNext h
     stopped-is = ap (λ (f : Facts). f .stopped) e
 
@@ -170,15 +170,12 @@ module _ (s : Settings) (opening : Bool) (start : Lsn) (bytes : List ℕ) (t : �
     unfolding lastAccepted waitBegan sentAt confirmedOf sentPosition signalledOf hasSent drainedOf pendingOf fullBefore stoppedNext
     done-next ev m =
         record {
-          answers = record { refusal = refl; taken = refl; payload = sym (put-none (l .payload) 0); output = refl };
+          answers = done-answers ev (withMetrics m R');
           facts = tt;
           settings = hs;
           placed = tt;
           bounded = tt;
         }
-
-    handing-answers : (ev : Event) (m : Run) → Answers (confirmedOf start h) i l (say 0 nothing) (handing ev m l)
-    handing-answers ev m = record { refusal = refl; taken = refl; payload = sym (put-none (l .payload) 0); output = refl }
 
     -- handed on or dropped, with a queue that is not full
     next-next : (ev : Event) (m : Metrics) → isFull (i .queue) ≡ false → O (behindOffer h) (nextOf ev (withMetrics m R') l)
@@ -195,7 +192,7 @@ module _ (s : Settings) (opening : Bool) (start : Lsn) (bytes : List ℕ) (t : �
               answers = handing-answers ev _;
               facts = rw nf (ap (λ (f : Facts). with-offer false true (at-moment (i .moment) f)) e);
               settings = hs;
-              placed = still s opening start bytes (r .settings) (r .reader) (l .payload) t b;
+              placed = still s opening bytes (r .settings) (r .reader) (l .payload) t b;
               bounded = tt;
             }
         by false false true =
@@ -203,7 +200,7 @@ module _ (s : Settings) (opening : Bool) (start : Lsn) (bytes : List ℕ) (t : �
               answers = handing-answers ev _;
               facts = ap (at-moment (i .moment)) e;
               settings = hs;
-              placed = still s opening start bytes (r .settings) (r .reader) (l .payload) t b;
+              placed = still s opening bytes (r .settings) (r .reader) (l .payload) t b;
               bounded = tt;
             }
         by false false false =
@@ -211,7 +208,7 @@ module _ (s : Settings) (opening : Bool) (start : Lsn) (bytes : List ℕ) (t : �
               answers = handing-answers ev _;
               facts = ap (at-moment (i .moment)) e;
               settings = hs;
-              placed = still s opening start bytes (r .settings) (r .reader) (l .payload) t b;
+              placed = still s opening bytes (r .settings) (r .reader) (l .payload) t b;
               bounded = tt;
             }
 
@@ -236,18 +233,18 @@ module _ (s : Settings) (opening : Bool) (start : Lsn) (bytes : List ℕ) (t : �
         by : (c : Bool) → O (say 0 (statusIf c)) (pick c (statusOf false Offering (accepted (i .moment) q) i l) (moved (accepted (i .moment) q) l))
         by true =
             record {
-              answers = status-answers s opening start bytes t h i l Offering false Offering (accepted (i .moment) q) (ap (λ (f : Facts). f .applied) all-of-it);
+              answers = status-answers false Offering (accepted (i .moment) q) (ap (λ (f : Facts). f .applied) all-of-it);
               facts = rw nf (confirmed-facts q (i .moment) ∙ ap (with-status (i .moment)) all-of-it);
               settings = hqs ∙ hs;
-              placed = rw (hqs, hqr) (still s opening start bytes (r .settings) (r .reader) (l .payload) t b);
+              placed = rw (hqs, hqr) (still s opening bytes (r .settings) (r .reader) (l .payload) t b);
               bounded = tt;
             }
         by false =
             record {
-              answers = moved-answers s opening start bytes t h i l Offering (accepted (i .moment) q);
+              answers = moved-answers (accepted (i .moment) q);
               facts = rw (hq, nf) all-of-it;
               settings = hqs ∙ hs;
-              placed = rw (hq, hqs, hqr) (still s opening start bytes (r .settings) (r .reader) (l .payload) t b);
+              placed = rw (hq, hqs, hqr) (still s opening bytes (r .settings) (r .reader) (l .payload) t b);
               bounded = rw hq tt;
             }
 
@@ -255,7 +252,7 @@ module _ (s : Settings) (opening : Bool) (start : Lsn) (bytes : List ℕ) (t : �
     again-next : r .offer .stalled ≡ true → O (againSay s h i) (stalledOf R' i l)
     unfolding stalledOf
     again-next y =
-        either s opening start bytes t h i l Offering (i .stop) (say 0 done) _ (doneWith Nothing R' l) (stalledBy (i .queue) R' i l)
+        either s opening bytes start t h i l Offering (i .stop) (say 0 done) _ (doneWith Nothing R' l) (stalledBy (i .queue) R' i l)
         (λ a. done-next Nothing (r .metrics))
         (λ a. by (i .queue) refl)
       where
@@ -270,8 +267,8 @@ module _ (s : Settings) (opening : Bool) (start : Lsn) (bytes : List ℕ) (t : �
     first-next Free x = next-next (r .offer .event) _ (ap isFull x)
     first-next Closed x = next-next Nothing (r .metrics) (ap isFull x)
     first-next Full x =
-        either s opening start bytes t h i l Offering (i .stop) (say 0 done) _ (doneWith Nothing (stalls R') l) (stalledBy (i .queue) (stalls R') i l)
-        (λ a. record { answers = done-answers s opening start bytes t h i l Offering (stalls R'); facts = tt; settings = hs; placed = tt; bounded = tt })
+        either s opening bytes start t h i l Offering (i .stop) (say 0 done) _ (doneWith Nothing (stalls R') l) (stalledBy (i .queue) (stalls R') i l)
+        (λ a. record { answers = done-answers Nothing (stalls R'); facts = tt; settings = hs; placed = tt; bounded = tt })
         (λ a. by (i .queue) x)
       where
         by : (q : Queue) → q ≡ Full → O (byQueue q (behindOffer h) (say 0 (statusIf (isPassed s h i))) (behindOffer h)) (stalledBy q (stalls R') i l)
@@ -283,6 +280,6 @@ module _ (s : Settings) (opening : Bool) (start : Lsn) (bytes : List ℕ) (t : �
     unfolding offeringOf
     offering-next =
         rw (← full-is)
-        (either s opening start bytes t h i l Offering (r .offer .stalled) (againSay s h i) _ (stalledOf R' i l) (firstBy (i .queue) R' i l)
+        (either s opening bytes start t h i l Offering (r .offer .stalled) (againSay s h i) _ (stalledOf R' i l) (firstBy (i .queue) R' i l)
         (λ a. again-next a)
         (λ a. first-next (i .queue) refl))
