@@ -76,6 +76,7 @@ xlogAtHand b = pick (ltb (length b) 24) nothing (byCopyData (length b - 24 + 25)
 unfoldable pub messageOf : List ℕ → AtHand
 messageOf s = pick (eqb (length s) 0) nothing (pick (eqb (getD s 0 0) 119) (xlogAtHand (drop 1 s)) nothing)
 
+-- of the bytes at hand
 unfoldable pub atHandOf : List ℕ → AtHand
 atHandOf u = pick (eqb (wholeAt u) 0) nothing (messageOf (at u 5 (wholeAt u)))
 
@@ -110,6 +111,7 @@ hasRoom r m p o n =
     (pick (ltb (limitOf (r .settings .«max_message_size»)) n) false
     (pick (ltb o 39) false (not (badMoment r m))))
 
+-- the queue is free and the stop position not reached, too
 unfoldable pub appliesOf : Run → Moment → Queue → ℕ → ℕ → AtHand → Bool
 appliesOf r m q p o a =
     pick (eqb (a .len) 0) false
