@@ -1,6 +1,7 @@
 //! Which tests of the step table, and which refusals, the scenarios reached, as a side that goes step by step shows it.
 
-use crate::stepped::{Answer, Input, Queue, State};
+use crate::stepped::Answer;
+use rufflesquash::{Input, Queue, State};
 use std::collections::HashMap;
 
 #[derive(Clone, Default)]
@@ -111,7 +112,7 @@ impl Coverage {
         *self.reached.entry(what).or_insert(0) += 1;
     }
 
-    pub fn step(&mut self, before: State, input: &Input, answer: &Answer, up: Up) {
+    pub fn step(&mut self, before: State, input: &Input, unread: &[u8], answer: &Answer, up: Up) {
         self.times(before, answer, up);
         if answer.refusal != 0 {
             *self.refusals.entry((name(before), answer.refusal)).or_insert(0) += 1;
@@ -124,13 +125,13 @@ impl Coverage {
         match before {
             State::Opening if answer.state == State::Turn => self.seen("Opening: W"),
             // A message that ends with the bytes read cannot be told from one that goes on, unless some were left.
-            State::Opening if answer.taken < input.unread.len() => self.seen("Opening: skipped"),
+            State::Opening if answer.taken < unread.len() => self.seen("Opening: skipped"),
             State::Opening => self.seen("Opening: unfinished"),
             State::Turn => self.seen(if status { "Turn: status" } else { "Turn: no status" }),
-            State::Drain => self.drain(input, answer),
+            State::Drain => self.drain(input.stop, unread.len(), answer),
             State::Reading if answer.state == State::Handling => self.seen("Reading: whole"),
             State::Reading => self.seen(if input.stop { "Reading: unfinished, stop seen" } else { "Reading: unfinished" }),
-            State::Waiting => self.waiting(input, answer, status),
+            State::Waiting => self.waiting(!unread.is_empty(), input.ended, answer, status),
             State::Handling => {
                 self.stalled = false;
                 self.seen(match answer.state {
@@ -164,13 +165,12 @@ impl Coverage {
         self.seen(found);
     }
 
-    fn drain(&mut self, input: &Input, answer: &Answer) {
-        let unread = input.unread.len();
+    fn drain(&mut self, stop: bool, unread: usize, answer: &Answer) {
         match answer.state {
             State::Reading if unread == 5 => self.seen("Drain: read, exactly 5 bytes"),
-            State::Reading if input.stop => self.seen("Drain: read, stop seen"),
+            State::Reading if stop => self.seen("Drain: read, stop seen"),
             State::Reading => self.seen("Drain: read"),
-            State::Waiting if input.stop => self.seen("Drain: wait, stop seen"),
+            State::Waiting if stop => self.seen("Drain: wait, stop seen"),
             State::Waiting if unread > 0 => self.seen("Drain: wait, 1 to 4 bytes"),
             State::Waiting => self.seen("Drain: wait"),
             State::Ended => self.seen("Drain: some drained, stop"),
@@ -181,8 +181,7 @@ impl Coverage {
         }
     }
 
-    fn waiting(&mut self, input: &Input, answer: &Answer, status: bool) {
-        let (bytes, end) = (!input.unread.is_empty(), input.ended);
+    fn waiting(&mut self, bytes: bool, end: bool, answer: &Answer, status: bool) {
         self.seen(match answer.state {
             State::Ended if bytes => "Waiting: stop and bytes",
             State::Ended if end => "Waiting: stop and the end",

@@ -3,7 +3,8 @@
 use crate::leaves::error_text;
 use crate::record::{Event, Metrics, STATUS};
 use crate::scenario::Scenario;
-use crate::stepped::{Answer, Input, Queue, State, Stepped, Steps};
+use crate::stepped::{Answer, Stepped, Steps};
+use rufflesquash::{Input, Moment, Queue, State};
 
 #[derive(Default)]
 pub struct Modelled {
@@ -17,7 +18,7 @@ pub struct Modelled {
 }
 
 pub fn side() -> Stepped<Modelled> {
-    Stepped { name: "model", run: Modelled::default(), coverage: Default::default(), steps: 0, outside: 0 }
+    Stepped::new("model")
 }
 
 impl Modelled {
@@ -55,19 +56,18 @@ impl Steps for Modelled {
         query
     }
 
-    fn step(&mut self, input: &Input) -> Answer {
+    fn step(&mut self, input: &Input, unread: &[u8]) -> Answer {
         let queue = match input.queue {
             Queue::Free => model::Queue::Free,
             Queue::Full => model::Queue::Full,
             Queue::Closed => model::Queue::Closed,
         };
-        let lent =
-            model::Input { moment: input.moment, client_time: input.client_time, stop: input.stop, queue, unread: input.unread, ended: input.ended };
+        let lent = model::Input { moment: input.moment.0, client_time: input.client_time, stop: input.stop, queue, unread, ended: input.ended };
         let mut out = [0; STATUS];
         let run = self.run.as_mut().expect("a run that was begun");
         let answer = run.step(&lent, &mut self.payload, &mut out);
         let state = state_of(run.state);
-        self.read(&input.unread[..answer.taken]);
+        self.read(&unread[..answer.taken]);
         self.event.clone_from(&answer.event);
         Answer {
             refusal: answer.refusal,
@@ -80,8 +80,8 @@ impl Steps for Modelled {
         }
     }
 
-    fn report(&mut self, position: u64, moment: u64) {
-        self.run().report(position, moment)
+    fn report(&mut self, position: u64, moment: Moment) {
+        self.run().report(position, moment.0)
     }
 
     fn metrics(&self) -> Metrics {

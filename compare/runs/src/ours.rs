@@ -2,8 +2,8 @@
 
 use crate::record::{Event, Metrics, STATUS};
 use crate::scenario::Scenario;
-use crate::stepped::{Answer, Input, Queue, State, Stepped, Steps};
-use rufflesquash::{Lsn, Moment, Run, Settings};
+use crate::stepped::{Answer, Stepped, Steps};
+use rufflesquash::{Input, Lsn, Moment, Run, Settings};
 use std::time::Duration;
 
 #[derive(Default)]
@@ -15,7 +15,7 @@ pub struct Ours {
 }
 
 pub fn side() -> Stepped<Ours> {
-    Stepped { name: "ours", run: Ours::default(), coverage: Default::default(), steps: 0, outside: 0 }
+    Stepped::new("ours")
 }
 
 /// What one of the writers makes of a text; the longest is three bytes for one, and the words around an error's fields.
@@ -51,27 +51,15 @@ impl Steps for Ours {
         out
     }
 
-    fn step(&mut self, input: &Input) -> Answer {
+    fn step(&mut self, input: &Input, unread: &[u8]) -> Answer {
         let run = self.run.as_mut().expect("a run that was begun");
-        let queue = match input.queue {
-            Queue::Free => rufflesquash::Queue::Free,
-            Queue::Full => rufflesquash::Queue::Full,
-            Queue::Closed => rufflesquash::Queue::Closed,
-        };
-        let lent = rufflesquash::Input {
-            moment: Moment(input.moment),
-            client_time: input.client_time,
-            stop: input.stop,
-            queue,
-            ended: input.ended,
-        };
         let mut out = [0; STATUS];
-        let step = run.step(&lent, input.unread, &mut self.payload, &mut out);
+        let step = run.step(input, unread, &mut self.payload, &mut out);
         let text = &mut self.text;
         let answer = Answer {
             refusal: step.refusal.map_or(0, |r| r.number()),
             taken: step.taken,
-            state: state_of(run.state()),
+            state: run.state(),
             written: out[..step.written].to_vec(),
             waited: step.waited.map(|time| time.as_nanos() as u64),
             event: step.event.map(|event| event_of(event, text)),
@@ -83,8 +71,8 @@ impl Steps for Ours {
         }
     }
 
-    fn report(&mut self, position: u64, moment: u64) {
-        self.run.as_mut().expect("a run that was begun").report(Lsn(position), Moment(moment))
+    fn report(&mut self, position: u64, moment: Moment) {
+        self.run.as_mut().expect("a run that was begun").report(Lsn(position), moment)
     }
 
     fn metrics(&self) -> Metrics {
@@ -98,19 +86,6 @@ impl Steps for Ours {
             m.last_applied_lsn.0,
             m.last_wal_end.0,
         ]
-    }
-}
-
-fn state_of(state: rufflesquash::State) -> State {
-    match state {
-        rufflesquash::State::Opening => State::Opening,
-        rufflesquash::State::Turn => State::Turn,
-        rufflesquash::State::Drain => State::Drain,
-        rufflesquash::State::Reading => State::Reading,
-        rufflesquash::State::Waiting => State::Waiting,
-        rufflesquash::State::Handling => State::Handling,
-        rufflesquash::State::Offering => State::Offering,
-        rufflesquash::State::Ended => State::Ended,
     }
 }
 

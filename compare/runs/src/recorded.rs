@@ -9,8 +9,9 @@ use crate::modelled::Modelled;
 use crate::original::Original;
 use crate::record::{Metrics, STATUS};
 use crate::scenario::{Happening, Scenario};
-use crate::stepped::{Answer, Input, Queue, Stepped, Steps};
+use crate::stepped::{Answer, Stepped, Steps};
 use crate::text::position;
+use rufflesquash::{Input, Moment, Queue};
 use std::fmt::Write;
 
 #[derive(Default)]
@@ -77,7 +78,7 @@ impl Steps for Recorder {
         query
     }
 
-    fn step(&mut self, input: &Input) -> Answer {
+    fn step(&mut self, input: &Input, unread: &[u8]) -> Answer {
         self.call();
         let queue = match input.queue {
             Queue::Free => 0,
@@ -86,14 +87,14 @@ impl Steps for Recorder {
         };
         let out = &mut self.script;
         out.push(b'S');
-        out.extend(input.moment.to_be_bytes());
+        out.extend(input.moment.0.to_be_bytes());
         out.extend(input.client_time.to_be_bytes());
         out.extend([input.stop as u8, queue]);
-        out.extend((input.unread.len() as u32).to_be_bytes());
+        out.extend((unread.len() as u32).to_be_bytes());
         out.push(input.ended as u8);
         out.extend((STATUS as u16).to_be_bytes());
         out.push(FILLS[0]);
-        let answer = self.model.step(input);
+        let answer = self.model.step(input, unread);
         let _ = writeln!(
             self.lines,
             "S {} {} {} {} {} {} {} {}",
@@ -109,11 +110,11 @@ impl Steps for Recorder {
         answer
     }
 
-    fn report(&mut self, p: u64, moment: u64) {
+    fn report(&mut self, p: u64, moment: Moment) {
         self.call();
         self.script.push(b'P');
         self.script.extend(p.to_be_bytes());
-        self.script.extend(moment.to_be_bytes());
+        self.script.extend(moment.0.to_be_bytes());
         self.model.report(p, moment);
         self.reported = self.reported.max(p);
         let _ = writeln!(self.lines, "P {}", position(self.reported));
@@ -125,7 +126,7 @@ impl Steps for Recorder {
 }
 
 pub fn side() -> Stepped<Recorder> {
-    Stepped { name: "model", run: Recorder::default(), coverage: Default::default(), steps: 0, outside: 0 }
+    Stepped::new("model")
 }
 
 /// Plays a scenario on the Rust and records it; the script and its lines. None where the model differs.

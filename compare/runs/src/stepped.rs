@@ -5,36 +5,8 @@ use crate::coverage::{Coverage, Up};
 use crate::record::{Event, Line, Metrics, Record};
 use crate::scenario::{Happening, Scenario};
 use crate::side::Side;
+use rufflesquash::{Input, Moment, Queue, State};
 use std::collections::VecDeque;
-
-#[derive(Clone, Copy, Debug, PartialEq)]
-pub enum State {
-    Opening,
-    Turn,
-    Drain,
-    Reading,
-    Waiting,
-    Handling,
-    Offering,
-    Ended,
-}
-
-#[derive(Clone, Copy, Debug, PartialEq)]
-pub enum Queue {
-    Free,
-    Full,
-    Closed,
-}
-
-pub struct Input<'a> {
-    /// Nanoseconds.
-    pub moment: u64,
-    pub client_time: i64,
-    pub stop: bool,
-    pub queue: Queue,
-    pub unread: &'a [u8],
-    pub ended: bool,
-}
 
 #[derive(Debug)]
 pub struct Answer {
@@ -53,14 +25,14 @@ pub struct Answer {
 pub trait Steps {
     /// Begins a fresh run of the scenario's settings, its names and positions; the bytes of the query, none where it is open.
     fn begin(&mut self, scenario: &Scenario) -> Vec<u8>;
-    fn step(&mut self, input: &Input) -> Answer;
-    fn report(&mut self, position: u64, moment: u64);
+    fn step(&mut self, input: &Input, unread: &[u8]) -> Answer;
+    fn report(&mut self, position: u64, moment: Moment);
     fn metrics(&self) -> Metrics;
 }
 
 /// Moment 0 of a scenario, as a step's moment; a step takes none below 1.
-fn moment_of(millis: u64) -> u64 {
-    (millis + 1) * 1_000_000
+fn moment_of(millis: u64) -> Moment {
+    Moment((millis + 1) * 1_000_000)
 }
 
 /// Every message has 5 bytes at least and takes fewer than 20 steps: a run that makes more at one moment goes round for ever.
@@ -156,6 +128,12 @@ impl<R: Steps> Side for Stepped<R> {
     }
 }
 
+impl<R: Steps + Default> Stepped<R> {
+    pub fn new(name: &'static str) -> Self {
+        Stepped { name, run: R::default(), coverage: Coverage::default(), steps: 0, outside: 0 }
+    }
+}
+
 impl<R: Steps> Stepped<R> {
     fn happen<'a>(&mut self, host: &mut Host<'a>, what: &'a Happening, inside: bool) {
         match what {
@@ -212,16 +190,15 @@ impl<R: Steps> Stepped<R> {
                 client_time: host.client_times.get(host.statuses).copied().unwrap_or(0),
                 stop: host.stop,
                 queue,
-                unread,
                 ended: host.ended && host.pieces.is_empty() && unread.is_empty(),
             };
-            let answer = self.run.step(&input);
+            let answer = self.run.step(&input, unread);
             self.steps += 1;
             let up = Up {
                 status: host.last_status.is_none_or(|last| now - last >= host.scenario.status),
                 idle: now - host.wait_began >= host.scenario.idle,
             };
-            self.coverage.step(host.state, &input, &answer, up);
+            self.coverage.step(host.state, &input, unread, &answer, up);
             let lines = host.record.lines.len();
             if let (Some(piece), true) = (piece, answer.taken > 0) {
                 host.record.lines.push((now, Line::Piece(piece.len())));
