@@ -60,6 +60,18 @@ pub fn shrink(first: &mut dyn Side, second: &mut dyn Side, scenario: &Scenario, 
     shrinking.best
 }
 
+/// What is tried in a happening's place, the smallest first.
+fn smaller(what: &Happening) -> Vec<Happening> {
+    match *what {
+        Happening::Take(n) if n > 1 => vec![Happening::Take(1)],
+        Happening::Fill(n) if n > 1 => vec![Happening::Fill(1)],
+        Happening::Pass(n) if n > 1 => vec![Happening::Pass(1)],
+        Happening::ReportFrom(p, _) => vec![Happening::Report(p)],
+        Happening::Report(p) => (1..p.min(4)).map(Happening::Report).collect(),
+        _ => Vec::new(),
+    }
+}
+
 struct Shrinking<'a> {
     first: &'a mut dyn Side,
     second: &'a mut dyn Side,
@@ -130,13 +142,8 @@ impl Shrinking<'_> {
             let mut j = 0;
             while j < self.best.rounds[i].what.len() {
                 if !self.with(|s| drop(s.rounds[i].what.remove(j))) {
-                    match self.best.rounds[i].what[j] {
-                        Happening::Take(n) if n > 1 => drop(self.with(|s| s.rounds[i].what[j] = Happening::Take(1))),
-                        Happening::Fill(n) if n > 1 => drop(self.with(|s| s.rounds[i].what[j] = Happening::Fill(1))),
-                        Happening::ReportFrom(p, _) => drop(self.with(|s| s.rounds[i].what[j] = Happening::Report(p))),
-                        Happening::Report(p) => drop((1..p.min(4)).any(|less| self.with(|s| s.rounds[i].what[j] = Happening::Report(less)))),
-                        _ => {}
-                    }
+                    let less = smaller(&self.best.rounds[i].what[j]);
+                    less.into_iter().any(|less| self.with(|s| s.rounds[i].what[j] = less));
                     j += 1;
                 }
             }
@@ -167,13 +174,8 @@ impl Shrinking<'_> {
                     });
                 if !gone {
                     self.with(|s| s.rounds[i].during[j].0 = 1);
-                    match self.best.rounds[i].during[j].1 {
-                        Happening::Take(n) if n > 1 => drop(self.with(|s| s.rounds[i].during[j].1 = Happening::Take(1))),
-                        Happening::Fill(n) if n > 1 => drop(self.with(|s| s.rounds[i].during[j].1 = Happening::Fill(1))),
-                        Happening::Pass(n) if n > 1 => drop(self.with(|s| s.rounds[i].during[j].1 = Happening::Pass(1))),
-                        Happening::Report(p) => drop((1..p.min(4)).any(|less| self.with(|s| s.rounds[i].during[j].1 = Happening::Report(less)))),
-                        _ => {}
-                    }
+                    let less = smaller(&self.best.rounds[i].during[j].1);
+                    less.into_iter().any(|less| self.with(|s| s.rounds[i].during[j].1 = less));
                     j += 1;
                 }
             }

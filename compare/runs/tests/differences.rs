@@ -46,31 +46,26 @@ fn found(change: fn(&mut Record)) -> Scenario {
     panic!("not found out");
 }
 
+fn agrees_with_the_rust(mut second: impl Side) {
+    let mut first = Original::default();
+    for seed in 1..3_000 {
+        assert_eq!(compare(&mut first, &mut second, &scenario(seed)), None, "seed {seed}");
+    }
+}
+
 #[test]
 fn the_rust_agrees_with_itself() {
-    let (mut first, mut second) = (Original::default(), Copied::default());
-    for seed in 1..3_000 {
-        let s = scenario(seed);
-        assert_eq!(compare(&mut first, &mut second, &s), None, "seed {seed}");
-    }
+    agrees_with_the_rust(Copied::default());
 }
 
 #[test]
 fn the_model_agrees_with_the_rust() {
-    let (mut first, mut second) = (Original::default(), modelled::side());
-    for seed in 1..3_000 {
-        let s = scenario(seed);
-        assert_eq!(compare(&mut first, &mut second, &s), None, "seed {seed}");
-    }
+    agrees_with_the_rust(modelled::side());
 }
 
 #[test]
 fn the_project_agrees_with_the_rust() {
-    let (mut first, mut second) = (Original::default(), ours::side());
-    for seed in 1..3_000 {
-        let s = scenario(seed);
-        assert_eq!(compare(&mut first, &mut second, &s), None, "seed {seed}");
-    }
+    agrees_with_the_rust(ours::side());
 }
 
 #[test]
