@@ -1,4 +1,4 @@
-//! The model of a run that makes the project's vectors, as a crate.
+//! The model of a run that makes the project's vectors, with what their makers share, as a crate.
 #![allow(dead_code)]
 
 #[path = "../../../vectors/coverage.rs"]
@@ -7,7 +7,11 @@ mod coverage;
 mod model;
 #[path = "../../../vectors/protocol.rs"]
 mod protocol;
+#[path = "../../../vectors/server.rs"]
+pub mod server;
 #[path = "../../../vectors/shared.rs"]
 mod shared;
 
 pub use model::{query, Answer, Event, Input, Metrics, Queue, Run, Settings, State};
+pub use protocol::framed;
+pub use shared::{display, hex, sum, Draw};

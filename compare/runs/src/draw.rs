@@ -1,6 +1,6 @@
-//! Random numbers that are the same in every run of a seed: Marsaglia's xorshift.
+//! Random numbers that are the same in every run of a seed.
 
-pub struct Draw(u64);
+pub struct Draw(model::Draw);
 
 impl Draw {
     pub fn new(seed: u64) -> Self {
@@ -8,14 +8,11 @@ impl Draw {
         let mut mixed = seed.wrapping_add(0x9E37_79B9_7F4A_7C15);
         mixed = (mixed ^ mixed >> 30).wrapping_mul(0xBF58_476D_1CE4_E5B9);
         mixed = (mixed ^ mixed >> 27).wrapping_mul(0x94D0_49BB_1331_11EB);
-        Draw((mixed ^ mixed >> 31).max(1))
+        Draw(model::Draw((mixed ^ mixed >> 31).max(1)))
     }
 
     pub fn next(&mut self) -> u64 {
-        self.0 ^= self.0 << 13;
-        self.0 ^= self.0 >> 7;
-        self.0 ^= self.0 << 17;
-        self.0
+        self.0.next()
     }
 
     pub fn below(&mut self, n: u64) -> u64 {

@@ -5,6 +5,7 @@ use crate::leaves::{self, Answer, Query, Row, Told};
 use crate::record::Event;
 use crate::server::{begin, commit, data, framed, headed, keepalive, message};
 use crate::text::{hex, position};
+use model::sum;
 use std::io::{Read, Write};
 use std::path::PathBuf;
 use std::process::{Command, Stdio};
@@ -124,13 +125,9 @@ fn put_columns(row: &Row, out: &mut Vec<u8>) {
     }
 }
 
-fn sum_on(from: u32, bytes: &[u8]) -> u32 {
-    bytes.iter().fold(from, |h, b| h.wrapping_mul(31).wrapping_add(*b as u32))
-}
-
 /// A writer's line, where the output suffices.
 fn put_written(text: &[u8], record: &Record, out: &mut Vec<u8>) {
-    let whole = (text.len()..record.room).fold(sum_on(7, text), |h, _| h.wrapping_mul(31).wrapping_add(record.fill as u32));
+    let whole = (text.len()..record.room).fold(sum(text), |h, _| h.wrapping_mul(31).wrapping_add(record.fill as u32));
     let _ = write!(out, "0 {} {whole} ", text.len());
     put_hex(text, out);
 }
@@ -226,7 +223,7 @@ fn reader_line(record: &Record, out: &mut Vec<u8>) {
     if let Some(part) = rest.get(5..) {
         buffer[..part.len()].copy_from_slice(part);
     }
-    let _ = write!(out, " {}", sum_on(7, &buffer));
+    let _ = write!(out, " {}", sum(&buffer));
 }
 
 /// The Rust keeps no rows where an error or a refusal comes: they are those of its reader and of its `parse_data_row` there. The end is the

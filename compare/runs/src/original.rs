@@ -2,6 +2,7 @@
 
 use crate::record::{client_time, put_client_time, Event, Line, Metrics, Record};
 use crate::scenario::{Happening, Scenario};
+use crate::server::accepted;
 use crate::side::Side;
 use original::client::metrics::ReplicationMetrics;
 use original::client::worker::{ReplicationEvent, ReplicationEventReceiver, SharedProgress, WorkerState};
@@ -24,8 +25,6 @@ use tokio::time::{Instant, Sleep};
 
 /// AuthenticationOk, ReadyForQuery: what comes before `start_replication`.
 const AUTHENTICATED: &[u8] = b"R\0\0\0\x08\0\0\0\0Z\0\0\0\x05I";
-/// CopyBothResponse: what an open run has behind it.
-const ACCEPTED: &[u8] = b"W\0\0\0\x07\0\0\0";
 
 /// An event's content is known only when it is taken; its place in the record is known when it is handed on.
 enum Noted {
@@ -500,7 +499,7 @@ impl Original {
             {
                 let mut wire = wire.lock().unwrap();
                 if s.open && i == 0 {
-                    wire.pieces.push_back((ACCEPTED.to_vec(), false));
+                    wire.pieces.push_back((accepted(), false));
                     wire.arrived();
                 }
                 round.what.iter().for_each(|what| wire.happen(what));

@@ -11,6 +11,7 @@ use crate::record::{Metrics, STATUS};
 use crate::scenario::{Happening, Scenario};
 use crate::stepped::{Answer, Stepped, Steps};
 use crate::text::position;
+use model::sum;
 use rufflesquash::{Input, Moment, Queue};
 use std::fmt::Write;
 
@@ -28,10 +29,6 @@ pub struct Recorder {
 /// What fills a step's output, the opening's, and the payload buffer at first; the length of the opening's output.
 const FILLS: [u8; 3] = [0xAA, 0x11, 0];
 const OPENING: usize = 1_024;
-
-fn sum(bytes: &[u8]) -> u32 {
-    bytes.iter().fold(7u32, |h, b| h.wrapping_mul(31).wrapping_add(*b as u32))
-}
 
 fn filled(written: &[u8], length: usize, fill: u8) -> Vec<u8> {
     let mut out = vec![fill; length];

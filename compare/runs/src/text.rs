@@ -1,11 +1,6 @@
 //! Spellings that scenarios and records share.
 
-pub fn hex(bytes: &[u8]) -> String {
-    if bytes.is_empty() {
-        return "-".to_string();
-    }
-    bytes.iter().map(|b| format!("{b:02x}")).collect()
-}
+pub use model::{display as position, hex};
 
 pub fn unhex(text: &str) -> Option<Vec<u8>> {
     if text == "-" {
@@ -15,10 +10,6 @@ pub fn unhex(text: &str) -> Option<Vec<u8>> {
         return None;
     }
     (0..text.len()).step_by(2).map(|i| u8::from_str_radix(&text[i..i + 2], 16).ok()).collect()
-}
-
-pub fn position(p: u64) -> String {
-    format!("{:X}/{:X}", p >> 32, p & 0xFFFF_FFFF)
 }
 
 pub fn unposition(text: &str) -> Option<u64> {

@@ -15,13 +15,17 @@ use runs::text::hex;
 use std::path::PathBuf;
 use std::time::Duration;
 
-/// What the program `leaves` answers to a record with an output of a length.
-fn project_in(kind: u8, room: usize, input: &[u8]) -> String {
-    let beside = PathBuf::from(env!("CARGO_MANIFEST_DIR")).join("../../target/bin/leaves");
-    let mut program = Program { path: std::env::var_os("LEAVES").map_or(beside, PathBuf::from) };
+/// The answer to a record with an output of a length.
+fn answer(mut side: impl Leaves, kind: u8, room: usize, input: &[u8]) -> String {
     let mut record = Vec::new();
     put_record_in(kind, room, input, &mut record);
-    String::from_utf8(program.answer(&record)).unwrap().trim_end().to_string()
+    String::from_utf8(side.answer(&record)).unwrap().trim_end().to_string()
+}
+
+/// The program `leaves`.
+fn project_in(kind: u8, room: usize, input: &[u8]) -> String {
+    let beside = PathBuf::from(env!("CARGO_MANIFEST_DIR")).join("../../target/bin/leaves");
+    answer(Program { path: std::env::var_os("LEAVES").map_or(beside, PathBuf::from) }, kind, room, input)
 }
 
 fn project(kind: u8, input: &[u8]) -> String {
@@ -29,9 +33,7 @@ fn project(kind: u8, input: &[u8]) -> String {
 }
 
 fn rust(kind: u8, input: &[u8]) -> String {
-    let mut record = Vec::new();
-    put_record_in(kind, 64, input, &mut record);
-    String::from_utf8(OriginalLeaves.answer(&record)).unwrap().trim_end().to_string()
+    answer(OriginalLeaves, kind, 64, input)
 }
 
 /// A leaf that both answer alike.
@@ -103,8 +105,7 @@ fn an_output_too_short() {
     let empty = project_in(b'z', 0, b"");
     assert!(empty.starts_with("z 4 "), "{empty}");
     // Four bytes of the fill, whose sum is told: nothing was written.
-    let sum = [0x5A; 4].iter().fold(7u32, |h, b| h.wrapping_mul(31).wrapping_add(*b));
-    assert_eq!(project_in(b'z', 4, b""), format!("z 4 0 {sum} -"));
+    assert_eq!(project_in(b'z', 4, b""), format!("z 4 0 {} -", model::sum(&[0x5A; 4])));
 }
 
 #[test]

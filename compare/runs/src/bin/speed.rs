@@ -12,6 +12,7 @@ use original::config::ReplicationConfig;
 use original::lsn::Lsn as TheirLsn;
 use rufflesquash::{Event, Input, Lsn, Moment, Queue, Run, Settings, State, STEP_OUTPUT};
 use runs::original::number_of;
+use runs::server::{begin, commit, data, keepalive};
 use std::io;
 use std::pin::Pin;
 use std::sync::Arc;
@@ -45,15 +46,9 @@ struct Stream {
     messages: u64,
 }
 
-fn copy_data(bytes: &mut Vec<u8>, position: u64, data: impl FnOnce(&mut Vec<u8>)) {
-    let from = bytes.len();
-    bytes.extend(b"d\0\0\0\0w");
-    bytes.extend(position.to_be_bytes());
-    bytes.extend(position.to_be_bytes());
-    bytes.extend((position as i64).to_be_bytes());
-    data(bytes);
-    let length = (bytes.len() - from - 1) as u32;
-    bytes[from + 1..from + 5].copy_from_slice(&length.to_be_bytes());
+/// Data of the plugin whose positions and time are one number.
+fn at(position: u64, body: &[u8]) -> Vec<u8> {
+    data(position, position, position as i64, body)
 }
 
 /// Transactions of `rows` rows, a keepalive behind every hundredth, up to a length.
@@ -64,36 +59,21 @@ fn stream(row: usize, rows: usize, length: usize) -> Stream {
     while bytes.len() < length {
         xid += 1;
         let last = position + (rows * row) as u64;
-        copy_data(&mut bytes, position, |b| {
-            b.push(b'B');
-            b.extend(last.to_be_bytes());
-            b.extend((position as i64).to_be_bytes());
-            b.extend(xid.to_be_bytes());
-        });
+        bytes.extend(at(position, &begin(last, position as i64, xid)));
         for _ in 0..rows {
             position += row as u64;
-            copy_data(&mut bytes, position, |b| {
-                let text = row - 13;
-                b.extend(b"I\0\0\x40\x01N\0\x01t");
-                b.extend((text as u32).to_be_bytes());
-                for _ in 0..text {
-                    noise = noise.wrapping_mul(6_364_136_223_846_793_005).wrapping_add(1_442_695_040_888_963_407);
-                    b.push((noise >> 56) as u8);
-                }
-            });
+            let text = row - 13;
+            let mut insert = [&b"I\0\0\x40\x01N\0\x01t"[..], &(text as u32).to_be_bytes()].concat();
+            for _ in 0..text {
+                noise = noise.wrapping_mul(6_364_136_223_846_793_005).wrapping_add(1_442_695_040_888_963_407);
+                insert.push((noise >> 56) as u8);
+            }
+            bytes.extend(at(position, &insert));
         }
-        copy_data(&mut bytes, last, |b| {
-            b.extend(b"C\0");
-            b.extend(last.to_be_bytes());
-            b.extend((last + 1).to_be_bytes());
-            b.extend((position as i64).to_be_bytes());
-        });
+        bytes.extend(at(last, &commit(0, last, last + 1, position as i64)));
         messages += rows as u64 + 2;
         if xid % 100 == 0 {
-            bytes.extend(b"d\0\0\0\x16k");
-            bytes.extend(last.to_be_bytes());
-            bytes.extend((position as i64).to_be_bytes());
-            bytes.push(0);
+            bytes.extend(keepalive(last, position as i64, 0));
             messages += 1;
         }
     }
