@@ -13,22 +13,33 @@ pub struct Bytes {
     pub len: usize,
 }
 
-/// `rufflesquash_step` and `rufflesquash_advance`.
-pub type Stepping = unsafe extern "C" fn(
-    *mut [u64; RUN_WORDS],
-    u64,
-    i64,
-    bool,
-    u64,
-    bool,
-    *const u8,
-    usize,
-    *mut u8,
-    usize,
-    *mut u8,
-    usize,
-    *mut [u64; ANSWER_WORDS],
-);
+/// `rufflesquash_lossy` and `rufflesquash_error_text`.
+pub type Writing = unsafe extern "C" fn(*const u8, usize, *mut u8, usize, *mut u64) -> u64;
+
+// Functions that make steps, one or several.
+macro_rules! stepping {
+    ($($name:ident),*) => {
+        extern "C" {
+            $(pub fn $name(
+                run: *mut [u64; RUN_WORDS],
+                moment: u64,
+                client_time: i64,
+                stop: bool,
+                queue: u64,
+                ended: bool,
+                unread: *const u8,
+                unread_len: usize,
+                payload: *mut u8,
+                payload_len: usize,
+                out: *mut u8,
+                out_len: usize,
+                answer: *mut [u64; ANSWER_WORDS],
+            );)*
+        }
+    };
+}
+
+stepping!(rufflesquash_step, rufflesquash_advance);
 
 extern "C" {
     pub fn rufflesquash_open(
@@ -50,38 +61,6 @@ extern "C" {
         start: u64,
         run: *mut [u64; RUN_WORDS],
     ) -> u64;
-
-    pub fn rufflesquash_step(
-        run: *mut [u64; RUN_WORDS],
-        moment: u64,
-        client_time: i64,
-        stop: bool,
-        queue: u64,
-        ended: bool,
-        unread: *const u8,
-        unread_len: usize,
-        payload: *mut u8,
-        payload_len: usize,
-        out: *mut u8,
-        out_len: usize,
-        answer: *mut [u64; ANSWER_WORDS],
-    );
-
-    pub fn rufflesquash_advance(
-        run: *mut [u64; RUN_WORDS],
-        moment: u64,
-        client_time: i64,
-        stop: bool,
-        queue: u64,
-        ended: bool,
-        unread: *const u8,
-        unread_len: usize,
-        payload: *mut u8,
-        payload_len: usize,
-        out: *mut u8,
-        out_len: usize,
-        answer: *mut [u64; ANSWER_WORDS],
-    );
 
     pub fn rufflesquash_report(run: *mut [u64; RUN_WORDS], position: u64, moment: u64);
 

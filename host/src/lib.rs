@@ -40,29 +40,22 @@ pub const STEP_OUTPUT: usize = 39;
 /// Writes the text of bytes over the front of `out`, as `String::from_utf8_lossy` makes it, and answers its length.
 /// Refused (25, 4), `out` is as it was.
 pub fn lossy(text: &[u8], out: &mut [u8]) -> Result<usize, Refusal> {
-    let mut written = 0;
-    // SAFETY: both slices are lent whole and do not overlap.
-    let number = unsafe {
-        ffi::rufflesquash_lossy(
-            text.as_ptr(),
-            text.len(),
-            out.as_mut_ptr(),
-            out.len(),
-            &mut written,
-        )
-    };
-    Refusal::checked(number).map(|()| written as usize)
+    written(ffi::rufflesquash_lossy, text, out)
 }
 
 /// Writes the text of the error that an ErrorResponse's payload holds over the front of `out`, and answers its length.
 /// Refused (25, 4), `out` is as it was.
 pub fn error_text(payload: &[u8], out: &mut [u8]) -> Result<usize, Refusal> {
+    written(ffi::rufflesquash_error_text, payload, out)
+}
+
+fn written(write: ffi::Writing, from: &[u8], out: &mut [u8]) -> Result<usize, Refusal> {
     let mut written = 0;
     // SAFETY: both slices are lent whole and do not overlap.
     let number = unsafe {
-        ffi::rufflesquash_error_text(
-            payload.as_ptr(),
-            payload.len(),
+        write(
+            from.as_ptr(),
+            from.len(),
             out.as_mut_ptr(),
             out.len(),
             &mut written,

@@ -73,7 +73,7 @@ impl Run {
         payload: &'a mut [u8],
         out: &mut [u8],
     ) -> Step<'a> {
-        self.stepped(ffi::rufflesquash_step, input, unread, payload, out)
+        self.stepped(false, input, unread, payload, out)
     }
 
     /// Up to four steps with the same input, until one has a refusal, an event or bytes to send: what it answers, with all bytes taken.
@@ -86,18 +86,23 @@ impl Run {
         payload: &'a mut [u8],
         out: &mut [u8],
     ) -> Step<'a> {
-        self.stepped(ffi::rufflesquash_advance, input, unread, payload, out)
+        self.stepped(true, input, unread, payload, out)
     }
 
     #[inline]
     fn stepped<'a>(
         &mut self,
-        call: ffi::Stepping,
+        at_once: bool,
         input: &Input,
         unread: &[u8],
         payload: &'a mut [u8],
         out: &mut [u8],
     ) -> Step<'a> {
+        let call = if at_once {
+            ffi::rufflesquash_advance
+        } else {
+            ffi::rufflesquash_step
+        };
         let mut answer = [0; ffi::ANSWER_WORDS];
         // SAFETY: every slice is lent whole, and exclusive references do not overlap.
         unsafe {
