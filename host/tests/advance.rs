@@ -5,25 +5,7 @@ mod common;
 use common::*;
 use rufflesquash::{Input, Lsn, Moment, Queue, Run, Settings, State, STEP_OUTPUT};
 
-/// Numbers from a seed.
-struct Draw(u64);
-
 impl Draw {
-    fn word(&mut self) -> u64 {
-        self.0 ^= self.0 << 13;
-        self.0 ^= self.0 >> 7;
-        self.0 ^= self.0 << 17;
-        self.0.wrapping_mul(0x2545_F491_4F6C_DD1D)
-    }
-
-    fn below(&mut self, n: u64) -> u64 {
-        (self.word() >> 16) % n
-    }
-
-    fn bytes(&mut self, n: u64) -> Vec<u8> {
-        (0..self.below(n + 1)).map(|_| self.word() as u8).collect()
-    }
-
     /// A message of a stream, at times a cut or an odd one.
     fn message(&mut self) -> Vec<u8> {
         let (a, b, c) = (self.below(64), self.below(64), self.word() as i64);
@@ -79,20 +61,15 @@ impl Held {
     }
 
     fn call(&mut self, at_once: bool, input: &Input, unread: &[u8]) -> Answer {
-        let step = if at_once {
-            self.run
-                .advance(input, unread, &mut self.payload, &mut self.out)
-        } else {
-            self.run
-                .step(input, unread, &mut self.payload, &mut self.out)
-        };
-        Answer {
-            refusal: step.refusal,
-            taken: step.taken,
-            written: step.written,
-            event: step.event.map(|event| format!("{event:?}")),
-            waited: step.waited,
-        }
+        let call = if at_once { Run::advance } else { Run::step };
+        call(
+            &mut self.run,
+            input,
+            unread,
+            &mut self.payload,
+            &mut self.out,
+        )
+        .into()
     }
 
     /// Steps one by one, each with the bytes behind those taken, until one tells something.
@@ -123,6 +100,17 @@ fn same(held: &mut Held, input: &Input, unread: &[u8]) -> Answer {
     );
     assert_eq!(held.run.as_words(), other.run.as_words());
     answer
+}
+
+/// A moment at which nothing happens.
+fn quiet(moment: u64) -> Input {
+    Input {
+        moment: Moment(moment),
+        client_time: 0,
+        stop: false,
+        queue: Queue::Free,
+        ended: false,
+    }
 }
 
 #[test]
@@ -176,22 +164,15 @@ fn on_any_words() {
         }
         let mut held = Held::new(Run::from_words(words));
         let bytes = [draw.message(), draw.message()].concat();
-        let input = draw.input(&mut draw.0.clone().wrapping_rem(1 << 40));
+        let input = draw.input(&mut (draw.0 % (1 << 40)));
         same(&mut held, &input, &bytes);
     }
 }
 
 #[test]
 fn hands_on_a_message_at_hand() {
-    let s = settings();
-    let mut held = Held::new(Run::already_open(&s, Lsn(1)).unwrap());
-    let input = Input {
-        moment: Moment(1),
-        client_time: 0,
-        stop: false,
-        queue: Queue::Free,
-        ended: false,
-    };
+    let mut held = Held::new(Run::already_open(&settings(), Lsn(1)).unwrap());
+    let input = quiet(1);
     assert_eq!(same(&mut held, &input, b"").written, 39);
     let bytes = xlog_data(1, 2, 3, b"Idata");
     let answer = same(&mut held, &input, &bytes);
@@ -202,17 +183,9 @@ fn hands_on_a_message_at_hand() {
 
 #[test]
 fn refusals_of_its_own_inputs() {
-    let s = settings();
-    let run = Run::already_open(&s, Lsn(1)).unwrap();
-    let input = |moment| Input {
-        moment: Moment(moment),
-        client_time: 0,
-        stop: false,
-        queue: Queue::Free,
-        ended: false,
-    };
+    let run = Run::already_open(&settings(), Lsn(1)).unwrap();
     let number =
-        |held: &mut Held, moment| same(held, &input(moment), b"").refusal.map(|r| r.number());
+        |held: &mut Held, moment| same(held, &quiet(moment), b"").refusal.map(|r| r.number());
     let mut short = Held {
         payload: vec![0; LIMIT - 1],
         ..Held::new(run.clone())
@@ -229,7 +202,7 @@ fn refusals_of_its_own_inputs() {
     assert_eq!(number(&mut held, 1), Some(5));
     let stop = Input {
         stop: true,
-        ..input(3)
+        ..quiet(3)
     };
     while same(&mut held, &stop, b"").refusal.is_none() {}
     assert_eq!(number(&mut held, 4), Some(2));

@@ -309,30 +309,21 @@ fn a_cell_without_timing_stores_no_moment() {
 // Any words are the words of some run: every call takes them and answers something of document 01.
 #[test]
 fn any_words_are_a_run() {
-    let mut seed = 1u64;
-    let mut word = || {
-        seed ^= seed << 13;
-        seed ^= seed >> 7;
-        seed ^= seed << 17;
-        seed
-    };
+    let mut draw = Draw(1);
     for _ in 0..20_000 {
-        let words = std::array::from_fn(|_| {
-            let w = word();
-            w >> (word() % 64)
-        });
-        let bytes: Vec<u8> = (0..word() % 64).map(|_| word() as u8).collect();
+        let words = std::array::from_fn(|_| draw.word() >> draw.below(64));
+        let bytes = draw.bytes(63);
         let mut fed = Fed::new(Run::from_words(words), &bytes);
         fed.payload.resize(4096, FILL);
-        fed.queue = [Queue::Free, Queue::Full, Queue::Closed][(word() % 3) as usize];
-        fed.moment = word() >> 1;
+        fed.queue = [Queue::Free, Queue::Full, Queue::Closed][draw.below(3) as usize];
+        fed.moment = draw.word() >> 1;
         for _ in 0..4 {
             let answer = fed.step();
             assert!(answer
                 .refusal
                 .is_none_or(|r| (2..=19).contains(&r.number())));
             assert!(matches!(answer.written, 0 | 5 | 39));
-            fed.run.report(Lsn(word()), Moment(word()));
+            fed.run.report(Lsn(draw.word()), Moment(draw.word()));
             let _ = (
                 fed.run.next_step(4096, fed.queue),
                 fed.run.error(&fed.payload),

@@ -78,6 +78,26 @@ pub fn row(columns: &[Option<&[u8]>]) -> Vec<u8> {
     payload
 }
 
+/// Numbers from a seed.
+pub struct Draw(pub u64);
+
+impl Draw {
+    pub fn word(&mut self) -> u64 {
+        self.0 ^= self.0 << 13;
+        self.0 ^= self.0 >> 7;
+        self.0 ^= self.0 << 17;
+        self.0.wrapping_mul(0x2545_F491_4F6C_DD1D)
+    }
+
+    pub fn below(&mut self, n: u64) -> u64 {
+        (self.word() >> 16) % n
+    }
+
+    pub fn bytes(&mut self, n: u64) -> Vec<u8> {
+        (0..self.below(n + 1)).map(|_| self.word() as u8).collect()
+    }
+}
+
 /// A run with its buffers, its clock and the server's bytes.
 pub struct Fed {
     pub run: Run,
@@ -98,6 +118,18 @@ pub struct Answer {
     pub written: usize,
     pub event: Option<String>,
     pub waited: Option<Duration>,
+}
+
+impl From<Step<'_>> for Answer {
+    fn from(step: Step) -> Answer {
+        Answer {
+            refusal: step.refusal,
+            taken: step.taken,
+            written: step.written,
+            event: step.event.map(|event| format!("{event:?}")),
+            waited: step.waited,
+        }
+    }
 }
 
 impl Fed {
@@ -141,16 +173,11 @@ impl Fed {
     pub fn step(&mut self) -> Answer {
         self.moment += 1000;
         let input = self.input();
-        let step: Step = self
-            .run
-            .step(&input, &self.bytes, &mut self.payload, &mut self.out);
-        let answer = Answer {
-            refusal: step.refusal,
-            taken: step.taken,
-            written: step.written,
-            event: step.event.map(|event| format!("{event:?}")),
-            waited: step.waited,
-        };
+        let answer =
+            Answer::from(
+                self.run
+                    .step(&input, &self.bytes, &mut self.payload, &mut self.out),
+            );
         self.bytes.drain(..answer.taken);
         answer
     }
