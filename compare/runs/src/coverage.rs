@@ -7,7 +7,7 @@ use std::collections::HashMap;
 #[derive(Clone, Default)]
 pub struct Coverage {
     reached: HashMap<&'static str, u64>,
-    refusals: HashMap<(&'static str, u8), u64>,
+    refusals: HashMap<String, u64>,
     stalled: bool,
 }
 
@@ -79,25 +79,16 @@ const ROWS: &[&str] = &[
 ];
 
 /// Refusals that a server can provoke, by the state that meets them.
-const REFUSALS: &[(&str, &[u8])] = &[
-    ("Opening", &[6, 7, 8, 9, 19]),
+const REFUSALS: &[(State, &[u8])] = &[
+    (State::Opening, &[6, 7, 8, 9, 19]),
     // A reading begins with 5 bytes there, so its header is never cut by the end.
-    ("Reading", &[6, 7, 9]),
-    ("Waiting", &[6, 7, 8, 9]),
-    ("Handling", &[10, 11, 12, 13, 14, 15, 16, 17, 18, 19]),
+    (State::Reading, &[6, 7, 9]),
+    (State::Waiting, &[6, 7, 8, 9]),
+    (State::Handling, &[10, 11, 12, 13, 14, 15, 16, 17, 18, 19]),
 ];
 
-fn name(state: State) -> &'static str {
-    match state {
-        State::Opening => "Opening",
-        State::Turn => "Turn",
-        State::Drain => "Drain",
-        State::Reading => "Reading",
-        State::Waiting => "Waiting",
-        State::Handling => "Handling",
-        State::Offering => "Offering",
-        State::Ended => "Ended",
-    }
+fn refusal(state: State, number: u8) -> String {
+    format!("{state:?}: refusal {number}")
 }
 
 /// Which times are up.
@@ -115,7 +106,7 @@ impl Coverage {
     pub fn step(&mut self, before: State, input: &Input, unread: &[u8], answer: &Answer, up: Up) {
         self.times(before, answer, up);
         if answer.refusal != 0 {
-            *self.refusals.entry((name(before), answer.refusal)).or_insert(0) += 1;
+            *self.refusals.entry(refusal(before, answer.refusal)).or_insert(0) += 1;
             return;
         }
         if let Some(time) = answer.waited {
@@ -241,7 +232,9 @@ impl Coverage {
         }
         for (state, numbers) in REFUSALS {
             for number in *numbers {
-                line(format!("{state}: refusal {number}"), self.refusals.get(&(*state, *number)).copied().unwrap_or(0));
+                let what = refusal(*state, *number);
+                let count = self.refusals.get(&what).copied().unwrap_or(0);
+                line(what, count);
             }
         }
         (lines.join("\n"), missing)
