@@ -38,7 +38,7 @@ pub enum Queue {
 }
 
 /// Parts are kept as bytes: an offer leaves the payload as it was.
-#[derive(Clone, Debug)]
+#[derive(Clone, Debug, PartialEq)]
 pub enum Event {
     KeepAlive { end: u64, time: i64, reply: bool },
     Begin { end: u64, time: i64, xid: u32 },

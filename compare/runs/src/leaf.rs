@@ -164,7 +164,7 @@ fn original_line(record: &Record, out: &mut Vec<u8>) {
             put_hex(rest, out);
         }),
         b'c' => put_answer(leaves::copy_data(input), out, |event, out| match event {
-            Event::Data { start, end, time, data } => {
+            Event::Other { start, end, time, data } => {
                 let _ = write!(out, "w {} {} {time} ", position(start), position(end));
                 put_hex(&data, out);
             }
@@ -172,7 +172,7 @@ fn original_line(record: &Record, out: &mut Vec<u8>) {
             _ => unreachable!("a CopyData payload is data or a keepalive"),
         }),
         b'b' => put_answer(leaves::boundary(input), out, |event, out| {
-            out.extend_from_slice(event.map_or("n".to_string(), |e| e.print()).as_bytes())
+            out.extend_from_slice(event.map_or("n".to_string(), |e| e.line()).as_bytes())
         }),
         b'r' => put_answer(leaves::data_row(input), out, |row, out| {
             let _ = write!(out, "{}", row.len());

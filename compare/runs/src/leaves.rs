@@ -83,7 +83,7 @@ pub fn option_value(names: Vec<String>) -> String {
 pub fn copy_data(payload: &[u8]) -> Answer<Event> {
     Ok(match numbered(parse_copy_data(Bytes::copy_from_slice(payload)))? {
         ReplicationCopyData::XLogData { wal_start, wal_end, server_time_micros, data } => {
-            Event::Data { start: wal_start.0, end: wal_end.0, time: server_time_micros, data: data.to_vec() }
+            Event::Other { start: wal_start.0, end: wal_end.0, time: server_time_micros, data: data.to_vec() }
         }
         ReplicationCopyData::KeepAlive { wal_end, server_time_micros, reply_requested } => {
             Event::KeepAlive { end: wal_end.0, time: server_time_micros, reply: reply_requested }

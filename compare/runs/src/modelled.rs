@@ -11,7 +11,7 @@ pub struct Modelled {
     run: Option<model::Run>,
     pub(crate) payload: Vec<u8>,
     /// The event last handed on, with its prefix as it came.
-    pub(crate) event: Option<model::Event>,
+    pub(crate) event: Option<Event>,
     /// The message being read, and the last whole one's payload: its error's text is not the model's matter.
     reading: Vec<u8>,
     whole: Vec<u8>,
@@ -75,7 +75,7 @@ impl Steps for Modelled {
             state,
             written: out[..answer.written].to_vec(),
             waited: answer.waited,
-            event: answer.event.map(event_of),
+            event: answer.event.map(lossy),
             error: if answer.refusal == 19 { error_text(&self.whole) } else { Vec::new() },
         }
     }
@@ -103,15 +103,12 @@ fn state_of(state: model::State) -> State {
     }
 }
 
-fn event_of(event: model::Event) -> Event {
+/// With a message's prefix as its lossy text.
+fn lossy(event: Event) -> Event {
     match event {
-        model::Event::KeepAlive { end, time, reply } => Event::KeepAlive { end, time, reply },
-        model::Event::Begin { end, time, xid } => Event::Begin { last: end, time, xid },
-        model::Event::Commit { position, end, time } => Event::Commit { position, end, time },
-        model::Event::Message { flag, position, prefix, content } => {
+        Event::Message { flag, position, prefix, content } => {
             Event::Message { flag, position, prefix: crate::leaves::lossy(&prefix).into_bytes(), content }
         }
-        model::Event::Other { start, end, time, data } => Event::Data { start, end, time, data },
-        model::Event::StoppedAt { reached } => Event::StoppedAt { reached },
+        other => other,
     }
 }

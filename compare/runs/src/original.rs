@@ -350,9 +350,9 @@ pub fn event_of(event: ReplicationEvent) -> Event {
         ReplicationEvent::KeepAlive { wal_end, reply_requested, server_time_micros } => {
             Event::KeepAlive { end: wal_end.0, time: server_time_micros, reply: reply_requested }
         }
-        ReplicationEvent::Begin { final_lsn, xid, commit_time_micros } => Event::Begin { last: final_lsn.0, time: commit_time_micros, xid },
+        ReplicationEvent::Begin { final_lsn, xid, commit_time_micros } => Event::Begin { end: final_lsn.0, time: commit_time_micros, xid },
         ReplicationEvent::XLogData { wal_start, wal_end, server_time_micros, data } => {
-            Event::Data { start: wal_start.0, end: wal_end.0, time: server_time_micros, data: data.to_vec() }
+            Event::Other { start: wal_start.0, end: wal_end.0, time: server_time_micros, data: data.to_vec() }
         }
         ReplicationEvent::Commit { lsn, end_lsn, commit_time_micros } => Event::Commit { position: lsn.0, end: end_lsn.0, time: commit_time_micros },
         ReplicationEvent::Message { transactional, lsn, prefix, content } => {

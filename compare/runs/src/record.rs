@@ -2,44 +2,11 @@
 
 use crate::text::{hex, position};
 
-#[derive(Clone, Debug, PartialEq)]
-pub enum Event {
-    KeepAlive {
-        end: u64,
-        time: i64,
-        reply: bool,
-    },
-    Begin {
-        last: u64,
-        time: i64,
-        xid: u32,
-    },
-    Commit {
-        position: u64,
-        end: u64,
-        time: i64,
-    },
-    /// The prefix as its lossy text.
-    Message {
-        flag: bool,
-        position: u64,
-        prefix: Vec<u8>,
-        content: Vec<u8>,
-    },
-    Data {
-        start: u64,
-        end: u64,
-        time: i64,
-        data: Vec<u8>,
-    },
-    StoppedAt {
-        reached: u64,
-    },
-}
+pub use model::Event;
 
 #[derive(Clone, Debug, PartialEq)]
 pub enum Line {
-    /// Handed to the queue.
+    /// Handed to the queue; the prefix of a message is its lossy text.
     Event(Event),
     /// One message to the server.
     Write(Vec<u8>),
@@ -98,7 +65,7 @@ impl Record {
 
 pub fn print_line((at, line): &(u64, Line)) -> String {
     match line {
-        Line::Event(event) => format!("{at} event {}", event.print()),
+        Line::Event(event) => format!("{at} event {}", event.line()),
         Line::Write(bytes) => format!("{at} write {}", hex(bytes)),
         Line::Waited(time) => format!("{at} waited {time}"),
         Line::Piece(length) => format!("{at} piece {length}"),
@@ -109,20 +76,4 @@ pub fn print_line((at, line): &(u64, Line)) -> String {
 
 pub fn print_metrics(m: &Metrics) -> String {
     format!("metrics {} {} {} {} {} {} {}", m[0], m[1], m[2], m[3], m[4], position(m[5]), position(m[6]))
-}
-
-impl Event {
-    /// As in the scripts of the replay program.
-    pub fn print(&self) -> String {
-        match self {
-            Event::KeepAlive { end, time, reply } => format!("K {} {time} {}", position(*end), *reply as u8),
-            Event::Begin { last, time, xid } => format!("B {} {time} {xid}", position(*last)),
-            Event::Commit { position: p, end, time } => format!("C {} {} {time}", position(*p), position(*end)),
-            Event::Message { flag, position: p, prefix, content } => {
-                format!("M {} {} {} {}", *flag as u8, position(*p), hex(prefix), hex(content))
-            }
-            Event::Data { start, end, time, data } => format!("X {} {} {time} {}", position(*start), position(*end), hex(data)),
-            Event::StoppedAt { reached } => format!("S {}", position(*reached)),
-        }
-    }
 }

@@ -64,7 +64,7 @@ fn told(record: &Record) -> String {
         Line::Write(bytes) if bytes[0] == b'c' => Some(format!("{at} done")),
         Line::Write(bytes) => Some(format!("{at} query {}", String::from_utf8_lossy(&bytes[5..bytes.len() - 1]))),
         Line::Waited(time) => Some(format!("{at} waited {time}")),
-        Line::Event(event) => Some(format!("{at} event {}", event.print())),
+        Line::Event(event) => Some(format!("{at} event {}", event.line())),
         Line::End(number, _) => Some(format!("{at} end {number}")),
         Line::Piece(_) => None,
     });
