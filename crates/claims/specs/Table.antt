@@ -24,6 +24,7 @@ use Rattle.worker.specs.declared.Settings.{Settings}
 use Rattle.worker.specs.declared.State.{State}
 use Rattle.worker.specs.declared.State.the-variants.{Opening, Turn, Drain, Reading, Waiting, Handling, Offering, Ended}
 use Rattle.worker.specs.declared.Input.{Input}
+use Rattle.worker.specs.Rows.{_⇒_, firstOf, both, unless}
 use Rattle.worker.specs.Step.{Outcome, Lent, isEnded, stepOf}
 use Rattle.claims.specs.Plain.{wholeOnes, byQueue}
 use Rattle.claims.specs.Past.{Past, confirmedOf, lastAccepted, hasSent, sentAt, waitBegan, pendingOf, signalledOf, drainedOf, fullBefore, stoppedNext}
@@ -43,26 +44,6 @@ pub record Say : Type 0 where
 
 abbrev pub say : ℕ → Writing → Say
 say n w = record { refusal = n; taken = 0; stored = []; writing = w }
-
--- ---- a row of the table: its tests in their order, of which the first that holds counts
-
-infixl 20 _⇒_
--- a test, and what is said where it holds
-abbrev pub _⇒_ : Bool → Say → Bool × Say
-c ⇒ y = (c, y)
-
--- what the first test that holds says, or what stands behind them all
-abbrev pub firstOf : List (Bool × Say) → Say → Say
-firstOf [] y = y
-firstOf (t ∷ ts) y = pick (t .0) (t .1) (firstOf ts y)
-
--- one test and another
-abbrev pub both : Bool → Bool → Bool
-both a b = pick a b false
-
--- another, where the one fails
-abbrev pub unless : Bool → Bool → Bool
-unless a b = pick a false b
 
 -- ---- clocks
 

@@ -1,3 +1,4 @@
+pub mod Rows
 pub mod Run
 pub mod Step
 pub mod Opening

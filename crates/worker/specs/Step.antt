@@ -1,7 +1,7 @@
 -- One step: document 01's step table, row by row and test by test, and the tests 2 to 5 before it.
 use Prim.Native.Nat.{ℕ, _+_}
 use mathlib.Core.Bool.{Bool, true, false, not}
-use mathlib.Core.List.{List}
+use mathlib.Core.List.{List, [], _∷_}
 use mathlib.Core.Option.{Option, some, none}
 use lib.ListN.{length, take}
 use lib.IntN.{ℤ}
@@ -29,6 +29,7 @@ use Rattle.worker.specs.declared.Event.{Event}
 use Rattle.worker.specs.declared.Event.the-variants.{Nothing, KeepAlive, Begin, Commit, Message, XLogData, StoppedAt}
 use Rattle.worker.specs.declared.Input.{Input}
 use Rattle.worker.specs.declared.Run.{Run}
+use Rattle.worker.specs.Rows.{_⇒_, firstOf, both, unless}
 use Rattle.worker.specs.Run.{lsn, lastStatus, wholeOf, offer, withState, withReader, withProgress, withLastStatus, withDrained, withPending, withWhole, withOffer, withMetrics, accepted, waitBegun, stallBegun, micros}
 
 -- what a step answers and leaves: the run, document 01's number (0 for none), the taken count, the event handed on, how many bytes were
@@ -123,9 +124,11 @@ statusOf reply to r i l =
 abbrev pub openingBy : R.Said → Run → Lent → Outcome
 openingBy R.more r l = moved r l
 openingBy (R.whole tag n) r l =
-    pick (isCopyBothResponse tag) (moved (withState Turn r) l)
-    (pick (isError tag) (endedWith 19 (withWhole (wholeOf tag n false) r) l)
-    (moved r l))
+    firstOf
+    ((isCopyBothResponse tag ⇒ moved (withState Turn r) l)
+    ∷ (isError tag ⇒ endedWith 19 (withWhole (wholeOf tag n false) r) l)
+    ∷ [])
+    (moved r l)
 openingBy (R.refused n) r l = endedWith n r l
 
 -- a read of what the message still lacks
@@ -157,10 +160,12 @@ waits r = withState Waiting (waitBegun (withPending (isAbove r) (withProgress (l
 -- stop is looked at only behind a drained message
 unfoldable pub drainOf : Run → Input → Lent → Outcome
 drainOf r i l =
-    pick (pick (ltb (r .drained) 256) (leb 5 (length (l .unread))) false) (moved (withState Reading r) l)
-    (pick (eqb (r .drained) 0) (moved (waits r) l)
-    (pick (i .stop) (doneWith Nothing r l)
-    (moved (withState Turn r) l)))
+    firstOf
+    ((both (ltb (r .drained) 256) (leb 5 (length (l .unread))) ⇒ moved (withState Reading r) l)
+    ∷ (eqb (r .drained) 0 ⇒ moved (waits r) l)
+    ∷ (i .stop ⇒ doneWith Nothing r l)
+    ∷ [])
+    (moved (withState Turn r) l)
 
 -- ---- Reading: "message whole: handle; else stay, whatever the clock"
 
@@ -199,11 +204,13 @@ isReadable i l = pick (eqb (length (l .unread)) 0) (i .ended) true
 -- the tests in their order
 unfoldable pub waitingOf : Run → Input → Lent → Outcome
 waitingOf r i l =
-    pick (i .stop) (doneWith Nothing r l)
-    (pick (pick (r .pending) (intervalPassed r) false) (statusOf false Turn r i l)
-    (pick (pick (r .pending) false (r .progress .signalled)) (moved (withState Turn r) l)
-    (pick (isReadable i l) (waitingRead r i l)
-    (idleOf r i l))))
+    firstOf
+    ((i .stop ⇒ doneWith Nothing r l)
+    ∷ (both (r .pending) (intervalPassed r) ⇒ statusOf false Turn r i l)
+    ∷ (unless (r .pending) (r .progress .signalled) ⇒ moved (withState Turn r) l)
+    ∷ (isReadable i l ⇒ waitingRead r i l)
+    ∷ [])
+    (idleOf r i l)
 
 -- ---- Handling: "`E`: 19; not `d`: skipped; `k` asking a reply: status with reply byte 1, then its event"
 
@@ -248,9 +255,11 @@ copyDataBy (C.refused n) r i l = endedWith n r l
 -- no byte is taken
 unfoldable pub handlingOf : Run → Input → Lent → Outcome
 handlingOf r i l =
-    pick (isError (r .whole .tag)) (endedWith 19 r l)
-    (pick (isCopyData (r .whole .tag)) (copyDataBy (copyDataOf (take (r .whole .len) (l .payload))) r i l)
-    (moved (back r) l))
+    firstOf
+    ((isError (r .whole .tag) ⇒ endedWith 19 r l)
+    ∷ (isCopyData (r .whole .tag) ⇒ copyDataBy (copyDataOf (take (r .whole .len) (l .payload))) r i l)
+    ∷ [])
+    (moved (back r) l)
 
 -- ---- Offering: "first try: free hands on, closed drops, full begins a stall and goes on in the same step; then stop: CopyDone, end, event
 -- dropped; free or closed: stall ends; interval passed: status; else stay"
@@ -333,8 +342,10 @@ badMoment r m = pick (inRange m) (isBefore m (r .clock .last)) true
 -- 2 to 5 change nothing; then the state's row
 unfoldable pub stepOf : Run → Input → Lent → Outcome
 stepOf r i l =
-    pick (isEnded (r .state)) (refusedWith 2 r l)
-    (pick (ltb (length (l .payload)) (limitOf (r .settings .«max_message_size»))) (refusedWith 3 r l)
-    (pick (ltb (length (l .out)) 39) (refusedWith 4 r l)
-    (pick (badMoment r (i .moment)) (refusedWith 5 r l)
-    (stateOf (r .state) (accepted (i .moment) r) i l))))
+    firstOf
+    ((isEnded (r .state) ⇒ refusedWith 2 r l)
+    ∷ (ltb (length (l .payload)) (limitOf (r .settings .«max_message_size»)) ⇒ refusedWith 3 r l)
+    ∷ (ltb (length (l .out)) 39 ⇒ refusedWith 4 r l)
+    ∷ (badMoment r (i .moment) ⇒ refusedWith 5 r l)
+    ∷ [])
+    (stateOf (r .state) (accepted (i .moment) r) i l)

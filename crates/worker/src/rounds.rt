@@ -1,12 +1,11 @@
 // Turn and Drain: the round that a run makes between two waits.
 ghost use mathlib.Core.Path.{_≡_};
-ghost use mathlib.Core.Bool.{false};
 ghost use mathlib.Core.List.{List};
 ghost use Prim.Native.Nat.{ℕ, _≤_};
 ghost use lib.ListN.{length};
 ghost use lib.Dec.{ltb, leb};
-ghost use Rattle.wire.specs.Bytes.{pick};
 ghost use Rattle.worker.specs.Answer.{lent, outcomeBy};
+ghost use Rattle.worker.specs.Rows.{both};
 ghost use Rattle.worker.specs.Step.{turnOf, drainOf, waits};
 use crate::Event;
 use crate::Input;
@@ -49,7 +48,7 @@ fn waits(run: Run) -> Run
 }
 
 fn goes_on(run: Run, unread: &[u8]) -> bool
-    ensures { λ r. ⌜ r ≡ pick (ltb (run .drained) 256) (leb 5 (length (now (unread .entry)))) false ⌝ }
+    ensures { λ r. ⌜ r ≡ both (ltb (run .drained) 256) (leb 5 (length (now (unread .entry)))) ⌝ }
 {
     if run.drained < 256 {
         return 5 <= unread.len();

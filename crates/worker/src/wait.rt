@@ -1,6 +1,6 @@
 // Waiting: what ends a wait, in its order.
 ghost use mathlib.Core.Path.{_≡_};
-ghost use mathlib.Core.Bool.{true, false};
+ghost use mathlib.Core.Bool.{true};
 ghost use mathlib.Core.List.{List};
 ghost use Prim.Native.Nat.{ℕ, _≤_};
 ghost use lib.ListN.{length};
@@ -9,6 +9,7 @@ ghost use Rattle.wire.specs.Bytes.{pick};
 ghost use Rattle.moment.specs.Moment.{sinceOf};
 ghost use Rattle.framing.specs.Read.{saidBy};
 ghost use Rattle.worker.specs.Answer.{lent, outcomeBy};
+ghost use Rattle.worker.specs.Rows.{both, unless};
 ghost use Rattle.worker.specs.Step.{intervalPassed, idleOf, waitingBy, waitingRead, waitingOf};
 use crate::Event;
 use crate::Input;
@@ -27,7 +28,7 @@ use crate::status::send_feedback;
 use framing::Answer;
 
 fn pending_due(run: Run) -> bool
-    ensures { λ r. ⌜ r ≡ pick (run .pending) (intervalPassed run) false ⌝ }
+    ensures { λ r. ⌜ r ≡ both (run .pending) (intervalPassed run) ⌝ }
 {
     if run.pending {
         return interval_passed(run);
@@ -36,7 +37,7 @@ fn pending_due(run: Run) -> bool
 }
 
 fn is_woken(run: Run) -> bool
-    ensures { λ r. ⌜ r ≡ pick (run .pending) false (run .progress .signalled) ⌝ }
+    ensures { λ r. ⌜ r ≡ unless (run .pending) (run .progress .signalled) ⌝ }
 {
     if run.pending {
         return false;
