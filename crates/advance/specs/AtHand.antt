@@ -1,7 +1,7 @@
 -- A message that lies at hand whole, and what four steps make of it: found before any byte is taken.
 use Prim.Native.Nat.{ℕ, _+_, _-_}
 use mathlib.Core.Bool.{Bool, true, false, not}
-use mathlib.Core.List.{List}
+use mathlib.Core.List.{List, [], _∷_}
 use mathlib.Core.Option.{none}
 use mathlib.Core.Path.{_≡_}
 use lib.ListN.{length, getD, take, drop}
@@ -26,6 +26,7 @@ use Rattle.worker.specs.declared.Run.{Run}
 use Rattle.worker.specs.declared.State.{State}
 use Rattle.worker.specs.declared.State.the-variants.{Opening, Turn, Drain, Reading, Waiting, Handling, Offering, Ended}
 use Rattle.worker.specs.Answer.{lent}
+use Rattle.worker.specs.Rows.{_⇒_, firstOf, both, unless}
 use Rattle.worker.specs.Run.{lsn, clock, wholeOf, offer, run}
 use Rattle.worker.specs.Step.{Outcome, badMoment, reaches}
 use Rattle.advance.specs.declared.AtHand.{AtHand}
@@ -40,7 +41,7 @@ nothing = atHand 0 (lsn 0) (lsn 0) Nothing
 
 -- the payload's length of a message that tells a length, of so many bytes: it is whole, and long enough for an XLogData
 unfoldable pub within : ℕ → ℕ → ℕ
-within n unread = pick (ltb n 29) 0 (pick (leb 2147483648 n) 0 (pick (ltb unread (n + 1)) 0 (n - 4)))
+within n unread = firstOf ((ltb n 29 ⇒ 0) ∷ (leb 2147483648 n ⇒ 0) ∷ (ltb unread (n + 1) ⇒ 0) ∷ []) (n - 4)
 
 -- .. of a CopyData message, 0 where there is none
 unfoldable pub wholeAt : List ℕ → ℕ
@@ -99,23 +100,18 @@ isFree Closed = false
 
 -- the run is in Drain, between two messages
 unfoldable pub isBetween : Run → Bool
-isBetween r =
-    pick (isDrain (r .state))
-    (pick (eqb (r .reader .filled) 0) (pick (r .reader .refused) false (ltb (r .drained) 256)) false)
-    false
+isBetween r = both (isDrain (r .state)) (both (eqb (r .reader .filled) 0) (unless (r .reader .refused) (ltb (r .drained) 256)))
 
 -- a step is accepted, with a payload buffer and an output of these lengths, and the payload is within the limit
 unfoldable pub hasRoom : Run → Moment → ℕ → ℕ → ℕ → Bool
 hasRoom r m p o n =
-    pick (ltb p (limitOf (r .settings .«max_message_size»))) false
-    (pick (ltb (limitOf (r .settings .«max_message_size»)) n) false
-    (pick (ltb o 39) false (not (badMoment r m))))
+    let limit : ℕ = limitOf (r .settings .«max_message_size») in
+    unless (ltb p limit) (unless (ltb limit n) (unless (ltb o 39) (not (badMoment r m))))
 
 -- the queue is free and the stop position not reached, too
 unfoldable pub appliesOf : Run → Moment → Queue → ℕ → ℕ → AtHand → Bool
 appliesOf r m q p o a =
-    pick (eqb (a .len) 0) false
-    (pick (isFree q) (pick (isBetween r) (pick (hasRoom r m p o (a .len)) (not (reaches r (a .reached))) false) false) false)
+    unless (eqb (a .len) 0) (both (isFree q) (both (isBetween r) (both (hasRoom r m p o (a .len)) (not (reaches r (a .reached))))))
 
 -- ---- behind the four steps
 
