@@ -1,7 +1,7 @@
 //! The program `follow` beside a server of the test: what it sends, prints and answers.
 mod common;
 
-use common::{begin, commit, keepalive, message, xlog_data};
+use common::{begin, commit, keepalive, message, row, xlog_data};
 use std::io::{Read, Write};
 use std::net::{TcpListener, TcpStream};
 use std::process::{Command, Output, Stdio};
@@ -41,8 +41,16 @@ fn let_in(client: &mut TcpStream) -> String {
     client.write_all(&message(b'R', &[0; 4])).unwrap();
     client.write_all(&message(b'S', b"a\0b\0")).unwrap();
     client.write_all(&message(b'Z', b"I")).unwrap();
-    let (tag, query) = receive(client, false);
+    let (tag, mut query) = receive(client, false);
     assert_eq!(tag, b'Q');
+    // The first connection asks which publications there are.
+    if query.starts_with(b"SELECT pubname") {
+        client
+            .write_all(&message(b'D', &row(&[Some(b"P")])))
+            .unwrap();
+        client.write_all(&message(b'Z', b"I")).unwrap();
+        query = receive(client, false).1;
+    }
     client.write_all(&message(b'W', &[0; 3])).unwrap();
     String::from_utf8(query).unwrap()
 }
@@ -139,6 +147,27 @@ fn a_message_over_the_limit_ends_with_7() {
     let line = String::from_utf8(output.stderr).unwrap();
     assert_eq!((output.status.code(), line.lines().count()), (Some(7), 1));
     assert!(line.contains("--max-message-size") && line.contains("2000"));
+}
+
+#[test]
+fn a_publication_that_is_not_there() {
+    let (port, server) = serve(|listener| {
+        let (mut client, _) = listener.accept().unwrap();
+        receive(&mut client, true);
+        client.write_all(&message(b'R', &[0; 4])).unwrap();
+        client.write_all(&message(b'Z', b"I")).unwrap();
+        let (_, query) = receive(&mut client, false);
+        client
+            .write_all(&message(b'D', &row(&[Some(b"Q")])))
+            .unwrap();
+        client.write_all(&message(b'Z', b"I")).unwrap();
+        query
+    });
+    let output = follow(port, &["--create-slot"]);
+    assert!(server.join().unwrap().starts_with(b"SELECT pubname"));
+    let line = String::from_utf8(output.stderr).unwrap();
+    assert_eq!((output.status.code(), line.lines().count()), (Some(1), 1));
+    assert!(line.contains("no publication P"), "{line}");
 }
 
 #[test]

@@ -82,9 +82,9 @@ fn connect_again(
     let mut payload = vec![0; settings.payload_len()];
     let clock = Clock::start();
     let (mut pause, mut confirmed) = (FIRST_PAUSE, Lsn(0));
-    let mut create = options.create_slot;
+    let mut first = true;
     loop {
-        let connected = connect(options, waiter, &mut create);
+        let connected = connect(options, waiter, &mut first);
         let result = connected
             .and_then(|link| one_stream(options, link, &mut payload, clock, outbox, totals));
         let Err(failure) = result else { return Ok(()) };
@@ -122,13 +122,16 @@ fn settings(options: &Options) -> Settings {
 fn connect<'a>(
     options: &Options,
     waiter: &'a Waiter,
-    create: &mut bool,
+    first: &mut bool,
 ) -> Result<Link<'a>, Failure> {
     let mut link = Link::connect(options, waiter)?;
     startup::start(&mut link, options)?;
-    if *create {
-        startup::create_slot(&mut link, options)?;
-        *create = false;
+    if *first {
+        startup::check_publications(&mut link, options)?;
+        if options.create_slot {
+            startup::create_slot(&mut link, options)?;
+        }
+        *first = false;
     }
     Ok(link)
 }

@@ -1,8 +1,8 @@
-//! What comes before the stream: startup, password, and the query that makes a slot.
+//! What comes before the stream: startup, password, and the queries that make a slot and look for publications.
 use crate::failure::{sqlstate, Failure, FAILED};
 use crate::link::Link;
 use crate::options::Options;
-use rufflesquash::AuthRequest;
+use rufflesquash::{AuthRequest, Column, DataRow};
 use std::env;
 use std::time::{Duration, Instant};
 
@@ -26,18 +26,57 @@ pub fn start(link: &mut Link, options: &Options) -> Result<(), Failure> {
 
 /// Makes the slot; where it may be there already, that is no error.
 pub fn create_slot(link: &mut Link, options: &Options) -> Result<(), Failure> {
-    let query = format!(
+    let text = format!(
         "CREATE_REPLICATION_SLOT {} LOGICAL pgoutput NOEXPORT_SNAPSHOT",
         options.slot
     );
-    link.send(&message(b'Q', &[query.as_bytes(), b"\0"].concat()))?;
-    let mut failed = None;
+    match query(link, &text)?.error {
+        Some(error) if !options.if_not_exists || sqlstate(&error) != b"42710" => {
+            Err(Failure::server(&error))
+        }
+        _ => Ok(()),
+    }
+}
+
+/// Whether each publication is there: the stream itself would tell it only with the first change.
+pub fn check_publications(link: &mut Link, options: &Options) -> Result<(), Failure> {
+    let answered = query(link, "SELECT pubname FROM pg_catalog.pg_publication")?;
+    if let Some(error) = answered.error {
+        return Err(Failure::server(&error));
+    }
+    let missing = |name: &&String| !answered.rows.iter().any(|row| row == name.as_bytes());
+    match options.publications.iter().find(missing) {
+        None => Ok(()),
+        Some(name) => {
+            let line = format!(
+                "the database {} has no publication {name}; make it with CREATE PUBLICATION, or name another",
+                options.dbname
+            );
+            Err(Failure::new(FAILED, line))
+        }
+    }
+}
+
+/// The answer to a simple query: the first column of each row, and the server's error where there is one.
+#[derive(Default)]
+struct Answered {
+    rows: Vec<Vec<u8>>,
+    error: Option<Vec<u8>>,
+}
+
+fn query(link: &mut Link, text: &str) -> Result<Answered, Failure> {
+    link.send(&message(b'Q', &[text.as_bytes(), b"\0"].concat()))?;
+    let mut answered = Answered::default();
     loop {
         let (tag, payload) = answer(link)?;
         match tag {
-            b'E' if options.if_not_exists && sqlstate(&payload) == b"42710" => {}
-            b'E' => failed = Some(Failure::server(&payload)),
-            b'Z' => return failed.map_or(Ok(()), Err),
+            b'D' => match DataRow::parse(&payload).map(|row| row.column(0)) {
+                Ok(Column::Value(value)) => answered.rows.push(value.to_vec()),
+                Ok(_) => {}
+                Err(refusal) => return Err(Failure::refused(refusal, 0)),
+            },
+            b'E' => answered.error = Some(payload),
+            b'Z' => return Ok(answered),
             _ => {}
         }
     }
