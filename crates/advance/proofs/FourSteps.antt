@@ -1,17 +1,16 @@
 -- Where a message is at hand and its four steps apply, they do one by one what is done at once.
 use mathlib.Core.Path.{_≡_, refl, sym, ap, _∙_}
-use mathlib.Core.Bool.{Bool, true, false, not}
-use mathlib.Core.List.{List, [], _∷_, _++_, append-nil}
-use mathlib.Core.Option.{none}
+use mathlib.Core.Bool.{Bool, true, false}
+use mathlib.Core.List.{List, [], _∷_, append-nil}
 use Prim.Native.Nat.{ℕ, zero, suc, _+_, _-_, _≤_, _<_, min}
 use native.Mathlib.Omega.{arith}
 use lib.IntN.{ℤ}
 use lib.ListN.{length, getD, take, drop, length-drop, drop-of-length-le, take-append-drop}
 use lib.Seq.{take-all, take-at, drop-append-le, drop-drop, length-take-le, getD-take}
 use lib.Dec.{ltb, leb, eqb}
-use borrow.Author.Tests.{le-leb, lt-leb, lt-ltb, le-ltb, ltb-true, ltb-false, leb-false, eqb-true, eqb-false, eq-eqb, not-true}
-use Rattle.wire.specs.Bytes.{pick, at, be, put}
-use Rattle.wire.proofs.Laws.{by-test, length-put}
+use borrow.Author.Tests.{le-leb, lt-ltb, le-ltb, ltb-true, ltb-false, leb-false, eqb-true, eqb-false, eq-eqb, not-true}
+use Rattle.wire.specs.Bytes.{pick, at, put}
+use Rattle.wire.proofs.Laws.{by-test, impossible, length-put}
 use Rattle.stream.specs.Message.{lengthField}
 use Rattle.stream.proofs.Front.{length-field-append}
 use Rattle.framing.specs.declared.MessageReader.{MessageReader}
@@ -19,15 +18,15 @@ use Rattle.framing.specs.Read.{Said, whole, fresh, at-byte, Result, later, limi
 use Rattle.framing.specs.Tag.{isCopyData}
 use Rattle.framing.proofs.Laws as L
 use Rattle.lsn.specs.declared.Lsn.{Lsn}
-use Rattle.metrics.specs.Metrics.{more, withEvent, withEnd}
+use Rattle.metrics.specs.Metrics.{more, withEnd}
 use Rattle.moment.specs.declared.Moment.{Moment}
-use Rattle.moment.specs.Moment.{isBefore, inRange}
+use Rattle.moment.specs.Moment.{inRange}
 use Rattle.pgoutput.specs.Boundary.{boundaryOf}
 use Rattle.pgoutput.specs.Boundary as B
-use Rattle.replication.specs.CopyData.{copyDataOf, xlogOf, keepAliveOf}
+use Rattle.replication.specs.CopyData.{copyDataOf, xlogOf}
 use Rattle.replication.specs.CopyData as C
 use Rattle.worker.specs.declared.Event.{Event}
-use Rattle.worker.specs.declared.Event.the-variants.{Nothing, Begin, Commit, Message, XLogData}
+use Rattle.worker.specs.declared.Event.the-variants.{Begin, Commit, Message, XLogData}
 use Rattle.worker.specs.declared.Input.{Input}
 use Rattle.worker.specs.declared.Queue.{Queue}
 use Rattle.worker.specs.declared.Queue.the-variants.{Free, Full, Closed}
@@ -35,20 +34,23 @@ use Rattle.worker.specs.declared.Run.{Run}
 use Rattle.worker.specs.declared.State.{State}
 use Rattle.worker.specs.declared.State.the-variants.{Opening, Turn, Drain, Reading, Waiting, Handling, Offering, Ended}
 use Rattle.worker.specs.Answer.{lent}
-use Rattle.worker.specs.Run.{lsn, clock, wholeOf, offer, run, withState, withReader, withDrained, withWhole, withOffer, withMetrics, accepted}
-use Rattle.worker.specs.Step.{Outcome, Lent, handing, moved, having, isEnded, badMoment, reaches, readBy, readingBy, readingOf, drainOf, boundaryBy, copyDataBy, handlingOf, firstBy, offeringOf, offers, offersAt, isStoppedAt, stateOf, stepOf}
+use Rattle.worker.specs.Run.{lsn, wholeOf, run, withState, withReader, withDrained, withWhole, withMetrics, accepted}
+use Rattle.worker.specs.Step.{Outcome, Lent, handing, moved, having, isEnded, badMoment, reaches, readingBy, readingOf, drainOf, boundaryBy, copyDataBy, handlingOf, firstBy, offeringOf, offers, offersAt, isStoppedAt, stateOf, stepOf}
 use Rattle.advance.specs.declared.AtHand.{AtHand}
 use Rattle.advance.specs.Advance.{isNothing, tells, lentBehind, behind, twice, advanceOf}
-use Rattle.advance.specs.AtHand.{atHand, nothing, logicalOf, within, wholeAt, byBoundary, byCopyData, xlogAtHand, messageOf, atHandOf, isDrain, isFree, isBetween, hasRoom, appliesOf, handedRun, handedOf, Hands-on-at-once}
+use Rattle.advance.specs.AtHand.{atHand, logicalOf, within, wholeAt, byBoundary, byCopyData, xlogAtHand, messageOf, atHandOf, isDrain, isFree, isBetween, hasRoom, appliesOf, handedRun, handedOf, Hands-on-at-once}
 
 -- ---- tests
 
+never : {X : Type 0} → _≡_ {A = Bool} true false → X
+never e = impossible cc
+
 both : (b : Bool) {x : Bool} → pick b x false ≡ true → (b ≡ true) × (x ≡ true)
 both true e = (refl, e)
-both false e = let z : _≡_ {A = ℕ} 0 1 = cc in absurd (omega arith)
+both false e = impossible cc
 
 neither : (b : Bool) {x : Bool} → pick b false x ≡ true → (b ≡ false) × (x ≡ true)
-neither true e = let z : _≡_ {A = ℕ} 0 1 = cc in absurd (omega arith)
+neither true e = impossible cc
 neither false e = (refl, e)
 
 -- the third test decides
@@ -57,18 +59,18 @@ third a b c w x y z ea eb ec = rw (ea, eb, ec)
 
 free-is : (q : Queue) → isFree q ≡ true → q ≡ Free
 free-is Free e = refl
-free-is Full e = let z : _≡_ {A = ℕ} 0 1 = cc in absurd (omega arith)
-free-is Closed e = let z : _≡_ {A = ℕ} 0 1 = cc in absurd (omega arith)
+free-is Full e = impossible cc
+free-is Closed e = impossible cc
 
 drain-is : (s : State) → isDrain s ≡ true → s ≡ Drain
 drain-is Drain e = refl
-drain-is Opening e = let z : _≡_ {A = ℕ} 0 1 = cc in absurd (omega arith)
-drain-is Turn e = let z : _≡_ {A = ℕ} 0 1 = cc in absurd (omega arith)
-drain-is Reading e = let z : _≡_ {A = ℕ} 0 1 = cc in absurd (omega arith)
-drain-is Waiting e = let z : _≡_ {A = ℕ} 0 1 = cc in absurd (omega arith)
-drain-is Handling e = let z : _≡_ {A = ℕ} 0 1 = cc in absurd (omega arith)
-drain-is Offering e = let z : _≡_ {A = ℕ} 0 1 = cc in absurd (omega arith)
-drain-is Ended e = let z : _≡_ {A = ℕ} 0 1 = cc in absurd (omega arith)
+drain-is Opening e = impossible cc
+drain-is Turn e = impossible cc
+drain-is Reading e = impossible cc
+drain-is Waiting e = impossible cc
+drain-is Handling e = impossible cc
+drain-is Offering e = impossible cc
+drain-is Ended e = impossible cc
 
 -- ---- a read of a message that is whole
 
@@ -203,7 +205,7 @@ accepts r i l a b c d = fourth _ _ _ _ _ _ _ _ _ a (le-ltb _ _ b) (le-ltb _ _ c)
 
 -- a moment that was accepted is accepted again
 again : (r : Run) (m : Moment) → badMoment r m ≡ false → badMoment (accepted m r) m ≡ false
-again r m e = by-test (inRange m) (λ a. rw (a, le-ltb (m .0) (m .0) (omega arith))) (λ a. let z : _≡_ {A = ℕ} 0 1 = cc in absurd (omega arith))
+again r m e = by-test (inRange m) (λ a. rw (a, le-ltb (m .0) (m .0) (omega arith))) (λ a. impossible cc)
 
 module _ (r : Run) (i : Input) (u p o : List ℕ) (n : ℕ) (state : r .state ≡ Drain) (five : length (r .reader .header) ≡ 5) (none-there : r .reader .filled ≡ 0)
     (going : r .reader .refused ≡ false) (few : r .drained < 256) (room : limitOf (r .settings .«max_message_size») ≤ length p)
@@ -304,11 +306,11 @@ module _ (r : Run) (i : Input) (u p o : List ℕ) (n : ℕ) (state : r .state �
         (λ b.
         rw (a, b)
         (four (Message flag (lsn position) (25 + pf) pl (25 + cf) cl) (lsn end) (rw (a, b) at g) refl refl (λ x y. ap (λ (z : B.Said). boundaryBy z start end time 25 len x y) e)))
-        (λ b. let z : _≡_ {A = Bool} true false = rw (a, b) at h in let y : _≡_ {A = ℕ} 0 1 = cc in absurd (omega arith)))
-        (λ a. let z : _≡_ {A = Bool} true false = rw a at h in let y : _≡_ {A = ℕ} 0 1 = cc in absurd (omega arith))
+        (λ b. never (rw (a, b) at h)))
+        (λ a. never (rw a at h))
     by-boundary B.no-boundary e h g =
         four (XLogData (lsn start) (lsn end) time 25 len) (lsn end) g refl refl (λ x y. ap (λ (z : B.Said). boundaryBy z start end time 25 len x y) e)
-    by-boundary (B.refused number) e h g = let z : _≡_ {A = ℕ} 0 1 = cc in absurd (omega arith)
+    by-boundary (B.refused number) e h g = impossible cc
 
   by-copy-data : (queue : i .queue ≡ Free) (c : C.Said) → copyDataOf s ≡ c → partsIn n c → eqb (byCopyData n (drop 25 s) c .len) 0 ≡ false
       → reaches r (byCopyData n (drop 25 s) c .reached) ≡ false
@@ -316,8 +318,8 @@ module _ (r : Run) (i : Input) (u p o : List ℕ) (n : ℕ) (state : r .state �
   unfolding partsIn
   by-copy-data queue (C.w start end time from len) e k h g =
       by-boundary queue start end time len (e ∙ rw (k .0)) (k .1) (boundaryOf (drop 25 s)) refl h g
-  by-copy-data queue (C.k end time reply) e k h g = let z : _≡_ {A = ℕ} 0 1 = cc in absurd (omega arith)
-  by-copy-data queue (C.refused number) e k h g = let z : _≡_ {A = ℕ} 0 1 = cc in absurd (omega arith)
+  by-copy-data queue (C.k end time reply) e k h g = impossible cc
+  by-copy-data queue (C.refused number) e k h g = impossible cc
 
 -- its length is the payload's
 boundary-len : (n start end : ℕ) (time : ℤ) (len : ℕ) (b : B.Said) → eqb (byBoundary n start end time len b .len) 0 ≡ false → byBoundary n start end time len b .len ≡ n
@@ -327,15 +329,15 @@ boundary-len n start end time len (B.commit position commit-end commit-time) h =
 boundary-len n start end time len (B.message flag position pf pl cf cl) h =
     by-test (ltb pf 2147483648)
     (λ a. by-test (ltb cf 2147483648) (λ b. rw (a, b))
-    (λ b. let z : _≡_ {A = Bool} true false = rw (a, b) at h in let y : _≡_ {A = ℕ} 0 1 = cc in absurd (omega arith)))
-    (λ a. let z : _≡_ {A = Bool} true false = rw a at h in let y : _≡_ {A = ℕ} 0 1 = cc in absurd (omega arith))
+    (λ b. never (rw (a, b) at h)))
+    (λ a. never (rw a at h))
 boundary-len n start end time len B.no-boundary h = refl
-boundary-len n start end time len (B.refused number) h = let z : _≡_ {A = ℕ} 0 1 = cc in absurd (omega arith)
+boundary-len n start end time len (B.refused number) h = impossible cc
 
 copy-data-len : (n : ℕ) (d : List ℕ) (c : C.Said) → eqb (byCopyData n d c .len) 0 ≡ false → byCopyData n d c .len ≡ n
 copy-data-len n d (C.w start end time from len) h = boundary-len n start end time len (boundaryOf d) h
-copy-data-len n d (C.k end time reply) h = let z : _≡_ {A = ℕ} 0 1 = cc in absurd (omega arith)
-copy-data-len n d (C.refused number) h = let z : _≡_ {A = ℕ} 0 1 = cc in absurd (omega arith)
+copy-data-len n d (C.k end time reply) h = impossible cc
+copy-data-len n d (C.refused number) h = impossible cc
 
 -- an XLogData is its letter and what is behind it
 by-letter : (s : List ℕ) → (length s ≡ 0 → ⊥) → getD s 0 0 ≡ 119 → copyDataOf s ≡ xlogOf (drop 1 s)
@@ -347,10 +349,10 @@ payload-is : (s : List ℕ) → eqb (messageOf s .len) 0 ≡ false → messageOf
 unfolding messageOf xlogAtHand
 payload-is s h =
     by-test (eqb (length s) 0)
-    (λ a. let z : _≡_ {A = Bool} true false = rw a at h in let y : _≡_ {A = ℕ} 0 1 = cc in absurd (omega arith))
+    (λ a. never (rw a at h))
     (λ a. by-test (eqb (getD s 0 0) 119)
     (λ b. by-test (ltb (length (drop 1 s)) 24)
-    (λ c. let z : _≡_ {A = Bool} true false = rw (a, b, c) at h in let y : _≡_ {A = ℕ} 0 1 = cc in absurd (omega arith))
+    (λ c. never (rw (a, b, c) at h))
     (λ c.
     let k : 24 ≤ length (drop 1 s) = ltb-false _ _ c in
     let l : length (drop 1 s) ≡ length s - 1 = length-drop 1 s in
@@ -358,7 +360,7 @@ payload-is s h =
     let d : drop 24 (drop 1 s) ≡ drop 25 s = drop-drop 24 1 s in
     let e : copyDataOf s ≡ xlogOf (drop 1 s) = by-letter s (eqb-false _ _ a) (eqb-true _ _ b) in
     rw (e, a, b, c, n, d)))
-    (λ b. let z : _≡_ {A = Bool} true false = rw (a, b) at h in let y : _≡_ {A = ℕ} 0 1 = cc in absurd (omega arith)))
+    (λ b. never (rw (a, b) at h)))
 
 -- a message at hand is that of its payload
 at-hand-is : (u : List ℕ) → eqb (atHandOf u .len) 0 ≡ false
@@ -366,7 +368,7 @@ at-hand-is : (u : List ℕ) → eqb (atHandOf u .len) 0 ≡ false
 unfolding atHandOf
 at-hand-is u h =
     by-test (eqb (wholeAt u) 0)
-    (λ a. let z : _≡_ {A = Bool} true false = rw a at h in let y : _≡_ {A = ℕ} 0 1 = cc in absurd (omega arith))
+    (λ a. never (rw a at h))
     (λ a. (eqb-false _ _ a, rw a (payload-is (at u 5 (wholeAt u)) (rw a at h))))
 
 pub hands-on-at-once : Hands-on-at-once

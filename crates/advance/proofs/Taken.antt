@@ -11,7 +11,7 @@ use lib.IntN.{ℤ}
 use Rattle.wire.specs.Bytes.{pick, at, put}
 use Rattle.framing.specs.declared.MessageReader.{MessageReader}
 use Rattle.framing.specs.Read.{Result, limitOf, headerOf, readOf}
-use Rattle.framing.specs.Tag.{isError, isCopyBothResponse, isCopyData}
+use Rattle.framing.specs.Tag.{isError, isCopyData}
 use Rattle.framing.proofs.Laws.{pick-both, payload-taken, judged-taken}
 use Rattle.replication.specs.CopyData.{copyDataOf}
 use Rattle.replication.specs.CopyData as C
@@ -29,7 +29,7 @@ use Rattle.metrics.specs.Metrics.{withEvent, withEnd}
 use Rattle.moment.specs.Moment.{sinceOf}
 use Rattle.worker.specs.Run.{lsn, accepted, withMetrics}
 use Rattle.worker.specs.Step.{Outcome, Lent, moved, handsOn, stallEnded, isEnded, badMoment, intervalPassed, statusDue, isReadable, isStoppedAt, statusOf, openingOf, turnOf, drainOf, readingOf, waitingOf, idleOf, keepAliveOf, boundaryBy, copyDataBy, handlingOf, nextOf, stalledBy, stalledOf, stalls, firstBy, offeringOf, stateOf, stepOf}
-use Rattle.advance.specs.Advance.{tells, lentBehind, behind, twice}
+use Rattle.advance.specs.Advance.{tells, lentBehind, twice}
 
 Within : Lent → Outcome → Type 0
 Within l o = o .taken ≤ length (l .unread)

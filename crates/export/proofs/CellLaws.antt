@@ -1,6 +1,5 @@
 -- The words of a cell, where each call that makes one has answered it.
 use mathlib.Core.Path.{_≡_, ap, _∙_}
-use mathlib.Core.Bool.{Bool, true, false}
 use mathlib.Core.List.{List, [], _∷_}
 use Prim.Native.Nat.{ℕ}
 use Rattle.lsn.specs.declared.Lsn.{Lsn}

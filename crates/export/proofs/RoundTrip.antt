@@ -2,7 +2,7 @@
 use mathlib.Core.Path.{_≡_, refl, ap, _∙_}
 use mathlib.Core.Bool.{Bool, true, false}
 use mathlib.Core.List.{List, [], _∷_}
-use Prim.Native.Nat.{ℕ, zero, suc, _+_, _*_, _-_, _<_, _≤_, _%_, _^_}
+use Prim.Native.Nat.{ℕ, zero, suc, _*_, _-_, _<_, _≤_, _%_, _^_}
 use native.Mathlib.Omega.{arith}
 use lib.ListN.{length, getD}
 use lib.IntN.{ℤ, pos, negsuc}
@@ -18,13 +18,12 @@ use Rattle.worker.specs.declared.Event.{Event}
 use Rattle.worker.specs.declared.Event.the-variants.{Nothing, KeepAlive, Begin, Commit, Message, XLogData, StoppedAt}
 use Rattle.worker.specs.declared.LastStatus.{LastStatus}
 use Rattle.worker.specs.declared.Offer.{Offer}
-use Rattle.worker.specs.declared.Run.{Run}
 use Rattle.worker.specs.declared.Settings.{Settings}
 use Rattle.worker.specs.declared.State.{State}
 use Rattle.worker.specs.declared.State.the-variants.{Opening, Turn, Drain, Reading, Waiting, Handling, Offering, Ended}
 use Rattle.worker.specs.declared.Whole.{Whole}
 use Rattle.worker.specs.Run.{lastStatus, wholeOf, offer, run}
-use Rattle.export.specs.Words.{flagOf, flagWord, byteOf, half, stateOf, stateWord, eventOf, partsOf, eventWords, settingsOf, settingsWords, headerWords, HeaderFits, EventFits, Fits, Round-trip}
+use Rattle.export.specs.Words.{flagOf, flagWord, byteOf, half, stateOf, stateWord, eventOf, partsOf, eventWords, settingsOf, settingsWords, HeaderFits, EventFits, Round-trip}
 
 flag-back : (b : Bool) → flagOf (flagWord b) ≡ b
 flag-back true = refl

@@ -3,7 +3,7 @@ ghost use mathlib.Core.Path.{_≡_};
 ghost use Prim.Native.Nat.{_<_, _%_, _^_};
 ghost use lib.Signed.{mag};
 ghost use Rattle.wire.specs.Field.{signed, unsigned};
-ghost use Rattle.export.specs.Words.{half, flagOf, flagWord, byteOf, stateOf, stateWord, eventOf, partsOf, eventWords, settingsOf, headerOf, readerOf, clockOf, progressOf, lastStatusOf, wholeMessageOf, offerOf, metricsOf, runOf, metricsWords, lastStatusWords, wordsOf, headerWords, HeaderFits, EventFits};
+ghost use Rattle.export.specs.Words.{half, flagOf, flagWord, byteOf, stateOf, stateWord, eventOf, partsOf, eventWords, settingsOf, readerOf, clockOf, progressOf, lastStatusOf, wholeMessageOf, offerOf, metricsOf, runOf, metricsWords, lastStatusWords, wordsOf, headerWords, HeaderFits, EventFits};
 use framing::MessageReader;
 use lsn::Lsn;
 use metrics::Metrics;

@@ -1,11 +1,6 @@
-use Rattle.metrics.specs.Metrics.{more}
 use borrow.Author.Needs.{needs}
 use Rattle.advance.proofs.handed.Statement.{statement}
 use Rattle.advance.proofs.handed.Tie as tie
-use Rattle.framing.proofs.MessageReader.new.Reads as new-reads
-use Rattle.metrics.proofs.Metrics.record_event_forwarded.Reads as record-event-forwarded-reads
-use Rattle.metrics.proofs.Metrics.set_last_wal_end.Reads as set-last-wal-end-reads
-use Rattle.std.proofs.num.wrapping_add_u64.Reads as wrapping-add-u64-reads
 
 set-last-wal-end-requires : tie.Need-set-last-wal-end-requires
 set-last-wal-end-requires c κs = search needs

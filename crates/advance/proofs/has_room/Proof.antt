@@ -3,9 +3,6 @@ use Rattle.advance.specs.AtHand.{hasRoom}
 use borrow.Author.Needs.{needs}
 use Rattle.advance.proofs.has_room.Statement.{statement}
 use Rattle.advance.proofs.has_room.Tie as tie
-use Rattle.framing.proofs.limit_of.Reads as limit-of-reads
-use Rattle.moment.proofs.Moment.is_before.Reads as is-before-reads
-use Rattle.moment.proofs.Moment.is_in_range.Reads as is-in-range-reads
 
 limit-of-requires : tie.Need-limit-of-requires
 limit-of-requires c κs = search needs

@@ -1,7 +1,6 @@
 use borrow.Author.Needs.{needs}
 use Rattle.advance.proofs.stops.Statement.{statement}
 use Rattle.advance.proofs.stops.Tie as tie
-use Rattle.lsn.proofs.Lsn.is_below.Reads as is-below-reads
 
 is-below-requires : tie.Need-is-below-requires
 is-below-requires c κs = search needs

@@ -1,5 +1,5 @@
 use mathlib.Core.Option.{Option, some, none}
-use mathlib.Core.Path.{_≡_, ap, _∙_}
+use mathlib.Core.Path.{_≡_, _∙_}
 use Prim.Native.Nat.{ℕ}
 use Rattle.wire.specs.Bytes.{at, be}
 use Rattle.wire.proofs.FieldLaws.{field-whole}

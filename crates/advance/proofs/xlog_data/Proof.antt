@@ -8,7 +8,6 @@ use lib.ListN.{length, drop}
 use borrow.Author.Tests.{lt-ltb}
 use Rattle.wire.specs.Field.{u64Of, i64Of}
 use Rattle.wire.proofs.Laws.{tail-whole}
-use Rattle.replication.specs.CopyData.{xlogOf}
 use Rattle.replication.specs.CopyData as C
 use Rattle.replication.proofs.Laws.{not-cut, time-not-cut, xlog-read}
 use Rattle.advance.specs.AtHand.{byCopyData, xlogAtHand}

@@ -3,7 +3,7 @@ use mir.Syntax.{w64}
 use mir.Val.{toZ, ofZ}
 use mir.ValLaws.{toZ-ofZ}
 use lib.IntN.{ℤ}
-use mathlib.Core.Path.{_≡_, refl, ap}
+use mathlib.Core.Path.{_≡_, ap}
 use Rattle.advance.specs.Advance.{advanceOf}
 use Rattle.worker.specs.Answer.{lent}
 use Rattle.export.specs.Answers.{inputOf}

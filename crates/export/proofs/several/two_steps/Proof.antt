@@ -6,8 +6,7 @@ use Rattle.export.specs.Answers.{inputOf}
 use mir.Val.{toZ, ofZ}
 use lib.IntN.{ℤ}
 use Rattle.worker.specs.Step.{stepOf}
-use Rattle.advance.specs.Advance.{twice}
-use Rattle.advance.proofs.Taken.{step-taken, twice-taken}
+use Rattle.advance.proofs.Taken.{step-taken}
 use Rattle.export.proofs.Following.{told, went-on}
 use borrow.Author.Needs.{needs}
 use Rattle.export.proofs.several.two_steps.Statement.{statement}
