@@ -70,19 +70,19 @@ fn opening_needs_the_whole_query_as_output() {
 }
 
 // 2 to 5 change nothing: neither the run nor a buffer.
-fn refused_unchanged(mut fed: Fed, refusal: Refusal) {
-    let (run, payload, out) = (fed.run.clone(), fed.payload.clone(), fed.out.clone());
-    let input = fed.input();
-    let step = fed
-        .run
-        .step(&input, &fed.bytes, &mut fed.payload, &mut fed.out);
-    assert_eq!(step.refusal, Some(refusal));
-    assert_eq!(
-        (step.taken, step.written, step.event, step.waited),
-        (0, 0, None, None)
-    );
-    assert_eq!(fed.run, run);
-    assert_eq!((fed.payload, fed.out), (payload, out));
+fn refused_unchanged(fed: Fed, refusal: Refusal) {
+    for call in [Run::step, Run::advance] {
+        let mut other = fed.clone();
+        let (payload, out) = (&mut other.payload, &mut other.out);
+        let step = call(&mut other.run, &fed.input(), &fed.bytes, payload, out);
+        assert_eq!(step.refusal, Some(refusal));
+        assert_eq!(
+            (step.taken, step.written, step.event, step.waited),
+            (0, 0, None, None)
+        );
+        assert_eq!(other.run, fed.run);
+        assert_eq!((&other.payload, &other.out), (&fed.payload, &fed.out));
+    }
 }
 
 #[test]

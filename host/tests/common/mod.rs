@@ -99,6 +99,7 @@ impl Draw {
 }
 
 /// A run with its buffers, its clock and the server's bytes.
+#[derive(Clone)]
 pub struct Fed {
     pub run: Run,
     pub payload: Vec<u8>,
@@ -182,11 +183,29 @@ impl Fed {
         answer
     }
 
-    /// Steps until one is refused, and that one.
+    /// Several steps in one call, a microsecond later.
+    pub fn advance(&mut self) -> Answer {
+        self.moment += 1000;
+        let input = self.input();
+        let (payload, out) = (&mut self.payload, &mut self.out);
+        let answer = Answer::from(self.run.advance(&input, &self.bytes, payload, out));
+        self.bytes.drain(..answer.taken);
+        answer
+    }
+
+    /// Steps until one is refused, and that one. Several in one call come to the same refusal, bytes and buffers.
     pub fn refused(&mut self) -> Answer {
+        let mut other = self.clone();
+        let at_once = (0..1000).find_map(|_| other.advance().refusal);
         for _ in 0..1000 {
             let answer = self.step();
             if answer.refusal.is_some() {
+                assert_eq!(at_once, answer.refusal);
+                assert_eq!((&other.bytes, &other.payload), (&self.bytes, &self.payload));
+                assert_eq!(
+                    (&other.out, other.run.state()),
+                    (&self.out, self.run.state())
+                );
                 return answer;
             }
         }
