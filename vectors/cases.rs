@@ -599,7 +599,7 @@ fn timings(add: Add) {
             add(&s);
         }
     }
-    // a status with no rise leaves the moment stored: the start is above what is reported
+    // one waiting time, at the status that confirms the rise; the idle statuses behind it tell none
     let mut s = waiting(&[]);
     s.settings.timing = true;
     s.report(0x20, 3).steps(&[at(2).unread(0), at(1_001), at(1_002), at(6_003), at(6_004), at(6_005), at(11_006)]);

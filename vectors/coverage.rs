@@ -1,4 +1,4 @@
-//! Which tests of the step table, refusals and cases apart the scripts reached. A maker that leaves one out fails.
+//! Which tests of the step table, which refusals and which other cases the scripts reach. A maker that leaves one out fails.
 
 use std::cell::RefCell;
 use std::collections::BTreeMap;

@@ -2,7 +2,7 @@
 //! .events files, which come with the recorded bytes, must say the same.
 
 use crate::model::{Event, Input, Queue, Run, Settings, State, MOST_INTERVAL};
-use crate::shared::display;
+use crate::shared::{display, stream_files};
 use std::path::Path;
 
 /// A line of the program `events`: lengths where a script has bytes.
@@ -40,9 +40,7 @@ pub fn all(folder: &Path) {
     assert_eq!(events(&example), "K 0/10 0 0\nEND 8\n");
     std::fs::write(folder.join("events-stdin"), &example).unwrap();
     std::fs::write(folder.join("events-stdout"), events(&example)).unwrap();
-    let mut names: Vec<_> = std::fs::read_dir("streams").unwrap().map(|e| e.unwrap().path()).collect();
-    names.retain(|p| p.extension().is_some_and(|x| x == "bin"));
-    names.sort();
+    let names = stream_files();
     let mut all = String::new();
     for name in &names {
         let told = events(&std::fs::read(name).unwrap());

@@ -237,7 +237,17 @@ fn lossy_texts(v: &mut Vectors, draw: &mut Draw) {
     for b in 0..=255u8 {
         v.lossy_around(&[b]);
     }
-    // every boundary of the well-formed ranges, at each byte of a sequence
+    lossy_edges(v);
+    lossy_mixed(v, draw);
+    let long: Vec<u8> = (0..21_845u32).map(|i| if i % 7 == 3 { 0xE2 } else { b'a' + (i % 26) as u8 }).collect();
+    v.lossy(&long, 65_536, 0x11);
+    v.lossy(&vec![0x80; 21_845], 65_535, 0x11);
+    v.lossy(&vec![0x80; 21_846], 65_536, 0x11);
+    v.lossy(&vec![b'x'; 65_536], 65_536, 0x11);
+}
+
+/// Every boundary of the well-formed ranges, at each byte of a sequence.
+fn lossy_edges(v: &mut Vectors) {
     let first = [0x00, 0x7F, 0x80, 0xBF, 0xC0, 0xC1, 0xC2, 0xDF, 0xE0, 0xE1, 0xEC, 0xED, 0xEE, 0xEF, 0xF0, 0xF1, 0xF3, 0xF4, 0xF5, 0xFF];
     let second = [0x00, 0x7F, 0x80, 0x8F, 0x90, 0x9F, 0xA0, 0xBF, 0xC0, 0xC2, 0xFF];
     let later = [0x7F, 0x80, 0xBF, 0xC0];
@@ -253,6 +263,10 @@ fn lossy_texts(v: &mut Vectors, draw: &mut Draw) {
             }
         }
     }
+}
+
+/// Well-formed and ill-formed pieces in any order, then any bytes.
+fn lossy_mixed(v: &mut Vectors, draw: &mut Draw) {
     let pieces: [&[u8]; 16] = [
         b"a", b"caption", "ä".as_bytes(), "λόγος".as_bytes(), "żółw".as_bytes(), "語".as_bytes(), "😀".as_bytes(), "\u{FFFD}".as_bytes(),
         &[0x80], &[0xE2, 0x82], &[0xF0, 0x9F, 0x98], &[0xC2], &[0xFF], &[0xED, 0xA0, 0x80], &[0xF4, 0x90], &[0x00],
@@ -269,15 +283,13 @@ fn lossy_texts(v: &mut Vectors, draw: &mut Draw) {
         let text: Vec<u8> = (0..n).map(|_| draw.next() as u8).collect();
         v.lossy_roomy(&text);
     }
-    let long: Vec<u8> = (0..21_845u32).map(|i| if i % 7 == 3 { 0xE2 } else { b'a' + (i % 26) as u8 }).collect();
-    v.lossy(&long, 65_536, 0x11);
-    v.lossy(&vec![0x80; 21_845], 65_535, 0x11);
-    v.lossy(&vec![0x80; 21_846], 65_536, 0x11);
-    v.lossy(&vec![b'x'; 65_536], 65_536, 0x11);
+}
+
+fn field(letter: u8, value: &[u8]) -> Vec<u8> {
+    [&[letter], value, &[0]].concat()
 }
 
 fn errors(v: &mut Vectors, draw: &mut Draw) {
-    let field = |letter: u8, value: &[u8]| -> Vec<u8> { [&[letter], value, &[0]].concat() };
     let whole: Vec<u8> = [
         field(b'S', b"ERROR"),
         field(b'V', b"ERROR"),
@@ -296,6 +308,12 @@ fn errors(v: &mut Vectors, draw: &mut Draw) {
     for letter in 0..=255u8 {
         v.error(&[field(letter, b"value"), vec![0]].concat());
     }
+    odd_errors(v);
+    random_errors(v, draw);
+}
+
+/// Empty values, repeated letters, what stands behind the end, cut fields, ill-formed text.
+fn odd_errors(v: &mut Vectors) {
     let cases: Vec<Vec<u8>> = vec![
         vec![],
         vec![0],
@@ -315,6 +333,9 @@ fn errors(v: &mut Vectors, draw: &mut Draw) {
     for payload in cases {
         v.error(&payload);
     }
+}
+
+fn random_errors(v: &mut Vectors, draw: &mut Draw) {
     for _ in 0..150 {
         let mut payload = Vec::new();
         for _ in 0..draw.below(6) {

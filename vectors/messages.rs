@@ -1,11 +1,12 @@
 //! Records for the readers and writers of messages.
 
 use crate::protocol::{boundary_of, copy_data_of, framed, Boundary, CopyData, Fields, Reader, Told};
-use crate::shared::{display, hex, sum, Draw};
+use crate::shared::{display, hex, stream_files, sum, Draw};
 use crate::{error_fields, error_text, Vectors};
 use std::fmt::Write as _;
 
 impl Vectors {
+    /// A stream handed to a reader in pieces of a size, all of each before the next; refusal 6 goes on, another ends it.
     fn reads(&mut self, setting: u32, ended: bool, size: u16, bytes: &[u8], out_len: usize, fill: u8) {
         let input = [&setting.to_be_bytes()[..], &[ended as u8], &size.to_be_bytes(), bytes].concat();
         self.record(b'g', out_len, fill, &input);
@@ -237,16 +238,16 @@ fn boundaries(v: &mut Vectors, draw: &mut Draw) {
     v.boundary(&message(1, 1, &[0xE2, 0x82], 0, b""));
 }
 
+/// The payload of a DataRow whose count and lengths say what they like.
+fn row(count: u16, columns: &[(u32, &[u8])]) -> Vec<u8> {
+    let columns = columns.iter().flat_map(|(length, value)| [&length.to_be_bytes()[..], value].concat());
+    count.to_be_bytes().into_iter().chain(columns).collect()
+}
+
+const GOOD: &[(u32, &[u8])] = &[(5, b"hello"), (u32::MAX, b""), (0, b"")];
+
 fn rows(v: &mut Vectors, draw: &mut Draw) {
-    let row = |count: u16, columns: &[(u32, &[u8])]| {
-        let mut bytes = count.to_be_bytes().to_vec();
-        for (length, value) in columns {
-            bytes.extend(length.to_be_bytes());
-            bytes.extend(*value);
-        }
-        bytes
-    };
-    let good = row(3, &[(5, b"hello"), (u32::MAX, b""), (0, b"")]);
+    let good = row(3, GOOD);
     for n in 0..=good.len() {
         v.row(&good[..n]);
     }
@@ -260,12 +261,16 @@ fn rows(v: &mut Vectors, draw: &mut Draw) {
     for _ in 0..60 {
         v.row(&damaged(draw, &good));
     }
+}
+
+/// Answers to a query, cut at every byte.
+fn queries(v: &mut Vectors) {
     let description = framed(b'T', &[0, 0]);
     let ready = framed(b'Z', b"I");
     let failure = framed(b'E', b"SERROR\0C42601\0Msyntax error\0\0");
     let other = framed(b'E', b"SERROR\0C57014\0Mcanceled\0\0");
     let complete = framed(b'C', b"SELECT 1\0");
-    let one = framed(b'D', &good);
+    let one = framed(b'D', &row(3, GOOD));
     let two = framed(b'D', &row(1, &[(2, b"xy")]));
     let broken = framed(b'D', &row(2, &[(2, b"xy")]));
     let (empty_row, no_fields) = (framed(b'D', &[0, 0]), framed(b'E', b""));
@@ -352,9 +357,7 @@ fn streams(v: &mut Vectors, draw: &mut Draw) {
     v.reads(100, true, 5, &mixed, 99, 0x01);
     v.reads(10, false, 4, &framed(b'd', &[7; 10]), 10, 0);
     v.reads(10, false, 4, &framed(b'd', &[7; 11]), 10, 0);
-    let mut names: Vec<_> = std::fs::read_dir("streams").unwrap().map(|e| e.unwrap().path()).filter(|p| p.extension().is_some_and(|x| x == "bin")).collect();
-    names.sort();
-    for name in names {
+    for name in stream_files() {
         let bytes = std::fs::read(name).unwrap();
         let bytes = &bytes[..bytes.len().min(65_529)];
         for size in [1u16, 1 + draw.below(60) as u16, 4096, 65_535] {
@@ -371,6 +374,7 @@ pub fn all(v: &mut Vectors, draw: &mut Draw) {
     copy_datas(v, draw);
     boundaries(v, draw);
     rows(v, draw);
+    queries(v);
     writers(v, draw);
     streams(v, draw);
 }

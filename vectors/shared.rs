@@ -15,6 +15,14 @@ pub fn display(v: u64) -> String {
     format!("{:X}/{:X}", v >> 32, v & 0xFFFF_FFFF)
 }
 
+/// The recorded streams of a real server, in the order of their names.
+pub fn stream_files() -> Vec<std::path::PathBuf> {
+    let mut names: Vec<_> = std::fs::read_dir("streams").unwrap().map(|e| e.unwrap().path()).collect();
+    names.retain(|p| p.extension().is_some_and(|x| x == "bin"));
+    names.sort();
+    names
+}
+
 /// Marsaglia's xorshift.
 pub struct Draw(pub u64);
 
