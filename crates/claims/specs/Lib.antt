@@ -3,6 +3,7 @@ pub mod Plain
 pub mod Past
 pub mod Calls
 pub mod RunCases
+pub mod PlainCases
 pub mod Confirms
 pub mod Begins
 pub mod HandsOn

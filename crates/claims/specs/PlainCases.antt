@@ -1,0 +1,154 @@
+-- The plain reading, sentence by sentence: what it gives for steps that are made up here. No run is played.
+use mathlib.Core.Path.{_≡_, refl}
+use mathlib.Core.Bool.{Bool, true, false}
+use mathlib.Core.List.{List, [], _∷_, _++_}
+use mathlib.Core.Option.{Option, some, none}
+use Prim.Native.Nat.{ℕ}
+use lib.ListN.{take, replicate}
+use lib.IntN.{pos}
+use Rattle.wire.specs.Bytes.{be, beFrom, beBytes}
+use Rattle.wire.specs.Field.{fieldAt, signed, unsigned}
+use Rattle.wire.specs.Find.{indexOf}
+use Rattle.stream.specs.Message.{framed, frontOf}
+use Rattle.stream.specs.Cut.{cutFrom, cutOf}
+use Rattle.replication.specs.CopyData.{copyDataOf, xlogData}
+use Rattle.pgoutput.specs.Boundary.{boundaryOf, beginBytes, commitBytes, messageBytes}
+use Rattle.worker.specs.declared.Queue.{Queue}
+use Rattle.worker.specs.declared.Queue.the-variants.{Free, Full}
+use Rattle.claims.specs.Happened.{Happened}
+use Rattle.claims.specs.Happened as H
+use Rattle.claims.specs.Plain.{Told, wholeOnes, behindOpening, given, spanOf, behindByte, acceptedOnes, offered, takenOf, plainOf}
+use Rattle.claims.specs.RunCases.{keepAliveBytes, beginAt, commitAt}
+
+-- ---- steps
+
+-- takes so many bytes
+abbrev pub takes : ℕ → Told
+takes n = record { stop = false; queue = Free; refusal = 0; taken = n }
+
+-- takes none, with stop seen or not and a queue
+abbrev pub meets : Bool → Queue → Told
+meets stop queue = record { stop = stop; queue = queue; refusal = 0; taken = 0 }
+
+-- is refused with a number
+abbrev pub isRefused : ℕ → Told
+isRefused n = record { stop = false; queue = Free; refusal = n; taken = 0 }
+
+abbrev pub free : Told
+free = meets false Free
+
+abbrev pub full : Told
+full = meets false Full
+
+abbrev pub free-stop : Told
+free-stop = meets true Free
+
+abbrev pub full-stop : Told
+full-stop = meets true Full
+
+-- ---- messages: a Begin has 51 bytes on the wire
+
+-- data that is no boundary, at a wal end
+abbrev pub insertAt : ℕ → List ℕ
+insertAt end = framed 0x64 (xlogData 1 end (pos 3) (0x49 ∷ 0 ∷ []))
+
+-- a message of the server by its tag alone
+abbrev pub empty : ℕ → List ℕ
+empty tag = framed tag []
+
+-- ---- readings
+
+-- with a limit of 64
+abbrev pub reading : Option ℕ → Bool → List ℕ → List Told → List Happened
+reading stop opening bytes ts = plainOf (record { stop = stop; limit = 64 }) opening bytes ts
+
+-- already open, no stop position, all bytes taken by one step, and steps enough for two events behind it
+abbrev pub all : List ℕ → List Happened
+all bytes = reading none false bytes (takes 1000 ∷ free ∷ free ∷ free ∷ [])
+
+-- the events of Begins
+abbrev pub begun : ℕ → Happened
+begun final = H.begin final (pos 0) 7
+
+pub record PlainCases : Type 0 where
+  -- "The first server bytes, as many as the counts add up to, are cut into messages"
+  pub counts-add-up : reading none false (beginAt 1 ++ beginAt 2) (takes 20 ∷ takes 31 ∷ free ∷ free ∷ []) ≡ begun 1 ∷ []
+  pub next-bytes : reading none false (beginAt 1 ++ beginAt 2) (takes 20 ∷ takes 31 ∷ takes 51 ∷ free ∷ free ∷ []) ≡ begun 1 ∷ begun 2 ∷ []
+  -- "In Opening, those up to the first `W` give nothing"
+  pub behind-opening :
+      reading none true (keepAliveBytes ++ (empty 0x57 ++ (beginAt 1 ++ keepAliveBytes))) (takes 1000 ∷ free ∷ free ∷ [])
+      ≡ begun 1 ∷ H.keepAlive 0x10 (pos 0) false ∷ []
+  pub never-opened : reading none true (keepAliveBytes ++ beginAt 1) (takes 1000 ∷ free ∷ free ∷ []) ≡ []
+  pub error-in-opening : reading none true (empty 0x45 ++ (empty 0x57 ++ beginAt 1)) (takes 1000 ∷ free ∷ free ∷ []) ≡ []
+  -- "A message unfinished or refused with 6 or 7, or an `E`, ends the reading"
+  pub unfinished : all (beginAt 1 ++ take 50 (beginAt 2)) ≡ begun 1 ∷ []
+  pub length-three : all (beginAt 1 ++ (0x64 ∷ 0 ∷ 0 ∷ 0 ∷ 3 ∷ beginAt 2)) ≡ begun 1 ∷ []
+  pub over-the-limit : all (beginAt 1 ++ (framed 0x64 (replicate 65 0) ++ beginAt 2)) ≡ begun 1 ∷ []
+  pub server-error : all (beginAt 1 ++ (empty 0x45 ++ beginAt 2)) ≡ begun 1 ∷ []
+  -- "Else only a `d` gives events"
+  pub others-skipped : all (empty 0x4E ++ (beginAt 1 ++ (empty 0x57 ++ beginAt 2))) ≡ begun 1 ∷ begun 2 ∷ []
+  -- "one by the CopyData and boundary rules (no boundary: other data)"
+  pub a-commit : all (commitAt 0x200 0x50) ≡ H.commit 0x200 0x50 (pos 0) ∷ []
+  pub a-message :
+      all (framed 0x64 (xlogData 0 0 (pos 0) (messageBytes 1 5 (0x61 ∷ []) (0x62 ∷ 0x63 ∷ [])))) ≡ H.message true 5 (0x61 ∷ []) (0x62 ∷ 0x63 ∷ []) ∷ []
+  pub other-data : all (insertAt 2) ≡ H.xlogData 1 2 (pos 3) (0x49 ∷ 0 ∷ []) ∷ []
+  -- "or, refused with 10 to 18, none, and the reading ends": an empty CopyData (10), a Begin of its letter alone (16)
+  pub copy-data-refused : all (beginAt 1 ++ (empty 0x64 ++ beginAt 2)) ≡ begun 1 ∷ []
+  pub boundary-refused : all (beginAt 1 ++ (framed 0x64 (xlogData 0 0 (pos 0) (66 ∷ [])) ++ beginAt 2)) ≡ begun 1 ∷ []
+  -- "Where the stop position is reached, StoppedAt follows, then the end"
+  pub stop-reached :
+      reading (some 2) false (beginAt 1 ++ (insertAt 2 ++ beginAt 3)) (takes 1000 ∷ free ∷ free ∷ free ∷ [])
+      ≡ begun 1 ∷ H.xlogData 1 2 (pos 3) (0x49 ∷ 0 ∷ []) ∷ H.stoppedAt 2 ∷ []
+  pub keepalive-goes-on :
+      reading (some 0x10) false (keepAliveBytes ++ beginAt 1) (takes 1000 ∷ free ∷ free ∷ []) ≡ H.keepAlive 0x10 (pos 0) false ∷ begun 1 ∷ []
+  -- "All are handed on, save some of the last whole message's"
+  pub all-but-the-last : reading none false (beginAt 1 ++ beginAt 2) (takes 51 ∷ takes 51 ∷ []) ≡ begun 1 ∷ []
+  -- "after the step that took its last byte, the first step not refused with 2 to 5 handles it, and each later one offers its next event"
+  pub not-handled : reading none false (beginAt 1) (takes 51 ∷ []) ≡ []
+  pub not-offered : reading none false (beginAt 1) (takes 51 ∷ free ∷ []) ≡ []
+  pub offered-then : reading none false (beginAt 1) (takes 51 ∷ free ∷ free ∷ []) ≡ begun 1 ∷ []
+  pub refused-do-neither : reading none false (beginAt 1) (takes 51 ∷ isRefused 5 ∷ free ∷ isRefused 2 ∷ isRefused 3 ∷ isRefused 4 ∷ []) ≡ []
+  -- "A free queue takes it"
+  pub taken-at-once : reading none false (beginAt 1) (takes 51 ∷ full-stop ∷ free-stop ∷ []) ≡ begun 1 ∷ []
+  -- "but with stop seen now, and the queue full now or at an earlier offer of it, it is dropped and the rest cut off"
+  pub dropped-now : reading none false (beginAt 1) (takes 51 ∷ free ∷ full-stop ∷ free ∷ []) ≡ []
+  pub dropped-later : reading none false (beginAt 1) (takes 51 ∷ free ∷ full ∷ free-stop ∷ free ∷ []) ≡ []
+  pub rest-cut-off : reading (some 1) false (beginAt 1) (takes 51 ∷ free ∷ free ∷ full-stop ∷ free ∷ []) ≡ begun 1 ∷ []
+  -- "Else it waits"
+  pub still-waits : reading none false (beginAt 1) (takes 51 ∷ free ∷ full ∷ full ∷ []) ≡ []
+  pub waited : reading none false (beginAt 1) (takes 51 ∷ free ∷ full ∷ full ∷ free ∷ []) ≡ begun 1 ∷ []
+
+-- each by computing the definitions
+pub plain-cases : PlainCases
+unfolding be beFrom beBytes fieldAt signed unsigned indexOf framed frontOf cutFrom cutOf copyDataOf xlogData boundaryOf beginBytes commitBytes messageBytes wholeOnes behindOpening given spanOf behindByte acceptedOnes offered takenOf plainOf
+plain-cases =
+    record {
+      counts-add-up = refl;
+      next-bytes = refl;
+      behind-opening = refl;
+      never-opened = refl;
+      error-in-opening = refl;
+      unfinished = refl;
+      length-three = refl;
+      over-the-limit = refl;
+      server-error = refl;
+      others-skipped = refl;
+      a-commit = refl;
+      a-message = refl;
+      other-data = refl;
+      copy-data-refused = refl;
+      boundary-refused = refl;
+      stop-reached = refl;
+      keepalive-goes-on = refl;
+      all-but-the-last = refl;
+      not-handled = refl;
+      not-offered = refl;
+      offered-then = refl;
+      refused-do-neither = refl;
+      taken-at-once = refl;
+      dropped-now = refl;
+      dropped-later = refl;
+      rest-cut-off = refl;
+      still-waits = refl;
+      waited = refl;
+    }
