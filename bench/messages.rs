@@ -127,26 +127,48 @@ fn stream(size: usize) -> Vec<u8> {
 }
 
 fn best(mut run: impl FnMut()) -> f64 {
-    (0..7).map(|_| {
-        let t = Instant::now();
-        run();
-        t.elapsed().as_secs_f64()
-    }).fold(f64::MAX, f64::min)
+    (0..7)
+        .map(|_| {
+            let t = Instant::now();
+            run();
+            t.elapsed().as_secs_f64()
+        })
+        .fold(f64::MAX, f64::min)
 }
 
 fn main() {
-    println!("{:>8} {:>9} {:>12} {:>9} {:>9} {:>9} {:>7} {:>9}", "bytes", "messages", "ours msg/s", "ours MB/s", "Rust MB/s", "memcpy", "ratio", "ours ns");
+    println!(
+        "{:>8} {:>9} {:>12} {:>9} {:>9} {:>9} {:>7} {:>9}",
+        "bytes", "messages", "ours msg/s", "ours MB/s", "Rust MB/s", "memcpy", "ratio", "ours ns"
+    );
     for size in [30usize, 50, 64, 100, 300, 600, 1024, 8192] {
         let bytes = stream(size);
         let mut payload = vec![0u8; LIMIT];
         let a = rattle(&bytes, &mut payload);
         let b = plain(&bytes, &mut payload);
         assert_eq!(a, b, "the two differ");
-        let ours = best(|| { black_box(rattle(black_box(&bytes), &mut payload)); });
-        let rust = best(|| { black_box(plain(black_box(&bytes), &mut payload)); });
+        let ours = best(|| {
+            black_box(rattle(black_box(&bytes), &mut payload));
+        });
+        let rust = best(|| {
+            black_box(plain(black_box(&bytes), &mut payload));
+        });
         let mut copy = vec![0u8; bytes.len()];
-        let mem = best(|| { copy.copy_from_slice(black_box(&bytes)); black_box(&mut copy); });
+        let mem = best(|| {
+            copy.copy_from_slice(black_box(&bytes));
+            black_box(&mut copy);
+        });
         let mb = bytes.len() as f64 / 1e6;
-        println!("{:>8} {:>9} {:>12.0} {:>9.0} {:>9.0} {:>9.0} {:>7.2} {:>9.1}", bytes.len() / a.1, a.1, a.1 as f64 / ours, mb / ours, mb / rust, mb / mem, ours / rust, ours / a.1 as f64 * 1e9);
+        println!(
+            "{:>8} {:>9} {:>12.0} {:>9.0} {:>9.0} {:>9.0} {:>7.2} {:>9.1}",
+            bytes.len() / a.1,
+            a.1,
+            a.1 as f64 / ours,
+            mb / ours,
+            mb / rust,
+            mb / mem,
+            ours / rust,
+            ours / a.1 as f64 * 1e9
+        );
     }
 }

@@ -10,10 +10,7 @@ fn main() {
     };
     let archive = folder.join("libexport.a");
     if !archive.exists() {
-        panic!(
-            "{} is missing: run `rt staticlib export` in the repository",
-            archive.display()
-        );
+        panic!("{} is missing: run `rt staticlib export` in the repository", archive.display());
     }
     println!("cargo:rerun-if-env-changed=RUFFLESQUASH_LIB");
     println!("cargo:rerun-if-changed={}", archive.display());

@@ -122,9 +122,7 @@ impl Vectors {
     }
 }
 
-const LETTERS: [u8; 15] = [
-    b'S', b'C', b'M', b'D', b'H', b'P', b'W', b's', b't', b'c', b'd', b'n', b'F', b'L', b'R',
-];
+const LETTERS: [u8; 15] = [b'S', b'C', b'M', b'D', b'H', b'P', b'W', b's', b't', b'c', b'd', b'n', b'F', b'L', b'R'];
 
 fn part_of(text: &[u8]) -> Option<u64> {
     u64::from_str_radix(std::str::from_utf8(text).ok()?, 16).ok()
@@ -164,17 +162,14 @@ fn error_text(fields: &std::collections::HashMap<u8, Vec<u8>>) -> String {
     }
 }
 
+/// Parts of a position text, with bars between; the first is empty.
+const PARTS: &str = "|0|1|9|a|f|A|F|g|G|+|-|+0|+1|-1|-0|++1|+-1|1+| 1|1 |0x1|1_0|00|16|B374D848|b374d848|FFFFFFFF|100000000|123456789ABCDEF0|\
+    FFFFFFFFFFFFFFFF|ffffffffffffffff|10000000000000000|0FFFFFFFFFFFFFFFF|+FFFFFFFFFFFFFFFF|+10000000000000000|8000000000000000|1FFFFFFFFFFFFFFFF";
+
 fn positions(v: &mut Vectors, draw: &mut Draw) {
     let zeros = "0".repeat(40);
-    let parts: Vec<String> = [
-        "", "0", "1", "9", "a", "f", "A", "F", "g", "G", "+", "-", "+0", "+1", "-1", "-0", "++1", "+-1", "1+", " 1", "1 ", "0x1", "1_0",
-        "00", "16", "B374D848", "b374d848", "FFFFFFFF", "100000000", "123456789ABCDEF0", "FFFFFFFFFFFFFFFF", "ffffffffffffffff",
-        "10000000000000000", "0FFFFFFFFFFFFFFFF", "+FFFFFFFFFFFFFFFF", "+10000000000000000", "8000000000000000", "1FFFFFFFFFFFFFFFF",
-    ]
-    .iter()
-    .map(|s| s.to_string())
-    .chain([zeros.clone(), zeros.clone() + "1", "+".to_string() + &zeros, zeros + "g"])
-    .collect();
+    let parts: Vec<String> =
+        PARTS.split('|').map(String::from).chain([zeros.clone(), zeros.clone() + "1", "+".to_string() + &zeros, zeros + "g"]).collect();
     for hi in &parts {
         for lo in ["0", "", "B374D848", "FFFFFFFFFFFFFFFF", "+1", "x", "10000000000000000"] {
             v.position(format!("{hi}/{lo}").as_bytes());
@@ -268,8 +263,22 @@ fn lossy_edges(v: &mut Vectors) {
 /// Well-formed and ill-formed pieces in any order, then any bytes.
 fn lossy_mixed(v: &mut Vectors, draw: &mut Draw) {
     let pieces: [&[u8]; 16] = [
-        b"a", b"caption", "ä".as_bytes(), "λόγος".as_bytes(), "żółw".as_bytes(), "語".as_bytes(), "😀".as_bytes(), "\u{FFFD}".as_bytes(),
-        &[0x80], &[0xE2, 0x82], &[0xF0, 0x9F, 0x98], &[0xC2], &[0xFF], &[0xED, 0xA0, 0x80], &[0xF4, 0x90], &[0x00],
+        b"a",
+        b"caption",
+        "ä".as_bytes(),
+        "λόγος".as_bytes(),
+        "żółw".as_bytes(),
+        "語".as_bytes(),
+        "😀".as_bytes(),
+        "\u{FFFD}".as_bytes(),
+        &[0x80],
+        &[0xE2, 0x82],
+        &[0xF0, 0x9F, 0x98],
+        &[0xC2],
+        &[0xFF],
+        &[0xED, 0xA0, 0x80],
+        &[0xF4, 0x90],
+        &[0x00],
     ];
     for _ in 0..300 {
         let mut text = Vec::new();

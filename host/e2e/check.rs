@@ -27,17 +27,11 @@ struct Stream {
 impl Stream {
     fn begin(&mut self, xid: u32) {
         self.broken_off += u64::from(self.open.is_some());
-        self.open = Some(Commit {
-            xid,
-            ..Commit::default()
-        });
+        self.open = Some(Commit { xid, ..Commit::default() });
     }
 
     fn commit(&mut self, lsn: u64, end: u64) {
-        let open = self
-            .open
-            .take()
-            .unwrap_or_else(|| fail("a commit without its begin"));
+        let open = self.open.take().unwrap_or_else(|| fail("a commit without its begin"));
         self.commits.push(Commit { lsn, end, ..open });
     }
 
@@ -94,11 +88,7 @@ impl<'a> Reader<'a> {
     }
 
     fn text(&mut self) -> String {
-        let n = self
-            .data
-            .iter()
-            .position(|b| *b == 0)
-            .expect("a text has its end");
+        let n = self.data.iter().position(|b| *b == 0).expect("a text has its end");
         let text = String::from_utf8(self.take(n).to_vec()).expect("UTF-8");
         self.u8();
         text
@@ -126,18 +116,13 @@ fn fail(line: &str) -> ! {
 }
 
 fn unhex(text: &str) -> Vec<u8> {
-    (0..text.len() / 2)
-        .map(|i| u8::from_str_radix(&text[2 * i..2 * i + 2], 16).expect("hexadecimal digits"))
-        .collect()
+    (0..text.len() / 2).map(|i| u8::from_str_radix(&text[2 * i..2 * i + 2], 16).expect("hexadecimal digits")).collect()
 }
 
 // A field of a line of ours: a text without escapes, or a number.
 fn field<'a>(line: &'a str, name: &str) -> &'a str {
     let key = format!("\"{name}\":");
-    let at = line
-        .find(&key)
-        .unwrap_or_else(|| fail(&format!("no {name} in {line}")))
-        + key.len();
+    let at = line.find(&key).unwrap_or_else(|| fail(&format!("no {name} in {line}"))) + key.len();
     let rest = line[at..].trim_start_matches('"');
     &rest[..rest.find(['"', ',', '}']).expect("an end")]
 }
@@ -161,11 +146,7 @@ fn printed(text: &str) -> Stream {
             "data" => stream.change(unhex(field(line, "data"))),
             "message" => {
                 let bytes = message_bytes(field(line, "prefix"), &unhex(field(line, "content")));
-                stream.message(
-                    field(line, "transactional") == "true",
-                    position(line, "lsn"),
-                    bytes,
-                );
+                stream.message(field(line, "transactional") == "true", position(line, "lsn"), bytes);
             }
             "resumed" => {
                 stream.broken_off += u64::from(stream.open.take().is_some());
@@ -191,8 +172,7 @@ fn peeked(text: &str) -> Stream {
                 stream.commit(lsn, reader.u64());
             }
             b'M' => {
-                let (transactional, lsn, prefix) =
-                    (reader.u8() & 1 == 1, reader.u64(), reader.text());
+                let (transactional, lsn, prefix) = (reader.u8() & 1 == 1, reader.u64(), reader.text());
                 let n = reader.u32() as usize;
                 stream.message(transactional, lsn, message_bytes(&prefix, reader.take(n)));
             }
@@ -248,61 +228,33 @@ fn change_row(table: &mut BTreeMap<i64, Vec<String>>, kind: u8, mut reader: Read
 fn compare_commits(ours: &Stream, theirs: &Stream) {
     for (a, b) in ours.commits.iter().zip(&theirs.commits) {
         if a != b {
-            let line = format!(
-                "transactions differ: {} with {} changes, in the database {} with {}",
-                a.xid,
-                a.changes.len(),
-                b.xid,
-                b.changes.len()
-            );
+            let line = format!("transactions differ: {} with {} changes, in the database {} with {}", a.xid, a.changes.len(), b.xid, b.changes.len());
             fail(&line);
         }
     }
     if ours.commits.len() != theirs.commits.len() {
-        fail(&format!(
-            "{} commits, in the database {}",
-            ours.commits.len(),
-            theirs.commits.len()
-        ));
+        fail(&format!("{} commits, in the database {}", ours.commits.len(), theirs.commits.len()));
     }
     if ours.messages != theirs.messages {
-        fail(&format!(
-            "{} messages, in the database {}",
-            ours.messages.len(),
-            theirs.messages.len()
-        ));
+        fail(&format!("{} messages, in the database {}", ours.messages.len(), theirs.messages.len()));
     }
-    if ours
-        .commits
-        .windows(2)
-        .any(|pair| pair[0].end >= pair[1].end)
-    {
+    if ours.commits.windows(2).any(|pair| pair[0].end >= pair[1].end) {
         fail("a commit was printed twice");
     }
 }
 
 fn compare_table(tables: &Tables, name: &str, dump: &str) {
     let empty = BTreeMap::new();
-    let ours: Vec<String> = tables
-        .get(name)
-        .unwrap_or(&empty)
-        .values()
-        .map(|row| row.join("\t"))
-        .collect();
+    let ours: Vec<String> = tables.get(name).unwrap_or(&empty).values().map(|row| row.join("\t")).collect();
     let theirs: Vec<&str> = dump.lines().collect();
     if ours != theirs {
-        fail(&format!(
-            "table {name}: {} rows, in the database {}, or other values",
-            ours.len(),
-            theirs.len()
-        ));
+        fail(&format!("table {name}: {} rows, in the database {}, or other values", ours.len(), theirs.len()));
     }
 }
 
 fn main() {
     let arguments: Vec<String> = env::args().collect();
-    let read =
-        |path: &str| fs::read_to_string(path).unwrap_or_else(|e| fail(&format!("{path}: {e}")));
+    let read = |path: &str| fs::read_to_string(path).unwrap_or_else(|e| fail(&format!("{path}: {e}")));
     let (ours, theirs) = (printed(&read(&arguments[1])), peeked(&read(&arguments[2])));
     compare_commits(&ours, &theirs);
     let mut tables = Tables::new();
@@ -314,12 +266,7 @@ fn main() {
         compare_table(&tables, name, &read(path));
     }
     let changes: usize = ours.commits.iter().map(|commit| commit.changes.len()).sum();
-    let kinds: BTreeSet<char> = ours
-        .commits
-        .iter()
-        .flat_map(|c| &c.changes)
-        .map(|c| c[0] as char)
-        .collect();
+    let kinds: BTreeSet<char> = ours.commits.iter().flat_map(|c| &c.changes).map(|c| c[0] as char).collect();
     println!(
         "{} commits with {changes} changes of kinds {kinds:?}, {} messages outside transactions, {} tables: all equal; {} transactions were broken off and sent again",
         ours.commits.len(),

@@ -49,12 +49,7 @@ const HEAD: usize = 43;
 
 impl Messages {
     fn new(startup: bool) -> Messages {
-        Messages {
-            header: Vec::new(),
-            head: Vec::new(),
-            left: 0,
-            startup,
-        }
+        Messages { header: Vec::new(), head: Vec::new(), left: 0, startup }
     }
 
     fn within(&self) -> bool {
@@ -111,12 +106,7 @@ fn to_server(mut client: TcpStream, mut server: TcpStream, account: &Mutex<Accou
 }
 
 // The server's bytes, so many of them where the connection is to be cut.
-fn to_client(
-    mut server: TcpStream,
-    mut client: TcpStream,
-    mut limit: Option<usize>,
-    account: &Mutex<Account>,
-) {
+fn to_client(mut server: TcpStream, mut client: TcpStream, mut limit: Option<usize>, account: &Mutex<Account>) {
     let confirmed = account.lock().expect("no thread fails").confirmed;
     let mut messages = Messages::new(false);
     let mut buffer = [0; 8192];
@@ -128,12 +118,7 @@ fn to_client(
         limit = limit.map(|left| left - n);
         messages.feed(&buffer[..n], |tag, head| {
             // XLogData with a Commit: its end stands behind 25 bytes of XLogData, the letter, a flag and the commit's position.
-            if tag == b'd'
-                && head.len() == HEAD
-                && head[0] == b'w'
-                && head[25] == b'C'
-                && number(&head[35..43]) <= confirmed
-            {
+            if tag == b'd' && head.len() == HEAD && head[0] == b'w' && head[25] == b'C' && number(&head[35..43]) <= confirmed {
                 account.lock().expect("no thread fails").again += 1;
             }
         });
@@ -151,12 +136,7 @@ fn to_client(
     let _ = server.shutdown(Shutdown::Both);
 }
 
-fn pass(
-    client: TcpStream,
-    port: u16,
-    limit: Option<usize>,
-    account: &Arc<Mutex<Account>>,
-) -> std::io::Result<()> {
+fn pass(client: TcpStream, port: u16, limit: Option<usize>, account: &Arc<Mutex<Account>>) -> std::io::Result<()> {
     let server = TcpStream::connect(("127.0.0.1", port))?;
     server.set_nodelay(true)?;
     client.set_nodelay(true)?;
@@ -173,11 +153,7 @@ fn main() {
     let (server_port, cuts, mut random) = (parse(1) as u16, parse(3), parse(4) | 1);
     let listener = TcpListener::bind(("127.0.0.1", 0)).expect("a free port");
     let port = listener.local_addr().expect("a bound socket").port();
-    let account = Arc::new(Mutex::new(Account {
-        path: arguments[2].clone(),
-        port,
-        ..Account::default()
-    }));
+    let account = Arc::new(Mutex::new(Account { path: arguments[2].clone(), port, ..Account::default() }));
     account.lock().expect("no thread fails").save();
     for client in listener.incoming().flatten() {
         random ^= random << 13;
@@ -190,13 +166,7 @@ fn main() {
         };
         // From a few bytes, in the startup, to about 260,000; small ones are as likely as large ones. The first stream begins well.
         let spread = (random >> 8) as usize % (1 << (10 + random % 9));
-        let limit = cut.map(|count| {
-            if count == 1 {
-                20_000 + spread
-            } else {
-                300 + spread
-            }
-        });
+        let limit = cut.map(|count| if count == 1 { 20_000 + spread } else { 300 + spread });
         // A server that is down: the client is closed.
         let _ = pass(client, server_port, limit, &account);
     }

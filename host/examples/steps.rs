@@ -23,11 +23,7 @@ fn transaction(rows: usize, size: usize) -> Vec<u8> {
 
 fn measure(size: usize) {
     let stream = transaction(1000, size).repeat(20_000_000 / (1002 * (size + 30)) + 1);
-    let settings = Settings {
-        max_message_size: 65_536,
-        status_interval: Duration::from_secs(10),
-        ..Settings::default()
-    };
+    let settings = Settings { max_message_size: 65_536, status_interval: Duration::from_secs(10), ..Settings::default() };
     let mut run = Run::already_open(&settings, Lsn(0)).expect("short intervals");
     let mut payload = vec![0; settings.payload_len()];
     let mut out = [0; STEP_OUTPUT];
@@ -35,13 +31,7 @@ fn measure(size: usize) {
     let began = Instant::now();
     while at < stream.len() || run.state() != State::Waiting {
         moment += 1;
-        let input = Input {
-            moment: Moment(moment),
-            client_time: 0,
-            stop: false,
-            queue: Queue::Free,
-            ended: false,
-        };
+        let input = Input { moment: Moment(moment), client_time: 0, stop: false, queue: Queue::Free, ended: false };
         // A host's buffer holds a piece of the stream.
         let unread = &stream[at..stream.len().min(at + 131_072)];
         let step = run.step(&input, unread, &mut payload, &mut out);

@@ -74,9 +74,6 @@ fn some(moment: u64) -> Option<Moment> {
 
 impl fmt::Debug for ProgressCell {
     fn fmt(&self, f: &mut fmt::Formatter<'_>) -> fmt::Result {
-        f.debug_struct("ProgressCell")
-            .field("position", &self.load())
-            .field("pending_since", &self.pending_since())
-            .finish_non_exhaustive()
+        f.debug_struct("ProgressCell").field("position", &self.load()).field("pending_since", &self.pending_since()).finish_non_exhaustive()
     }
 }

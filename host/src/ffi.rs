@@ -56,20 +56,11 @@ extern "C" {
         written: *mut u64,
     ) -> u64;
 
-    pub fn rufflesquash_already_open(
-        settings: *const [u64; SETTINGS_WORDS],
-        start: u64,
-        run: *mut [u64; RUN_WORDS],
-    ) -> u64;
+    pub fn rufflesquash_already_open(settings: *const [u64; SETTINGS_WORDS], start: u64, run: *mut [u64; RUN_WORDS]) -> u64;
 
     pub fn rufflesquash_report(run: *mut [u64; RUN_WORDS], position: u64, moment: u64);
 
-    pub fn rufflesquash_next_step(
-        run: *const [u64; RUN_WORDS],
-        payload_len: usize,
-        queue: u64,
-        next: *mut [u64; 2],
-    );
+    pub fn rufflesquash_next_step(run: *const [u64; RUN_WORDS], payload_len: usize, queue: u64, next: *mut [u64; 2]);
 
     pub fn rufflesquash_state(run: *const [u64; RUN_WORDS]) -> u64;
 
@@ -81,31 +72,13 @@ extern "C" {
 
     pub fn rufflesquash_error_part(run: *const [u64; RUN_WORDS], part: *mut [u64; 2]);
 
-    pub fn rufflesquash_lossy(
-        text: *const u8,
-        text_len: usize,
-        out: *mut u8,
-        out_len: usize,
-        written: *mut u64,
-    ) -> u64;
+    pub fn rufflesquash_lossy(text: *const u8, text_len: usize, out: *mut u8, out_len: usize, written: *mut u64) -> u64;
 
-    pub fn rufflesquash_error_text(
-        payload: *const u8,
-        payload_len: usize,
-        out: *mut u8,
-        out_len: usize,
-        written: *mut u64,
-    ) -> u64;
+    pub fn rufflesquash_error_text(payload: *const u8, payload_len: usize, out: *mut u8, out_len: usize, written: *mut u64) -> u64;
 
-    pub fn rufflesquash_parse_position(text: *const u8, text_len: usize, position: *mut u64)
-        -> u64;
+    pub fn rufflesquash_parse_position(text: *const u8, text_len: usize, position: *mut u64) -> u64;
 
-    pub fn rufflesquash_display_position(
-        position: u64,
-        out: *mut u8,
-        out_len: usize,
-        written: *mut u64,
-    ) -> u64;
+    pub fn rufflesquash_display_position(position: u64, out: *mut u8, out_len: usize, written: *mut u64) -> u64;
 
     pub fn rufflesquash_cell_new(start: u64, timed: bool, cell: *mut [u64; CELL_WORDS]);
 
@@ -113,16 +86,11 @@ extern "C" {
 
     pub fn rufflesquash_cell_pending_since(cell: *const [u64; CELL_WORDS]) -> u64;
 
-    pub fn rufflesquash_cell_raise(cell: *mut [u64; CELL_WORDS], position: u64, moment: u64)
-        -> u64;
+    pub fn rufflesquash_cell_raise(cell: *mut [u64; CELL_WORDS], position: u64, moment: u64) -> u64;
 
     pub fn rufflesquash_cell_take_signal(cell: *mut [u64; CELL_WORDS]) -> u64;
 
-    pub fn rufflesquash_cell_take_pending(
-        cell: *mut [u64; CELL_WORDS],
-        sent: u64,
-        loaded_at: u64,
-    ) -> u64;
+    pub fn rufflesquash_cell_take_pending(cell: *mut [u64; CELL_WORDS], sent: u64, loaded_at: u64) -> u64;
 
     pub fn rufflesquash_cell_carry_pending(cell: *mut [u64; CELL_WORDS], since: u64);
 
@@ -130,10 +98,5 @@ extern "C" {
 
     pub fn rufflesquash_data_row(payload: *const u8, payload_len: usize, columns: *mut u64) -> u64;
 
-    pub fn rufflesquash_column(
-        payload: *const u8,
-        payload_len: usize,
-        index: usize,
-        column: *mut [u64; 3],
-    );
+    pub fn rufflesquash_column(payload: *const u8, payload_len: usize, index: usize, column: *mut [u64; 3]);
 }

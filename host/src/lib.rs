@@ -30,9 +30,7 @@ pub use cell::ProgressCell;
 pub use refusal::Refusal;
 pub use run::Run;
 pub use startup::{AuthRequest, Column, DataRow};
-pub use types::{
-    Event, Input, LastStatus, Lsn, Metrics, Moment, NextStep, Queue, Settings, State, Step,
-};
+pub use types::{Event, Input, LastStatus, Lsn, Metrics, Moment, NextStep, Queue, Settings, State, Step};
 
 /// The shortest output that a step takes.
 pub const STEP_OUTPUT: usize = 39;
@@ -52,14 +50,6 @@ pub fn error_text(payload: &[u8], out: &mut [u8]) -> Result<usize, Refusal> {
 fn written(write: ffi::Writing, from: &[u8], out: &mut [u8]) -> Result<usize, Refusal> {
     let mut written = 0;
     // SAFETY: both slices are lent whole and do not overlap.
-    let number = unsafe {
-        write(
-            from.as_ptr(),
-            from.len(),
-            out.as_mut_ptr(),
-            out.len(),
-            &mut written,
-        )
-    };
+    let number = unsafe { write(from.as_ptr(), from.len(), out.as_mut_ptr(), out.len(), &mut written) };
     Refusal::checked(number).map(|()| written as usize)
 }

@@ -25,13 +25,7 @@ impl Run {
         start: Lsn,
         out: &mut [u8],
     ) -> Result<(Run, usize), Refusal> {
-        let names: Vec<ffi::Bytes> = publications
-            .iter()
-            .map(|name| ffi::Bytes {
-                at: name.as_ptr(),
-                len: name.len(),
-            })
-            .collect();
+        let names: Vec<ffi::Bytes> = publications.iter().map(|name| ffi::Bytes { at: name.as_ptr(), len: name.len() }).collect();
         let mut words = [0; ffi::RUN_WORDS];
         let mut written = 0;
         // SAFETY: every slice is lent whole, the names live as long as the call, and nothing overlaps `out` or the run.
@@ -57,8 +51,7 @@ impl Run {
     pub fn already_open(settings: &Settings, start: Lsn) -> Result<Run, Refusal> {
         let mut words = [0; ffi::RUN_WORDS];
         // SAFETY: both arrays have the lengths that the function names.
-        let number =
-            unsafe { ffi::rufflesquash_already_open(&settings.words(), start.0, &mut words) };
+        let number = unsafe { ffi::rufflesquash_already_open(&settings.words(), start.0, &mut words) };
         Refusal::checked(number).map(|()| Run { words })
     }
 
@@ -66,43 +59,20 @@ impl Run {
     ///
     /// `payload` has at least [`Settings::payload_len`] bytes and is lent unchanged to every step of the run: it keeps what was read of a
     /// message. `out` has at least [`crate::STEP_OUTPUT`] bytes; what a step writes there is to be sent before the next.
-    pub fn step<'a>(
-        &mut self,
-        input: &Input,
-        unread: &[u8],
-        payload: &'a mut [u8],
-        out: &mut [u8],
-    ) -> Step<'a> {
+    pub fn step<'a>(&mut self, input: &Input, unread: &[u8], payload: &'a mut [u8], out: &mut [u8]) -> Step<'a> {
         self.stepped(false, input, unread, payload, out)
     }
 
     /// Up to four steps with the same input, until one has a refusal, an event or bytes to send: what it answers, with all bytes taken.
     ///
     /// Four steps hand on a message that lies whole in `unread`; in a drain that is made at once and takes a third of their time.
-    pub fn advance<'a>(
-        &mut self,
-        input: &Input,
-        unread: &[u8],
-        payload: &'a mut [u8],
-        out: &mut [u8],
-    ) -> Step<'a> {
+    pub fn advance<'a>(&mut self, input: &Input, unread: &[u8], payload: &'a mut [u8], out: &mut [u8]) -> Step<'a> {
         self.stepped(true, input, unread, payload, out)
     }
 
     #[inline]
-    fn stepped<'a>(
-        &mut self,
-        at_once: bool,
-        input: &Input,
-        unread: &[u8],
-        payload: &'a mut [u8],
-        out: &mut [u8],
-    ) -> Step<'a> {
-        let call = if at_once {
-            ffi::rufflesquash_advance
-        } else {
-            ffi::rufflesquash_step
-        };
+    fn stepped<'a>(&mut self, at_once: bool, input: &Input, unread: &[u8], payload: &'a mut [u8], out: &mut [u8]) -> Step<'a> {
+        let call = if at_once { ffi::rufflesquash_advance } else { ffi::rufflesquash_step };
         let mut answer = [0; ffi::ANSWER_WORDS];
         // SAFETY: every slice is lent whole, and exclusive references do not overlap.
         unsafe {
@@ -185,10 +155,7 @@ impl Run {
         let mut status = [0; 3];
         // SAFETY: both arrays have the lengths that the function names.
         unsafe { ffi::rufflesquash_last_sent(&self.words, &mut status) };
-        (status[0] != 0).then_some(LastStatus {
-            position: Lsn(status[1]),
-            at: Moment(status[2]),
-        })
+        (status[0] != 0).then_some(LastStatus { position: Lsn(status[1]), at: Moment(status[2]) })
     }
 
     /// The payload of the server's error that ended the run, where one did, from the payload buffer of its steps.

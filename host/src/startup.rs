@@ -22,10 +22,7 @@ impl<'a> AuthRequest<'a> {
             ffi::rufflesquash_auth_request(payload.as_ptr(), payload.len(), &mut answer);
         }
         let [number, code, from, len] = answer;
-        Refusal::checked(number).map(|()| AuthRequest {
-            code: code as i64 as i32,
-            rest: part(payload, from, len),
-        })
+        Refusal::checked(number).map(|()| AuthRequest { code: code as i64 as i32, rest: part(payload, from, len) })
     }
 }
 
@@ -52,12 +49,8 @@ impl<'a> DataRow<'a> {
     pub fn parse(payload: &'a [u8]) -> Result<DataRow<'a>, Refusal> {
         let mut columns = 0;
         // SAFETY: the slice is lent whole.
-        let number =
-            unsafe { ffi::rufflesquash_data_row(payload.as_ptr(), payload.len(), &mut columns) };
-        Refusal::checked(number).map(|()| DataRow {
-            payload,
-            columns: columns as usize,
-        })
+        let number = unsafe { ffi::rufflesquash_data_row(payload.as_ptr(), payload.len(), &mut columns) };
+        Refusal::checked(number).map(|()| DataRow { payload, columns: columns as usize })
     }
 
     /// How many columns the row has.

@@ -19,8 +19,7 @@ impl Lsn {
     pub fn parse(text: &[u8]) -> Result<Lsn, Refusal> {
         let mut position = 0;
         // SAFETY: the slice is lent whole.
-        let number =
-            unsafe { ffi::rufflesquash_parse_position(text.as_ptr(), text.len(), &mut position) };
+        let number = unsafe { ffi::rufflesquash_parse_position(text.as_ptr(), text.len(), &mut position) };
         Refusal::checked(number).map(|()| Lsn(position))
     }
 
@@ -28,9 +27,7 @@ impl Lsn {
     pub fn write(self, out: &mut [u8]) -> Result<usize, Refusal> {
         let mut written = 0;
         // SAFETY: the slice is lent whole.
-        let number = unsafe {
-            ffi::rufflesquash_display_position(self.0, out.as_mut_ptr(), out.len(), &mut written)
-        };
+        let number = unsafe { ffi::rufflesquash_display_position(self.0, out.as_mut_ptr(), out.len(), &mut written) };
         Refusal::checked(number).map(|()| written as usize)
     }
 }
@@ -182,37 +179,15 @@ impl State {
 #[allow(missing_docs)]
 pub enum Event<'a> {
     /// The server's end of log.
-    KeepAlive {
-        wal_end: Lsn,
-        server_time: i64,
-        reply_requested: bool,
-    },
+    KeepAlive { wal_end: Lsn, server_time: i64, reply_requested: bool },
     /// A transaction begins.
-    Begin {
-        final_lsn: Lsn,
-        commit_time: i64,
-        xid: u32,
-    },
+    Begin { final_lsn: Lsn, commit_time: i64, xid: u32 },
     /// A transaction ends.
-    Commit {
-        lsn: Lsn,
-        end_lsn: Lsn,
-        commit_time: i64,
-    },
+    Commit { lsn: Lsn, end_lsn: Lsn, commit_time: i64 },
     /// A logical message; [`crate::lossy`] makes a text of its prefix.
-    Message {
-        transactional: bool,
-        lsn: Lsn,
-        prefix: &'a [u8],
-        content: &'a [u8],
-    },
+    Message { transactional: bool, lsn: Lsn, prefix: &'a [u8], content: &'a [u8] },
     /// Any other data of the plugin.
-    XLogData {
-        wal_start: Lsn,
-        wal_end: Lsn,
-        server_time: i64,
-        data: &'a [u8],
-    },
+    XLogData { wal_start: Lsn, wal_end: Lsn, server_time: i64, data: &'a [u8] },
     /// The stop position was reached; the run ends with this event.
     StoppedAt { reached: Lsn },
 }
@@ -224,33 +199,11 @@ impl<'a> Event<'a> {
             return None;
         };
         Some(match kind {
-            1 => Event::KeepAlive {
-                wal_end: Lsn(a),
-                server_time: b as i64,
-                reply_requested: c != 0,
-            },
-            2 => Event::Begin {
-                final_lsn: Lsn(a),
-                commit_time: b as i64,
-                xid: c as u32,
-            },
-            3 => Event::Commit {
-                lsn: Lsn(a),
-                end_lsn: Lsn(b),
-                commit_time: c as i64,
-            },
-            4 => Event::Message {
-                transactional: a != 0,
-                lsn: Lsn(b),
-                prefix: part(payload, c, d),
-                content: part(payload, e, f),
-            },
-            5 => Event::XLogData {
-                wal_start: Lsn(a),
-                wal_end: Lsn(b),
-                server_time: c as i64,
-                data: part(payload, d, e),
-            },
+            1 => Event::KeepAlive { wal_end: Lsn(a), server_time: b as i64, reply_requested: c != 0 },
+            2 => Event::Begin { final_lsn: Lsn(a), commit_time: b as i64, xid: c as u32 },
+            3 => Event::Commit { lsn: Lsn(a), end_lsn: Lsn(b), commit_time: c as i64 },
+            4 => Event::Message { transactional: a != 0, lsn: Lsn(b), prefix: part(payload, c, d), content: part(payload, e, f) },
+            5 => Event::XLogData { wal_start: Lsn(a), wal_end: Lsn(b), server_time: c as i64, data: part(payload, d, e) },
             6 => Event::StoppedAt { reached: Lsn(a) },
             _ => return None,
         })

@@ -31,13 +31,7 @@ impl Draw {
             moment: Moment(*moment),
             client_time: self.word() as i64,
             stop: self.below(400) == 0,
-            queue: [
-                Queue::Free,
-                Queue::Free,
-                Queue::Free,
-                Queue::Full,
-                Queue::Closed,
-            ][self.below(5) as usize],
+            queue: [Queue::Free, Queue::Free, Queue::Free, Queue::Full, Queue::Closed][self.below(5) as usize],
             ended: self.below(400) == 0,
         }
     }
@@ -53,23 +47,12 @@ struct Held {
 
 impl Held {
     fn new(run: Run) -> Held {
-        Held {
-            run,
-            payload: vec![FILL; LIMIT + 3],
-            out: vec![FILL; STEP_OUTPUT + 3],
-        }
+        Held { run, payload: vec![FILL; LIMIT + 3], out: vec![FILL; STEP_OUTPUT + 3] }
     }
 
     fn call(&mut self, at_once: bool, input: &Input, unread: &[u8]) -> Answer {
         let call = if at_once { Run::advance } else { Run::step };
-        call(
-            &mut self.run,
-            input,
-            unread,
-            &mut self.payload,
-            &mut self.out,
-        )
-        .into()
+        call(&mut self.run, input, unread, &mut self.payload, &mut self.out).into()
     }
 
     /// Steps one by one, each with the bytes behind those taken, until one tells something.
@@ -79,8 +62,7 @@ impl Held {
             let mut answer = self.call(false, input, &unread[taken..]);
             taken += answer.taken;
             answer.taken = taken;
-            if left == 0 || answer.refusal.is_some() || answer.event.is_some() || answer.written > 0
-            {
+            if left == 0 || answer.refusal.is_some() || answer.event.is_some() || answer.written > 0 {
                 return answer;
             }
         }
@@ -93,24 +75,14 @@ fn same(held: &mut Held, input: &Input, unread: &[u8]) -> Answer {
     let mut other = held.clone();
     let expected = other.one_by_one(input, unread);
     let answer = held.call(true, input, unread);
-    assert_eq!(
-        (&answer, &*held),
-        (&expected, &other),
-        "{input:?} {unread:02x?}"
-    );
+    assert_eq!((&answer, &*held), (&expected, &other), "{input:?} {unread:02x?}");
     assert_eq!(held.run.as_words(), other.run.as_words());
     answer
 }
 
 /// A moment at which nothing happens.
 fn quiet(moment: u64) -> Input {
-    Input {
-        moment: Moment(moment),
-        client_time: 0,
-        stop: false,
-        queue: Queue::Free,
-        ended: false,
-    }
+    Input { moment: Moment(moment), client_time: 0, stop: false, queue: Queue::Free, ended: false }
 }
 
 #[test]
@@ -120,12 +92,7 @@ fn on_streams() {
     for _ in 0..2_000 {
         let limit = [LIMIT, LIMIT, 60][draw.below(3) as usize];
         let stop_at = (draw.below(3) == 0).then(|| Lsn(draw.below(64)));
-        let s = Settings {
-            max_message_size: limit,
-            stop_at_lsn: stop_at,
-            timing: draw.below(2) == 0,
-            ..settings()
-        };
+        let s = Settings { max_message_size: limit, stop_at_lsn: stop_at, timing: draw.below(2) == 0, ..settings() };
         let mut held = Held::new(Run::already_open(&s, Lsn(1)).unwrap());
         let bytes: Vec<u8> = (0..draw.below(40)).flat_map(|_| draw.message()).collect();
         let (mut at, mut moment) = (0, 1);
@@ -141,10 +108,7 @@ fn on_streams() {
         }
         ends += (held.run.state() == State::Ended) as u64;
     }
-    assert!(
-        events > 10_000 && (500..1_900).contains(&ends),
-        "{events} events, {ends} ends"
-    );
+    assert!(events > 10_000 && (500..1_900).contains(&ends), "{events} events, {ends} ends");
 }
 
 #[test]
@@ -184,26 +148,16 @@ fn hands_on_a_message_at_hand() {
 #[test]
 fn refusals_of_its_own_inputs() {
     let run = Run::already_open(&settings(), Lsn(1)).unwrap();
-    let number =
-        |held: &mut Held, moment| same(held, &quiet(moment), b"").refusal.map(|r| r.number());
-    let mut short = Held {
-        payload: vec![0; LIMIT - 1],
-        ..Held::new(run.clone())
-    };
+    let number = |held: &mut Held, moment| same(held, &quiet(moment), b"").refusal.map(|r| r.number());
+    let mut short = Held { payload: vec![0; LIMIT - 1], ..Held::new(run.clone()) };
     assert_eq!(number(&mut short, 1), Some(3));
-    let mut short = Held {
-        out: vec![0; STEP_OUTPUT - 1],
-        ..Held::new(run.clone())
-    };
+    let mut short = Held { out: vec![0; STEP_OUTPUT - 1], ..Held::new(run.clone()) };
     assert_eq!(number(&mut short, 1), Some(4));
     let mut held = Held::new(run);
     assert_eq!(number(&mut held, 0), Some(5));
     assert_eq!(number(&mut held, 2), None);
     assert_eq!(number(&mut held, 1), Some(5));
-    let stop = Input {
-        stop: true,
-        ..quiet(3)
-    };
+    let stop = Input { stop: true, ..quiet(3) };
     while same(&mut held, &stop, b"").refusal.is_none() {}
     assert_eq!(number(&mut held, 4), Some(2));
 }

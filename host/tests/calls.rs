@@ -9,20 +9,9 @@ use std::time::Duration;
 
 #[test]
 fn opening_writes_the_query() {
-    let s = Settings {
-        binary: true,
-        ..settings()
-    };
+    let s = Settings { binary: true, ..settings() };
     let mut out = [FILL; 256];
-    let (run, n) = Run::open(
-        &s,
-        b"slot",
-        &[b"a'b", b"c"],
-        Lsn(0x1_0000_0002),
-        Lsn(7),
-        &mut out,
-    )
-    .unwrap();
+    let (run, n) = Run::open(&s, b"slot", &[b"a'b", b"c"], Lsn(0x1_0000_0002), Lsn(7), &mut out).unwrap();
     let text = "START_REPLICATION SLOT slot LOGICAL 1/2 (proto_version '1', publication_names 'a''b,c', messages 'true', binary 'true')\0";
     assert_eq!(out[..n], message(b'Q', text.as_bytes()));
     assert!(out[n..].iter().all(|&b| b == FILL));
@@ -44,49 +33,20 @@ fn a_stream_is_opened_and_read() {
     .concat();
     let mut fed = Fed::opening(&bytes);
     let expected = [
-        Event::Begin {
-            final_lsn: Lsn(0x20),
-            commit_time: -5,
-            xid: 77,
-        },
-        Event::XLogData {
-            wal_start: Lsn(1),
-            wal_end: Lsn(2),
-            server_time: -3,
-            data: b"Rdata",
-        },
-        Event::Message {
-            transactional: true,
-            lsn: Lsn(9),
-            prefix: b"pre\xff",
-            content: b"abc",
-        },
-        Event::Commit {
-            lsn: Lsn(0x20),
-            end_lsn: Lsn(0x28),
-            commit_time: 6,
-        },
-        Event::KeepAlive {
-            wal_end: Lsn(0x30),
-            server_time: -9,
-            reply_requested: false,
-        },
+        Event::Begin { final_lsn: Lsn(0x20), commit_time: -5, xid: 77 },
+        Event::XLogData { wal_start: Lsn(1), wal_end: Lsn(2), server_time: -3, data: b"Rdata" },
+        Event::Message { transactional: true, lsn: Lsn(9), prefix: b"pre\xff", content: b"abc" },
+        Event::Commit { lsn: Lsn(0x20), end_lsn: Lsn(0x28), commit_time: 6 },
+        Event::KeepAlive { wal_end: Lsn(0x30), server_time: -9, reply_requested: false },
     ];
     assert_eq!(fed.events(), expected.map(|event| format!("{event:?}")));
     let metrics = fed.run.metrics();
-    assert_eq!(
-        (metrics.events_forwarded, metrics.last_wal_end),
-        (5, Lsn(0x30))
-    );
+    assert_eq!((metrics.events_forwarded, metrics.last_wal_end), (5, Lsn(0x30)));
 }
 
 #[test]
 fn the_same_bytes_in_any_pieces_give_the_same_events() {
-    let bytes = [
-        xlog_data(1, 2, 3, &begin(0x20, -5, 77)),
-        keepalive(0x30, 1, 0),
-    ]
-    .concat();
+    let bytes = [xlog_data(1, 2, 3, &begin(0x20, -5, 77)), keepalive(0x30, 1, 0)].concat();
     let whole = Fed::reading(&bytes).events();
     assert_eq!(whole.len(), 2);
     for size in 1..bytes.len() {
@@ -114,26 +74,17 @@ fn status(position: u64, reply: u8) -> Vec<u8> {
 
 #[test]
 fn a_status_confirms_the_largest_report() {
-    let s = Settings {
-        timing: true,
-        ..settings()
-    };
+    let s = Settings { timing: true, ..settings() };
     let mut fed = Fed::new(Run::already_open(&s, Lsn(0x10)).unwrap(), b"");
     assert_eq!(fed.step().written, 39);
     assert_eq!(fed.out[..39], status(0x10, 0));
     assert!(fed.out[39..].iter().all(|&b| b == FILL));
-    assert_eq!(
-        fed.run.last_sent().map(|l| (l.position, l.at)),
-        Some((Lsn(0x10), Moment(1000)))
-    );
+    assert_eq!(fed.run.last_sent().map(|l| (l.position, l.at)), Some((Lsn(0x10), Moment(1000))));
     fed.run.report(Lsn(0x50), Moment(3000));
     fed.run.report(Lsn(0x40), Moment(4000));
     assert_eq!(fed.run.position(), Lsn(0x50));
     fed.moment = 30_000_000;
-    let answer = (0..9)
-        .map(|_| fed.step())
-        .find(|answer| answer.written > 0)
-        .unwrap();
+    let answer = (0..9).map(|_| fed.step()).find(|answer| answer.written > 0).unwrap();
     assert_eq!(fed.out[..39], status(0x50, 0));
     assert_eq!(answer.waited, Some(Duration::from_nanos(fed.moment - 3000)));
     assert_eq!(fed.run.metrics().last_applied_lsn, Lsn(0x50));
@@ -143,14 +94,8 @@ fn a_status_confirms_the_largest_report() {
 fn a_keepalive_that_asks_is_answered_before_its_event() {
     let mut fed = Fed::reading(&keepalive(0x30, 1, 1));
     fed.step();
-    let answer = (0..9)
-        .map(|_| fed.step())
-        .find(|answer| answer.written > 0)
-        .unwrap();
-    assert_eq!(
-        (fed.out[..39].to_vec(), answer.event),
-        (status(0x10, 1), None)
-    );
+    let answer = (0..9).map(|_| fed.step()).find(|answer| answer.written > 0).unwrap();
+    assert_eq!((fed.out[..39].to_vec(), answer.event), (status(0x10, 1), None));
     assert!(fed.step().event.unwrap().starts_with("KeepAlive"));
     assert_eq!(fed.run.metrics().keepalive_replies, 1);
 }
@@ -174,16 +119,8 @@ fn a_full_queue_stalls_and_a_closed_one_drops() {
 
 #[test]
 fn the_stop_position_ends_a_run_with_an_event() {
-    let s = Settings {
-        stop_at_lsn: Some(Lsn(0x100)),
-        ..settings()
-    };
-    let bytes = [
-        xlog_data(1, 2, 3, &begin(0xFF, 0, 1)),
-        xlog_data(1, 2, 3, &begin(0x100, 0, 2)),
-        xlog_data(1, 2, 3, &begin(0x101, 0, 3)),
-    ]
-    .concat();
+    let s = Settings { stop_at_lsn: Some(Lsn(0x100)), ..settings() };
+    let bytes = [xlog_data(1, 2, 3, &begin(0xFF, 0, 1)), xlog_data(1, 2, 3, &begin(0x100, 0, 2)), xlog_data(1, 2, 3, &begin(0x101, 0, 3))].concat();
     let mut fed = Fed::new(Run::already_open(&s, Lsn(0)).unwrap(), &bytes);
     let mut events = Vec::new();
     while fed.run.state() != State::Ended {
@@ -194,15 +131,7 @@ fn the_stop_position_ends_a_run_with_an_event() {
         }
     }
     assert_eq!(events.len(), 3);
-    assert_eq!(
-        events[2],
-        format!(
-            "{:?}",
-            Event::StoppedAt {
-                reached: Lsn(0x100)
-            }
-        )
-    );
+    assert_eq!(events[2], format!("{:?}", Event::StoppedAt { reached: Lsn(0x100) }));
     assert_eq!(fed.run.error(&fed.payload), None);
 }
 
@@ -256,16 +185,7 @@ fn a_row_has_columns() {
     let payload = [row(&[Some(b"one"), None, Some(b"")]), b"surplus".to_vec()].concat();
     let r = DataRow::parse(&payload).unwrap();
     let columns = [0, 1, 2, 3, usize::MAX].map(|i| r.column(i));
-    assert_eq!(
-        columns,
-        [
-            Column::Value(b"one"),
-            Column::Null,
-            Column::Value(b""),
-            Column::Absent,
-            Column::Absent
-        ]
-    );
+    assert_eq!(columns, [Column::Value(b"one"), Column::Null, Column::Value(b""), Column::Absent, Column::Absent]);
     // A negative number of columns is none.
     let none = DataRow::parse(&[0xFF, 0xFF]).unwrap();
     assert_eq!((none.columns(), none.column(0)), (0, Column::Absent));
@@ -289,10 +209,7 @@ fn a_cell_keeps_the_first_raise_that_no_status_covered() {
     cell.carry_pending(Moment(5));
     cell.carry_pending(Moment(0));
     assert_eq!(cell.pending_since(), Some(Moment(4)));
-    assert_eq!(
-        format!("{cell:?}"),
-        "ProgressCell { position: Lsn(64), pending_since: Some(Moment(4)), .. }"
-    );
+    assert_eq!(format!("{cell:?}"), "ProgressCell { position: Lsn(64), pending_since: Some(Moment(4)), .. }");
 }
 
 #[test]
@@ -319,15 +236,10 @@ fn any_words_are_a_run() {
         fed.moment = draw.word() >> 1;
         for _ in 0..4 {
             let answer = fed.step();
-            assert!(answer
-                .refusal
-                .is_none_or(|r| (2..=19).contains(&r.number())));
+            assert!(answer.refusal.is_none_or(|r| (2..=19).contains(&r.number())));
             assert!(matches!(answer.written, 0 | 5 | 39));
             fed.run.report(Lsn(draw.word()), Moment(draw.word()));
-            let _ = (
-                fed.run.next_step(4096, fed.queue),
-                fed.run.error(&fed.payload),
-            );
+            let _ = (fed.run.next_step(4096, fed.queue), fed.run.error(&fed.payload));
             assert_eq!(fed.run, Run::from_words(*fed.run.as_words()));
             assert!(format!("{:?}", fed.run).starts_with("Run { state: "));
         }

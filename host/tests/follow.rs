@@ -11,9 +11,7 @@ fn follow(port: u16, arguments: &[&str]) -> Output {
     let port = port.to_string();
     let mut command = Command::new(env!("CARGO_BIN_EXE_follow"));
     command.args(["-h", "127.0.0.1", "-p", &port, "-U", "me", "-d", "db"]);
-    command
-        .args(["-S", "s", "--publication", "P"])
-        .args(arguments);
+    command.args(["-S", "s", "--publication", "P"]).args(arguments);
     command.env("PGPASSWORD", "geheim").stdin(Stdio::null());
     command.output().expect("follow runs")
 }
@@ -45,9 +43,7 @@ fn let_in(client: &mut TcpStream) -> String {
     assert_eq!(tag, b'Q');
     // The first connection asks which publications there are.
     if query.starts_with(b"SELECT pubname") {
-        client
-            .write_all(&message(b'D', &row(&[Some(b"P")])))
-            .unwrap();
+        client.write_all(&message(b'D', &row(&[Some(b"P")]))).unwrap();
         client.write_all(&message(b'Z', b"I")).unwrap();
         query = receive(client, false).1;
     }
@@ -72,9 +68,7 @@ fn statuses(client: &mut TcpStream) -> Vec<u64> {
     positions
 }
 
-fn serve<T: Send + 'static>(
-    server: impl FnOnce(TcpListener) -> T + Send + 'static,
-) -> (u16, JoinHandle<T>) {
+fn serve<T: Send + 'static>(server: impl FnOnce(TcpListener) -> T + Send + 'static) -> (u16, JoinHandle<T>) {
     let listener = TcpListener::bind("127.0.0.1:0").unwrap();
     let port = listener.local_addr().unwrap().port();
     (port, thread::spawn(move || server(listener)))
@@ -107,26 +101,11 @@ fn a_cut_and_the_last_confirmation() {
     let (first, again, positions) = server.join().unwrap();
     assert!(first.contains("SLOT s LOGICAL 0/0 ") && first.contains("'\"P\"'"));
     assert!(again.contains("SLOT s LOGICAL 0/108 "));
-    assert_eq!(
-        (positions[0], positions[positions.len() - 1]),
-        (0x108, 0x408)
-    );
+    assert_eq!((positions[0], positions[positions.len() - 1]), (0x108, 0x408));
     let text = String::from_utf8(output.stdout).unwrap();
-    let kinds: Vec<&str> = text
-        .lines()
-        .filter_map(|line| line.split(' ').next())
-        .collect();
+    let kinds: Vec<&str> = text.lines().filter_map(|line| line.split(' ').next()).collect();
     let cut = ["begin", "data", "commit", "begin", "data", "resumed"];
-    let rest = [
-        "begin",
-        "data",
-        "commit",
-        "keepalive",
-        "begin",
-        "data",
-        "commit",
-        "stopped",
-    ];
+    let rest = ["begin", "data", "commit", "keepalive", "begin", "data", "commit", "stopped"];
     assert_eq!(kinds, [&cut[..], &rest[..]].concat());
     assert_eq!(output.status.code(), Some(0));
 }
@@ -137,9 +116,7 @@ fn a_message_over_the_limit_ends_with_7() {
         let (mut client, _) = listener.accept().unwrap();
         let_in(&mut client);
         client.write_all(&transaction(0x100, 1)).unwrap();
-        client
-            .write_all(&xlog_data(0x200, 0x200, 0, &[b'I'; 3000]))
-            .unwrap();
+        client.write_all(&xlog_data(0x200, 0x200, 0, &[b'I'; 3000])).unwrap();
         statuses(&mut client)
     });
     let output = follow(port, &["--max-message-size", "2000"]);
@@ -157,9 +134,7 @@ fn a_publication_that_is_not_there() {
         client.write_all(&message(b'R', &[0; 4])).unwrap();
         client.write_all(&message(b'Z', b"I")).unwrap();
         let (_, query) = receive(&mut client, false);
-        client
-            .write_all(&message(b'D', &row(&[Some(b"Q")])))
-            .unwrap();
+        client.write_all(&message(b'D', &row(&[Some(b"Q")]))).unwrap();
         client.write_all(&message(b'Z', b"I")).unwrap();
         query
     });
@@ -177,21 +152,12 @@ fn failures_have_one_line() {
         receive(&mut client, true);
         client.write_all(&message(b'R', &[0, 0, 0, 10])).unwrap();
     });
-    for (output, status, part) in [
-        (follow(port, &[]), 1, "SCRAM"),
-        (follow(1, &[]), 1, "cannot connect"),
-        (follow(1, &["--status-interval", "x"]), 2, "seconds"),
-    ] {
+    for (output, status, part) in
+        [(follow(port, &[]), 1, "SCRAM"), (follow(1, &[]), 1, "cannot connect"), (follow(1, &["--status-interval", "x"]), 2, "seconds")]
+    {
         let line = String::from_utf8(output.stderr).unwrap();
-        assert_eq!(
-            (output.status.code(), line.lines().count()),
-            (Some(status), 1),
-            "{line}"
-        );
-        assert!(
-            line.starts_with("follow: ") && line.contains(part),
-            "{line}"
-        );
+        assert_eq!((output.status.code(), line.lines().count()), (Some(status), 1), "{line}");
+        assert!(line.starts_with("follow: ") && line.contains(part), "{line}");
     }
     server.join().unwrap();
 }

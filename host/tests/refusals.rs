@@ -14,14 +14,8 @@ fn long_intervals() -> Vec<Settings> {
     [over, Duration::from_secs(u64::MAX)]
         .into_iter()
         .flat_map(|long| {
-            let status = Settings {
-                status_interval: long,
-                ..settings()
-            };
-            let idle = Settings {
-                idle_wakeup_interval: long,
-                ..settings()
-            };
+            let status = Settings { status_interval: long, ..settings() };
+            let idle = Settings { idle_wakeup_interval: long, ..settings() };
             [status, idle]
         })
         .collect()
@@ -36,11 +30,7 @@ fn opening_refuses_an_interval_above_its_limit() {
         assert_eq!(out, [FILL; 256]);
         assert_eq!(Run::already_open(&s, Lsn(0)), Err(Refusal::IntervalTooLong));
     }
-    let longest = Settings {
-        status_interval: DAY,
-        idle_wakeup_interval: DAY,
-        ..settings()
-    };
+    let longest = Settings { status_interval: DAY, idle_wakeup_interval: DAY, ..settings() };
     assert!(Run::already_open(&longest, Lsn(0)).is_ok());
 }
 
@@ -76,10 +66,7 @@ fn refused_unchanged(fed: Fed, refusal: Refusal) {
         let (payload, out) = (&mut other.payload, &mut other.out);
         let step = call(&mut other.run, &fed.input(), &fed.bytes, payload, out);
         assert_eq!(step.refusal, Some(refusal));
-        assert_eq!(
-            (step.taken, step.written, step.event, step.waited),
-            (0, 0, None, None)
-        );
+        assert_eq!((step.taken, step.written, step.event, step.waited), (0, 0, None, None));
         assert_eq!(other.run, fed.run);
         assert_eq!((&other.payload, &other.out), (&fed.payload, &fed.out));
     }
@@ -140,10 +127,7 @@ fn refused_header(header: &[u8], refusal: Refusal) {
         fed.step();
         fed.out.fill(FILL);
         let answer = fed.refused();
-        assert_eq!(
-            (answer.refusal, answer.taken, answer.written),
-            (Some(refusal), 5, 0)
-        );
+        assert_eq!((answer.refusal, answer.taken, answer.written), (Some(refusal), 5, 0));
         assert_eq!(fed.bytes, behind);
         assert!(fed.payload.iter().chain(&fed.out).all(|&b| b == FILL));
         assert_eq!(fed.run.state(), State::Ended);
@@ -170,15 +154,8 @@ fn the_input_can_end_in_a_header_or_a_payload() {
         let mut fed = Fed::reading(&whole[..n]);
         fed.ended = true;
         let answer = fed.refused();
-        let refusal = if n < 5 {
-            Refusal::EofInHeader
-        } else {
-            Refusal::EofInPayload
-        };
-        assert_eq!(
-            (answer.refusal, answer.taken, answer.written),
-            (Some(refusal), 0, 0)
-        );
+        let refusal = if n < 5 { Refusal::EofInHeader } else { Refusal::EofInPayload };
+        assert_eq!((answer.refusal, answer.taken, answer.written), (Some(refusal), 0, 0));
         let came = n.saturating_sub(5);
         assert_eq!(fed.payload[..came], whole[5.min(n)..n]);
         assert!(fed.payload[came..].iter().all(|&b| b == FILL));
@@ -195,10 +172,7 @@ fn refused_message(tag: u8, payload: &[u8], refusal: Refusal) -> Fed {
     assert_eq!(answer.refusal, Some(refusal), "{payload:?}");
     assert_eq!((answer.taken, answer.written, &answer.event), (0, 0, &None));
     assert_eq!(fed.payload[..payload.len()], *payload);
-    assert!(fed.payload[payload.len()..]
-        .iter()
-        .chain(&fed.out)
-        .all(|&b| b == FILL));
+    assert!(fed.payload[payload.len()..].iter().chain(&fed.out).all(|&b| b == FILL));
     assert_eq!(fed.run.state(), State::Ended);
     fed
 }
@@ -212,11 +186,7 @@ fn refused_boundary(data: &[u8], refusal: Refusal) {
 #[test]
 fn malformed_copy_data_is_refused() {
     refused_message(b'd', b"", Refusal::EmptyCopyData);
-    refused_message(
-        b'd',
-        &xlog_data(1, 2, 3, b"")[5..29],
-        Refusal::XLogDataTooShort,
-    );
+    refused_message(b'd', &xlog_data(1, 2, 3, b"")[5..29], Refusal::XLogDataTooShort);
     refused_message(b'd', &keepalive(1, 2, 0)[5..22], Refusal::KeepaliveTooShort);
     refused_message(b'd', b"x", Refusal::UnknownCopyData);
 }
@@ -229,10 +199,7 @@ fn malformed_boundaries_are_refused() {
     refused_boundary(&logical(0, 1, b"p", 0, b"")[..14], Refusal::TruncatedI32);
     refused_boundary(&begin(1, 2, 3)[..16], Refusal::TruncatedI64);
     refused_boundary(&commit(1, 2, 3)[..25], Refusal::TruncatedI64);
-    refused_boundary(
-        &logical(0, 1, b"p", 0, b"")[..11],
-        Refusal::UnterminatedPrefix,
-    );
+    refused_boundary(&logical(0, 1, b"p", 0, b"")[..11], Refusal::UnterminatedPrefix);
     refused_boundary(&logical(0, 1, b"p", 4, b"abc"), Refusal::ContentTooShort);
     refused_boundary(&logical(0, 1, b"p", -1, b"abc"), Refusal::ContentTooShort);
 }
@@ -252,10 +219,7 @@ fn a_server_error_in_opening_takes_its_message() {
     let error = b"Mno slot\0\0";
     let mut fed = Fed::opening(&[message(b'E', error), b"rest".to_vec()].concat());
     let answer = fed.refused();
-    assert_eq!(
-        (answer.refusal, answer.taken),
-        (Some(Refusal::ServerError), 5 + error.len())
-    );
+    assert_eq!((answer.refusal, answer.taken), (Some(Refusal::ServerError), 5 + error.len()));
     assert_eq!(fed.bytes, b"rest");
     assert_eq!(fed.run.error(&fed.payload), Some(&error[..]));
 }
@@ -266,16 +230,10 @@ fn leaves_refuse_long_inputs_before_a_short_output() {
     let mut out = [FILL; 4];
     for leaf in [lossy, error_text] {
         assert_eq!(leaf(&long, &mut out), Err(Refusal::InputTooLong));
-        assert_eq!(
-            leaf(b"Mabcdefghi\0", &mut out),
-            Err(Refusal::OutputTooShort)
-        );
+        assert_eq!(leaf(b"Mabcdefghi\0", &mut out), Err(Refusal::OutputTooShort));
         assert_eq!(out, [FILL; 4]);
     }
-    assert_eq!(
-        Lsn(0x16_B374_D848).write(&mut out),
-        Err(Refusal::OutputTooShort)
-    );
+    assert_eq!(Lsn(0x16_B374_D848).write(&mut out), Err(Refusal::OutputTooShort));
     assert_eq!(out, [FILL; 4]);
 }
 
@@ -285,10 +243,7 @@ fn position_texts_are_refused_in_order() {
     assert_eq!(Lsn::parse(b"x/y"), Err(Refusal::InvalidHighPart));
     assert_eq!(Lsn::parse(b"/1"), Err(Refusal::InvalidHighPart));
     assert_eq!(Lsn::parse(b"1/"), Err(Refusal::InvalidLowPart));
-    assert_eq!(
-        Lsn::parse(b"1/10000000000000000"),
-        Err(Refusal::InvalidLowPart)
-    );
+    assert_eq!(Lsn::parse(b"1/10000000000000000"), Err(Refusal::InvalidLowPart));
 }
 
 #[test]
@@ -309,10 +264,7 @@ fn malformed_rows_are_refused() {
     }
     assert_eq!(DataRow::parse(&whole).map(|r| r.columns()), Ok(3));
     // Of 32,767 columns none is there.
-    assert_eq!(
-        DataRow::parse(&[0x7F, 0xFF]),
-        Err(Refusal::MalformedDataRow)
-    );
+    assert_eq!(DataRow::parse(&[0x7F, 0xFF]), Err(Refusal::MalformedDataRow));
 }
 
 #[test]
@@ -323,10 +275,7 @@ fn refusals_have_numbers_and_one_line_each() {
         let line = refusal.to_string();
         assert!(!line.is_empty() && !line.contains('\n'));
     }
-    assert_eq!(
-        (Refusal::from_number(0), Refusal::from_number(26)),
-        (None, None)
-    );
+    assert_eq!((Refusal::from_number(0), Refusal::from_number(26)), (None, None));
     let error: &dyn std::error::Error = &Refusal::RunEnded;
     assert_eq!(error.to_string(), "the run has ended");
     assert_eq!(Moment(3), Moment(3));

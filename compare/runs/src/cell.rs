@@ -118,6 +118,16 @@ impl fmt::Display for Calls {
     }
 }
 
+/// The numbers of a list: the start, then those of each call.
+fn numbers(list: &mut Calls) -> Vec<&mut u64> {
+    let calls = list.calls.iter_mut().flat_map(|call| match call {
+        Call::Raise(a, b) | Call::TakePending(a, b) => vec![a, b],
+        Call::CarryPending(a) => vec![a],
+        Call::TakeSignal => Vec::new(),
+    });
+    std::iter::once(&mut list.start).chain(calls).collect()
+}
+
 /// Fewer calls, then smaller numbers.
 fn cut_down<A: Cell, B: Cell>(mut list: Calls) -> String {
     let (end, ..) = difference::<A, B>(&list).expect("a difference");
@@ -133,38 +143,15 @@ fn cut_down<A: Cell, B: Cell>(mut list: Calls) -> String {
             i += 1;
         }
     }
-    let smaller = |list: &mut Calls, number: fn(&mut Calls, usize) -> Option<&mut u64>, i: usize| {
-        for less in 0..3 {
+    for i in 0..numbers(&mut list).len() {
+        for less in 0..(*numbers(&mut list)[i]).min(3) {
             let mut other = list.clone();
-            let Some(n) = number(&mut other, i) else { return };
-            if *n <= less {
-                return;
-            }
-            *n = less;
+            *numbers(&mut other)[i] = less;
             if differs(&other) {
-                *list = other;
-                return;
+                list = other;
+                break;
             }
         }
-    };
-    smaller(&mut list, |list, _| Some(&mut list.start), 0);
-    for i in 0..list.calls.len() {
-        smaller(
-            &mut list,
-            |list, i| match &mut list.calls[i] {
-                Call::Raise(n, _) | Call::TakePending(n, _) | Call::CarryPending(n) => Some(n),
-                Call::TakeSignal => None,
-            },
-            i,
-        );
-        smaller(
-            &mut list,
-            |list, i| match &mut list.calls[i] {
-                Call::Raise(_, n) | Call::TakePending(_, n) => Some(n),
-                _ => None,
-            },
-            i,
-        );
     }
     let (_, x, y) = difference::<A, B>(&list).expect("a difference");
     let said = |name: &str, [answer, position, pending]: [u64; 3]| format!("{name}: {answer}, position {position}, pending {pending}");

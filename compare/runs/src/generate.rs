@@ -342,15 +342,52 @@ fn report(draw: &mut Draw, at: u64) -> Happening {
     }
 }
 
+/// How the host of a run behaves.
+struct Habits {
+    taker: u64,
+    /// The rounds in which it stops the run and closes the queue; those behind the last never come.
+    stop_in: u64,
+    close_in: u64,
+    reporting: u64,
+}
+
+impl Habits {
+    fn new(draw: &mut Draw) -> Habits {
+        Habits {
+            taker: draw.below(4),
+            stop_in: if draw.once_in(2) { draw.below(14) } else { 1_000 },
+            close_in: if draw.once_in(6) { draw.below(10) } else { 1_000 },
+            reporting: draw.pick(&[2, 3, 6, 1_000]),
+        }
+    }
+
+    /// What it does in a round.
+    fn does(&self, draw: &mut Draw, round: u64, at: u64) -> Vec<Happening> {
+        let mut what = Vec::new();
+        match self.taker {
+            0 => {}
+            1 => what.push(Happening::Take(1_000)),
+            _ if draw.once_in(2) => what.push(Happening::Take(1 + draw.size(3))),
+            _ => {}
+        }
+        if draw.once_in(self.reporting) {
+            (0..1 + draw.below(2)).for_each(|_| what.push(report(draw, at)));
+        }
+        if draw.once_in(12) {
+            what.push(Happening::Fill(1 + draw.size(3)));
+        }
+        what.extend((round == self.stop_in).then_some(Happening::Stop));
+        what.extend((round == self.close_in).then_some(Happening::Close));
+        what
+    }
+}
+
 fn rounds(draw: &mut Draw, s: &Scenario, pieces: Vec<Vec<u8>>) -> Vec<Round> {
     let mut rounds = Vec::new();
     let mut at = if draw.once_in(3) { gap(draw, s) } else { 0 };
     let mut left: std::collections::VecDeque<Vec<u8>> = pieces.into();
     let at_once = draw.pick(&[1, 1, 2, 3, 100]);
-    let taker = draw.below(4);
-    let stop_in = if draw.once_in(2) { draw.below(14) } else { 1_000 };
-    let close_in = if draw.once_in(6) { draw.below(10) } else { 1_000 };
-    let reporting = draw.pick(&[2, 3, 6, 1_000]);
+    let habits = Habits::new(draw);
     let mut trailing = draw.below(6);
     let mut ends = draw.once_in(3);
     for i in 0..200 {
@@ -362,24 +399,7 @@ fn rounds(draw: &mut Draw, s: &Scenario, pieces: Vec<Vec<u8>>) -> Vec<Round> {
             what.push(Happening::End);
             ends = false;
         }
-        match taker {
-            0 => {}
-            1 => what.push(Happening::Take(1_000)),
-            _ if draw.once_in(2) => what.push(Happening::Take(1 + draw.size(3))),
-            _ => {}
-        }
-        if draw.once_in(reporting) {
-            (0..1 + draw.below(2)).for_each(|_| what.push(report(draw, at)));
-        }
-        if draw.once_in(12) {
-            what.push(Happening::Fill(1 + draw.size(3)));
-        }
-        if i == stop_in {
-            what.push(Happening::Stop);
-        }
-        if i == close_in {
-            what.push(Happening::Close);
-        }
+        what.extend(habits.does(draw, i, at));
         rounds.push(Round::new(at, what));
         if left.is_empty() && !ends {
             if trailing == 0 {
@@ -429,20 +449,22 @@ fn long_drain(draw: &mut Draw, mut s: Scenario) -> Scenario {
     s
 }
 
+/// A few messages, cut once: nowhere, in a header, behind one, behind a message or inside another.
+fn cut_once(draw: &mut Draw) -> [Option<Happening>; 2] {
+    let all: Vec<Vec<u8>> = (0..1 + draw.size(4)).map(|_| good(draw)).collect();
+    let mut whole = all.concat();
+    let first = all[0].len();
+    let cut = draw.pick(&[0, 0, 1, 4, 5, 6, first, first + 1, first + 4, first + 5, first + 6, whole.len()]).min(whole.len());
+    let rest = whole.split_off(cut);
+    [whole, rest].map(|bytes| (!bytes.is_empty()).then_some(Happening::Bytes(bytes)))
+}
+
 /// A run that waits, reads or is stalled, and a moment at which a time is up and several things happen at once.
 fn together(draw: &mut Draw, mut s: Scenario) -> Scenario {
     (s.open, s.limit, s.queue) = (true, 65_536, 1);
     (s.status, s.idle) = (draw.pick(&[2, 3, 4, 6]), draw.pick(&[2, 3, 4, 6, 50]));
-    let all: Vec<Vec<u8>> = (0..1 + draw.size(4)).map(|_| good(draw)).collect();
-    let whole = all.concat();
-    // Where the first piece ends: nowhere, in a header, behind one, behind a message, inside another.
-    let first = all[0].len();
-    let cut = draw.pick(&[0, 0, 1, 4, 5, 6, first, first + 1, first + 4, first + 5, first + 6, whole.len()]).min(whole.len());
-    let mut begin = Vec::new();
-    if cut > 0 {
-        begin.push(Happening::Bytes(whole[..cut].to_vec()));
-    }
-    s.rounds.push(Round::new(0, begin));
+    let [begin, mut rest] = cut_once(draw);
+    s.rounds.push(Round::new(0, Vec::from_iter(begin)));
     let mut at = 0;
     if draw.once_in(2) {
         at += draw.pick(&[0, 1, s.status - 1]);
@@ -450,7 +472,6 @@ fn together(draw: &mut Draw, mut s: Scenario) -> Scenario {
     }
     at = at.max(draw.pick(&[s.status, s.idle, s.idle, s.status + s.idle, 2 * s.status, s.status - 1]));
     let mut what = Vec::new();
-    let mut rest = (cut < whole.len()).then(|| Happening::Bytes(whole[cut..].to_vec()));
     let mut stopped = false;
     for _ in 0..draw.pick(&[1, 1, 2]) {
         what.extend(if draw.once_in(2) { rest.take() } else { None });
@@ -465,20 +486,20 @@ fn together(draw: &mut Draw, mut s: Scenario) -> Scenario {
         s.rounds.push(Round::new(at, std::mem::take(&mut what)));
         at += draw.pick(&[0, 0, 1, s.status, s.idle]);
     }
+    ending(draw, &mut s, at, rest);
+    s
+}
+
+/// What is left of the bytes, and the end: with the last of them where all are there, else behind them.
+fn ending(draw: &mut Draw, s: &mut Scenario, at: u64, rest: Option<Happening>) {
+    let mut what = Vec::from_iter(rest);
     if draw.once_in(2) {
-        // The end comes with the last of it, where all bytes are there; else behind them.
-        what.extend(rest.take());
-        let last = s.rounds.last_mut().unwrap();
-        if what.is_empty() && draw.once_in(2) {
-            last.what.push(Happening::End);
-        } else {
-            what.push(Happening::End);
-        }
+        let with_the_last = what.is_empty() && draw.once_in(2);
+        let round = if with_the_last { &mut s.rounds.last_mut().unwrap().what } else { &mut what };
+        round.push(Happening::End);
     }
-    what.extend(rest.take());
     s.rounds.push(Round::new(at, what));
     s.rounds.push(Round::new(at + s.status.max(s.idle).min(6), vec![Happening::Take(2)]));
-    s
 }
 
 /// What happens while the run is busy: stop, reports and the queue's changes during its calls.

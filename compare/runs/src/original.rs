@@ -136,6 +136,20 @@ impl Wire {
         }
     }
 
+    /// All that was noted, with the events' contents.
+    fn lines(&mut self) -> Vec<(u64, Line)> {
+        self.take(usize::MAX);
+        let (notes, mut taken) = (std::mem::take(&mut self.notes), std::mem::take(&mut self.taken));
+        let mut line = |noted| match noted {
+            Noted::Line(line) => line,
+            Noted::Event => Line::Event(taken.pop_front().expect("as many events as were counted")),
+        };
+        let lines = notes.into_iter().map(|(at, noted)| (at, line(noted))).collect();
+        assert!(taken.is_empty(), "more events than were counted");
+        lines
+    }
+
+    /// Whether the message is written by now.
     fn writes(&mut self, cx: &mut Context<'_>) -> Poll<()> {
         if !self.write_takes.is_zero() {
             let takes = self.write_takes;
@@ -461,7 +475,7 @@ impl Original {
         let progress = Arc::new(SharedProgress::with_timing(Lsn(s.start), s.timing));
         let (stop, stop_seen) = watch::channel(false);
         let (out, queue) = mpsc::channel(s.queue);
-        let wire = Arc::new(Mutex::new(Wire {
+        let wire = Wire {
             begun,
             pieces: VecDeque::from([(AUTHENTICATED.to_vec(), false)]),
             ended: false,
@@ -484,8 +498,15 @@ impl Original {
             queue,
             filling: out.clone(),
             taken: VecDeque::new(),
-        }));
-        let mut state = WorkerState::new(config_of(s, &wire), progress, stop_seen, out, metrics.clone());
+        };
+        let wire = Arc::new(Mutex::new(wire));
+        let state = WorkerState::new(config_of(s, &wire), progress, stop_seen, out, metrics);
+        self.play_rounds(s, wire, state).await
+    }
+
+    async fn play_rounds(&mut self, s: &Scenario, wire: Arc<Mutex<Wire>>, mut state: WorkerState) -> Record {
+        let begun = wire.lock().unwrap().begun;
+        let metrics = wire.lock().unwrap().metrics.clone();
         let mut stream = Stream(wire.clone());
         let mut worker = Worker::new(state.run_on_stream(&mut stream), wire.clone());
         let mut record = Record::default();
@@ -510,15 +531,7 @@ impl Original {
         }
         self.said = worker.outcome.as_ref().and_then(|o| o.as_ref().err()).map(|e| e.to_string());
         drop(worker);
-        let mut wire = wire.lock().unwrap();
-        wire.take(usize::MAX);
-        let (notes, mut taken) = (std::mem::take(&mut wire.notes), std::mem::take(&mut wire.taken));
-        let mut line = |noted| match noted {
-            Noted::Line(line) => line,
-            Noted::Event => Line::Event(taken.pop_front().expect("as many events as were counted")),
-        };
-        record.lines = notes.into_iter().map(|(at, noted)| (at, line(noted))).collect();
-        assert!(taken.is_empty(), "more events than were counted");
+        record.lines = wire.lock().unwrap().lines();
         record
     }
 }

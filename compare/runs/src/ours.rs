@@ -77,15 +77,7 @@ impl Steps for Ours {
 
     fn metrics(&self) -> Metrics {
         let m = self.run.as_ref().expect("a run that was begun").metrics();
-        [
-            m.events_forwarded,
-            m.feedback_sent,
-            m.keepalive_replies,
-            m.stall_count,
-            m.stall_micros_total,
-            m.last_applied_lsn.0,
-            m.last_wal_end.0,
-        ]
+        [m.events_forwarded, m.feedback_sent, m.keepalive_replies, m.stall_count, m.stall_micros_total, m.last_applied_lsn.0, m.last_wal_end.0]
     }
 }
 

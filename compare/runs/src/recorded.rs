@@ -63,8 +63,13 @@ impl Steps for Recorder {
             out.extend((length as u32).to_be_bytes());
             out.push(fill);
         }
-        let server: Vec<u8> =
-            s.rounds.iter().flat_map(|round| &round.what).flat_map(|what| if let Happening::Bytes(b) = what { &b[..] } else { &[] }).copied().collect();
+        let server: Vec<u8> = s
+            .rounds
+            .iter()
+            .flat_map(|round| &round.what)
+            .flat_map(|what| if let Happening::Bytes(b) = what { &b[..] } else { &[] })
+            .copied()
+            .collect();
         out.extend((server.len() as u32).to_be_bytes());
         out.extend(server);
         (self.script, self.place, self.calls, self.reported) = (out, 0, 0, s.start);

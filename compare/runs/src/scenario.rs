@@ -42,6 +42,38 @@ impl Round {
     pub fn new(at: u64, what: Vec<Happening>) -> Round {
         Round { at, what, during: Vec::new() }
     }
+
+    /// What happens between polls is in order; whether the input has ended behind it.
+    fn sound_between(&self, mut ended: bool) -> Result<bool, String> {
+        for what in &self.what {
+            match what {
+                Happening::Bytes(b) if b.is_empty() || b.len() > LONGEST_PIECE => return Err("a piece of no or too many bytes".to_string()),
+                Happening::Bytes(_) | Happening::End if ended => return Err("input behind its end".to_string()),
+                Happening::End => ended = true,
+                Happening::Pass(_) => return Err("time passes between calls by itself".to_string()),
+                Happening::ReportFrom(_, at) if *at > LAST_MOMENT => return Err(format!("the moment {at} lies behind the last, {LAST_MOMENT}")),
+                _ => {}
+            }
+        }
+        Ok(ended)
+    }
+
+    /// What happens during calls is in order; how much time passes in them.
+    fn sound_during(&self) -> Result<u64, String> {
+        let (mut call, mut passed) = (1, 0u64);
+        for (n, what) in &self.during {
+            if *n < call {
+                return Err("calls that are not in order".to_string());
+            }
+            call = *n;
+            match what {
+                Happening::Pass(time) => passed = passed.saturating_add(*time),
+                Happening::Bytes(_) | Happening::End | Happening::ReportFrom(..) => return Err("input or a moment during a call".to_string()),
+                _ => {}
+            }
+        }
+        Ok(passed)
+    }
 }
 
 #[derive(Clone, Debug, PartialEq)]
@@ -103,29 +135,8 @@ impl Scenario {
                 return Err(format!("the moment {} lies before {last}", round.at));
             }
             last = round.at;
-            for what in &round.what {
-                match what {
-                    Happening::Bytes(b) if b.is_empty() || b.len() > LONGEST_PIECE => return Err("a piece of no or too many bytes".to_string()),
-                    Happening::Bytes(_) | Happening::End if ended => return Err("input behind its end".to_string()),
-                    Happening::End => ended = true,
-                    Happening::Pass(_) => return Err("time passes between calls by itself".to_string()),
-                    Happening::ReportFrom(_, at) if *at > LAST_MOMENT => return Err(format!("the moment {at} lies behind the last, {LAST_MOMENT}")),
-                    _ => {}
-                }
-            }
-            let mut call = 1;
-            for (n, what) in &round.during {
-                if *n < call {
-                    return Err("calls that are not in order".to_string());
-                }
-                call = *n;
-                if let Happening::Pass(time) = what {
-                    passed = passed.saturating_add(*time);
-                }
-                if matches!(what, Happening::Bytes(_) | Happening::End | Happening::ReportFrom(..)) {
-                    return Err("input or a moment during a call".to_string());
-                }
-            }
+            ended = round.sound_between(ended)?;
+            passed = passed.saturating_add(round.sound_during()?);
             if last.saturating_add(passed) > LAST_MOMENT {
                 return Err(format!("a moment may lie behind the last, {LAST_MOMENT}"));
             }

@@ -85,27 +85,7 @@ impl<R: Steps> Side for Stepped<R> {
 
     fn run(&mut self, scenario: &Scenario, client_times: &[i64]) -> Record {
         let query = self.run.begin(scenario);
-        let mut host = Host {
-            scenario,
-            most_steps: most_steps(scenario),
-            client_times,
-            statuses: 0,
-            state: if scenario.open { State::Turn } else { State::Opening },
-            held: VecDeque::new(),
-            pieces: VecDeque::new(),
-            ended: false,
-            stop: false,
-            room: scenario.queue,
-            queued: 0,
-            closed: false,
-            last_status: None,
-            wait_began: 0,
-            calls: 0,
-            during: VecDeque::new(),
-            confirmed: None,
-            now: 0,
-            record: Record::default(),
-        };
+        let mut host = Host::new(scenario, client_times);
         if !scenario.open {
             host.record.lines.push((0, Line::Write(query)));
         }
@@ -169,52 +149,42 @@ impl<R: Steps> Stepped<R> {
     /// Makes steps until one does nothing.
     fn settle(&mut self, host: &mut Host) {
         for _ in 0..host.most_steps {
-            let now = host.now;
-            if host.state == State::Ended {
-                return;
-            }
-            let reads = matches!(host.state, State::Opening | State::Reading | State::Waiting);
-            let next = reads && host.held.is_empty();
-            let piece = if next { host.pieces.front().copied() } else { None };
-            let unread: &[u8] = match piece {
-                Some(piece) => piece,
-                None => host.held.make_contiguous(),
-            };
-            let queue = match (host.closed, host.queued < host.room) {
-                (true, _) => Queue::Closed,
-                (_, true) => Queue::Free,
-                _ => Queue::Full,
-            };
-            let input = Input {
-                moment: moment_of(now),
-                client_time: host.client_times.get(host.statuses).copied().unwrap_or(0),
-                stop: host.stop,
-                queue,
-                ended: host.ended && host.pieces.is_empty() && unread.is_empty(),
-            };
-            let answer = self.run.step(&input, unread);
-            self.steps += 1;
-            let up = Up {
-                status: host.last_status.is_none_or(|last| now - last >= host.scenario.status),
-                idle: now - host.wait_began >= host.scenario.idle,
-            };
-            self.coverage.step(host.state, &input, unread, &answer, up);
-            let lines = host.record.lines.len();
-            if let (Some(piece), true) = (piece, answer.taken > 0) {
-                host.record.lines.push((now, Line::Piece(piece.len())));
-                host.held.extend(piece);
-                host.pieces.pop_front();
-            }
-            // An offer to a closed queue drops an event, which does not show where StoppedAt is next.
-            let offers = host.state == State::Offering && queue != Queue::Full;
-            let idle = answer.taken == 0 && answer.state == host.state && answer.written.is_empty() && !offers;
-            host.take_in(answer, now);
-            self.calls(host, lines);
-            if idle && host.state != State::Ended {
+            if host.state == State::Ended || !self.step(host) {
                 return;
             }
         }
         panic!("the run makes steps without end");
+    }
+
+    /// Makes a step; whether it did something.
+    fn step(&mut self, host: &mut Host) -> bool {
+        let (piece, queue, up) = (host.next_piece(), host.queue(), host.up());
+        let unread: &[u8] = match piece {
+            Some(piece) => piece,
+            None => host.held.make_contiguous(),
+        };
+        let input = Input {
+            moment: moment_of(host.now),
+            client_time: host.client_times.get(host.statuses).copied().unwrap_or(0),
+            stop: host.stop,
+            queue,
+            ended: host.ended && host.pieces.is_empty() && unread.is_empty(),
+        };
+        let answer = self.run.step(&input, unread);
+        self.steps += 1;
+        self.coverage.step(host.state, &input, unread, &answer, up);
+        let lines = host.record.lines.len();
+        if let (Some(piece), true) = (piece, answer.taken > 0) {
+            host.record.lines.push((host.now, Line::Piece(piece.len())));
+            host.held.extend(piece);
+            host.pieces.pop_front();
+        }
+        // An offer to a closed queue drops an event, which does not show where StoppedAt is next.
+        let offers = host.state == State::Offering && queue != Queue::Full;
+        let moves = answer.taken > 0 || answer.state != host.state || !answer.written.is_empty() || offers;
+        host.take_in(answer);
+        self.calls(host, lines);
+        moves || host.state == State::Ended
     }
 }
 
@@ -240,7 +210,53 @@ fn call_of(line: &Line) -> Option<Call> {
     }
 }
 
-impl Host<'_> {
+impl<'a> Host<'a> {
+    fn new(scenario: &'a Scenario, client_times: &'a [i64]) -> Self {
+        Host {
+            scenario,
+            most_steps: most_steps(scenario),
+            client_times,
+            statuses: 0,
+            state: if scenario.open { State::Turn } else { State::Opening },
+            held: VecDeque::new(),
+            pieces: VecDeque::new(),
+            ended: false,
+            stop: false,
+            room: scenario.queue,
+            queued: 0,
+            closed: false,
+            last_status: None,
+            wait_began: 0,
+            calls: 0,
+            during: VecDeque::new(),
+            confirmed: None,
+            now: 0,
+            record: Record::default(),
+        }
+    }
+
+    fn queue(&self) -> Queue {
+        match (self.closed, self.queued < self.room) {
+            (true, _) => Queue::Closed,
+            (_, true) => Queue::Free,
+            _ => Queue::Full,
+        }
+    }
+
+    /// What is up at this moment.
+    fn up(&self) -> Up {
+        Up {
+            status: self.last_status.is_none_or(|last| self.now - last >= self.scenario.status),
+            idle: self.now - self.wait_began >= self.scenario.idle,
+        }
+    }
+
+    /// The next piece, where the run reads and holds nothing unread.
+    fn next_piece(&self) -> Option<&'a [u8]> {
+        let reads = matches!(self.state, State::Opening | State::Reading | State::Waiting);
+        self.pieces.front().copied().filter(|_| reads && self.held.is_empty())
+    }
+
     /// Room that comes while a run waits for it is the run's: another producer gets what is left.
     fn fill(&mut self, n: usize, inside: bool) {
         let waits = self.state == State::Offering && !inside;
@@ -268,7 +284,8 @@ impl Host<'_> {
         }
     }
 
-    fn take_in(&mut self, answer: Answer, now: u64) {
+    fn take_in(&mut self, answer: Answer) {
+        let now = self.now;
         self.held.drain(..answer.taken);
         // Of a step's doings the event comes first, save in the answer to a keepalive, where it is a later step's.
         if let Some(event) = answer.event {

@@ -161,24 +161,14 @@ impl Fed {
     }
 
     pub fn input(&self) -> Input {
-        Input {
-            moment: Moment(self.moment),
-            client_time: -7,
-            stop: self.stop,
-            queue: self.queue,
-            ended: self.ended,
-        }
+        Input { moment: Moment(self.moment), client_time: -7, stop: self.stop, queue: self.queue, ended: self.ended }
     }
 
     /// One step, a microsecond later.
     pub fn step(&mut self) -> Answer {
         self.moment += 1000;
         let input = self.input();
-        let answer =
-            Answer::from(
-                self.run
-                    .step(&input, &self.bytes, &mut self.payload, &mut self.out),
-            );
+        let answer = Answer::from(self.run.step(&input, &self.bytes, &mut self.payload, &mut self.out));
         self.bytes.drain(..answer.taken);
         answer
     }
@@ -202,10 +192,7 @@ impl Fed {
             if answer.refusal.is_some() {
                 assert_eq!(at_once, answer.refusal);
                 assert_eq!((&other.bytes, &other.payload), (&self.bytes, &self.payload));
-                assert_eq!(
-                    (&other.out, other.run.state()),
-                    (&self.out, self.run.state())
-                );
+                assert_eq!((&other.out, other.run.state()), (&self.out, self.run.state()));
                 return answer;
             }
         }

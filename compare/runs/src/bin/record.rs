@@ -85,7 +85,8 @@ fn main() {
     let folder = PathBuf::from(std::env::args().nth(1).expect("a folder"));
     let (bytes, lines) = scripts();
     let (records, answers) = leaves();
-    let files: [(&str, &[u8]); 4] = [("replay-stdin", &bytes), ("replay-stdout", lines.as_bytes()), ("leaves-stdin", &records), ("leaves-stdout", &answers)];
+    let files: [(&str, &[u8]); 4] =
+        [("replay-stdin", &bytes), ("replay-stdout", lines.as_bytes()), ("leaves-stdin", &records), ("leaves-stdout", &answers)];
     for (name, contents) in files {
         std::fs::write(folder.join(name), contents).expect("written");
     }

@@ -48,13 +48,7 @@ impl Outbox {
             done: Lsn(0),
         };
         let thread = std::thread::spawn(move || printer.run(receiver));
-        Outbox {
-            sender: Some(sender),
-            thread: Some(thread),
-            shared,
-            events: 0,
-            bytes: 0,
-        }
+        Outbox { sender: Some(sender), thread: Some(thread), shared, events: 0, bytes: 0 }
     }
 
     /// The queue as a step is to find it.
@@ -159,9 +153,7 @@ impl Printer {
                 self.outstanding = false;
                 self.done = self.done.max(*end_lsn);
             }
-            Item::KeepAlive { wal_end, .. } if !self.outstanding => {
-                self.done = self.done.max(*wal_end)
-            }
+            Item::KeepAlive { wal_end, .. } if !self.outstanding => self.done = self.done.max(*wal_end),
             Item::Resumed(_) => self.outstanding = false,
             _ => {}
         }

@@ -17,19 +17,11 @@ pub struct Failure {
 
 impl Failure {
     pub fn new(status: u8, line: impl Into<String>) -> Failure {
-        Failure {
-            status,
-            line: line.into(),
-            again: false,
-        }
+        Failure { status, line: line.into(), again: false }
     }
 
     pub fn cut(line: impl Into<String>) -> Failure {
-        Failure {
-            status: FAILED,
-            line: line.into(),
-            again: true,
-        }
+        Failure { status: FAILED, line: line.into(), again: true }
     }
 
     /// A refusal of the run; the exit status is its number.
@@ -37,14 +29,9 @@ impl Failure {
         let line = format!("refusal {}: {refusal}", refusal.number());
         let advice = match refusal {
             Refusal::EofInHeader | Refusal::EofInPayload => return Failure::cut(line),
-            Refusal::MessageTooLarge => format!(
-                " of {limit} bytes; nothing is lost: follow again with a larger --max-message-size"
-            ),
+            Refusal::MessageTooLarge => format!(" of {limit} bytes; nothing is lost: follow again with a larger --max-message-size"),
             Refusal::InputTooLong => "; name fewer publications".to_string(),
-            _ => {
-                "; the server's bytes are not what the protocol says: is this a PostgreSQL server?"
-                    .to_string()
-            }
+            _ => "; the server's bytes are not what the protocol says: is this a PostgreSQL server?".to_string(),
         };
         Failure::new(refusal.number(), line + &advice)
     }
@@ -86,8 +73,5 @@ fn server_text(payload: &[u8]) -> String {
 
 /// The SQLSTATE of an ErrorResponse's payload, or nothing.
 pub fn sqlstate(payload: &[u8]) -> &[u8] {
-    payload
-        .split(|b| *b == 0)
-        .find_map(|field| field.strip_prefix(b"C"))
-        .unwrap_or(b"")
+    payload.split(|b| *b == 0).find_map(|field| field.strip_prefix(b"C")).unwrap_or(b"")
 }

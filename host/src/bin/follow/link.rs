@@ -49,8 +49,7 @@ impl Link<'_> {
                 Err(e) if e.kind() == ErrorKind::Interrupted => {}
                 Err(e) if e.kind() == ErrorKind::WouldBlock && Instant::now() < until => {
                     let fd = self.stream.as_raw_fd();
-                    self.waiter
-                        .wait(Some((fd, true)), Some(Duration::from_secs(1)));
+                    self.waiter.wait(Some((fd, true)), Some(Duration::from_secs(1)));
                 }
                 Err(e) => return Err(Failure::cut(format!("cannot send: {e}"))),
             }
@@ -69,18 +68,12 @@ impl Link<'_> {
         let mut filled = 0;
         while filled < buffer.len() {
             match self.read(&mut buffer[filled..]) {
-                Some(0) => {
-                    return Err(Failure::cut(
-                        "the server closed the connection while it was opened",
-                    ))
-                }
+                Some(0) => return Err(Failure::cut("the server closed the connection while it was opened")),
                 Some(n) => filled += n,
                 None => {
                     let left = until.saturating_duration_since(Instant::now());
                     if left.is_zero() || sys::stop_requested() {
-                        return Err(Failure::cut(
-                            "the server did not answer while the connection was opened",
-                        ));
+                        return Err(Failure::cut("the server did not answer while the connection was opened"));
                     }
                     self.wait(true, Some(left));
                 }

@@ -47,17 +47,14 @@ fn main() -> ExitCode {
 }
 
 fn follow(options: &Options) -> Result<(), Failure> {
-    let waiter =
-        Waiter::new().map_err(|e| Failure::new(FAILED, format!("cannot wait for signals: {e}")))?;
+    let waiter = Waiter::new().map_err(|e| Failure::new(FAILED, format!("cannot wait for signals: {e}")))?;
     let mut outbox = Outbox::start(options.json);
     let mut totals = Totals::default();
     let mut result = connect_again(options, &waiter, &mut outbox, &mut totals);
     settle(&outbox, &waiter, Some(Duration::from_secs(1)));
     if outbox.settled() {
         if let Err(e) = outbox.finish() {
-            let line = format!(
-                "cannot write to standard output: {e}; follow again where it can be written"
-            );
+            let line = format!("cannot write to standard output: {e}; follow again where it can be written");
             result = Err(Failure::new(FAILED, line));
         }
     }
@@ -72,12 +69,7 @@ fn follow(options: &Options) -> Result<(), Failure> {
 }
 
 // Until the stream ends well or with a failure that does not go away; after a cut a pause that grows while nothing new is confirmed.
-fn connect_again(
-    options: &Options,
-    waiter: &Waiter,
-    outbox: &mut Outbox,
-    totals: &mut Totals,
-) -> Result<(), Failure> {
+fn connect_again(options: &Options, waiter: &Waiter, outbox: &mut Outbox, totals: &mut Totals) -> Result<(), Failure> {
     let settings = settings(options);
     let mut payload = vec![0; settings.payload_len()];
     let clock = Clock::start();
@@ -85,8 +77,7 @@ fn connect_again(
     let mut first = true;
     loop {
         let connected = connect(options, waiter, &mut first);
-        let result = connected
-            .and_then(|link| one_stream(options, link, &mut payload, clock, outbox, totals));
+        let result = connected.and_then(|link| one_stream(options, link, &mut payload, clock, outbox, totals));
         let Err(failure) = result else { return Ok(()) };
         // All that was handed on is printed before more is asked for: the position is then the consumer's.
         settle(outbox, waiter, None);
@@ -99,10 +90,7 @@ fn connect_again(
         if outbox.position() > confirmed {
             (pause, confirmed) = (FIRST_PAUSE, outbox.position());
         }
-        eprintln!(
-            "follow: {failure}; again from {confirmed} in {} ms",
-            pause.as_millis()
-        );
+        eprintln!("follow: {failure}; again from {confirmed} in {} ms", pause.as_millis());
         sleep(waiter, pause);
         pause = (pause * 2).min(LONGEST_PAUSE);
     }
@@ -119,11 +107,7 @@ fn settings(options: &Options) -> Settings {
     }
 }
 
-fn connect<'a>(
-    options: &Options,
-    waiter: &'a Waiter,
-    first: &mut bool,
-) -> Result<Link<'a>, Failure> {
+fn connect<'a>(options: &Options, waiter: &'a Waiter, first: &mut bool) -> Result<Link<'a>, Failure> {
     let mut link = Link::connect(options, waiter)?;
     startup::start(&mut link, options)?;
     if *first {
@@ -136,32 +120,14 @@ fn connect<'a>(
     Ok(link)
 }
 
-fn one_stream(
-    options: &Options,
-    link: Link,
-    payload: &mut [u8],
-    clock: Clock,
-    outbox: &mut Outbox,
-    totals: &mut Totals,
-) -> Result<(), Failure> {
+fn one_stream(options: &Options, link: Link, payload: &mut [u8], clock: Clock, outbox: &mut Outbox, totals: &mut Totals) -> Result<(), Failure> {
     let settings = settings(options);
-    let names: Vec<Vec<u8>> = options
-        .publications
-        .iter()
-        .map(|name| identifier(name))
-        .collect();
+    let names: Vec<Vec<u8>> = options.publications.iter().map(|name| identifier(name)).collect();
     let names: Vec<&[u8]> = names.iter().map(Vec::as_slice).collect();
     let done = outbox.position();
     let mut query = vec![0; QUERY];
-    let (run, n) = Run::open(
-        &settings,
-        options.slot.as_bytes(),
-        &names,
-        done.max(options.startpos),
-        done,
-        &mut query,
-    )
-    .map_err(|refusal| Failure::refused(refusal, options.max_message_size))?;
+    let (run, n) = Run::open(&settings, options.slot.as_bytes(), &names, done.max(options.startpos), done, &mut query)
+        .map_err(|refusal| Failure::refused(refusal, options.max_message_size))?;
     if totals.streams > 0 {
         outbox.hand_on(print::Item::Resumed(done));
     }

@@ -162,11 +162,7 @@ impl Options {
 }
 
 fn local_host(port: u16) -> String {
-    ["/var/run/postgresql", "/tmp"]
-        .into_iter()
-        .find(|folder| Path::new(&socket_path(folder, port)).exists())
-        .unwrap_or("localhost")
-        .to_string()
+    ["/var/run/postgresql", "/tmp"].into_iter().find(|folder| Path::new(&socket_path(folder, port)).exists()).unwrap_or("localhost").to_string()
 }
 
 /// The Unix socket of a server in a folder.
@@ -177,36 +173,26 @@ pub fn socket_path(folder: &str, port: u16) -> String {
 fn port(name: &str, text: &str) -> Result<u16, Failure> {
     match text.parse() {
         Ok(port) if port > 0 => Ok(port),
-        _ => Err(usage(format!(
-            "{name} {text}: a port is a number from 1 to 65535"
-        ))),
+        _ => Err(usage(format!("{name} {text}: a port is a number from 1 to 65535"))),
     }
 }
 
 fn position(name: &str, text: &str) -> Result<Lsn, Failure> {
-    let bad = |r| {
-        usage(format!(
-            "{name} {text}: {r}; a position looks like 16/B374D848"
-        ))
-    };
+    let bad = |r| usage(format!("{name} {text}: {r}; a position looks like 16/B374D848"));
     Lsn::parse(text.as_bytes()).map_err(bad)
 }
 
 fn seconds(name: &str, text: &str) -> Result<Duration, Failure> {
     match text.parse::<f64>() {
         Ok(n) if (0.001..=86_400.0).contains(&n) => Ok(Duration::from_secs_f64(n)),
-        _ => Err(usage(format!(
-            "{name} {text}: give seconds from 0.001 to 86400"
-        ))),
+        _ => Err(usage(format!("{name} {text}: give seconds from 0.001 to 86400"))),
     }
 }
 
 fn size(name: &str, text: &str) -> Result<usize, Failure> {
     match text.parse() {
         Ok(n) if (1024..=1_073_741_824).contains(&n) => Ok(n),
-        _ => Err(usage(format!(
-            "{name} {text}: give bytes from 1024 to 1073741824"
-        ))),
+        _ => Err(usage(format!("{name} {text}: give bytes from 1024 to 1073741824"))),
     }
 }
 
@@ -298,20 +284,12 @@ mod tests {
     #[test]
     fn names_as_in_pg_recvlogical() {
         let short = options("-d db -h ::1 -p 5433 -U me -S s1 --publication p -I 1/2 -E 3/4 -s 2");
-        let long = options("--dbname=db --host=::1 --port=5433 --username=me --slot=s1 --publication=p --startpos=1/2 --endpos=3/4 --status-interval=2");
+        let long =
+            options("--dbname=db --host=::1 --port=5433 --username=me --slot=s1 --publication=p --startpos=1/2 --endpos=3/4 --status-interval=2");
         assert_eq!(short, long);
-        assert_eq!(
-            options("-ddb -h::1 -p5433 -Ume -Ss1 --publication p -I1/2 -E3/4 -s2"),
-            short
-        );
-        assert_eq!(
-            (short.startpos, short.endpos),
-            (Lsn(1 << 32 | 2), Some(Lsn(3 << 32 | 4)))
-        );
-        assert_eq!(
-            options("-U me -S s --publication a --publication b").publications,
-            ["a", "b"]
-        );
+        assert_eq!(options("-ddb -h::1 -p5433 -Ume -Ss1 --publication p -I1/2 -E3/4 -s2"), short);
+        assert_eq!((short.startpos, short.endpos), (Lsn(1 << 32 | 2), Some(Lsn(3 << 32 | 4))));
+        assert_eq!(options("-U me -S s --publication a --publication b").publications, ["a", "b"]);
     }
 
     #[test]
@@ -332,10 +310,7 @@ mod tests {
         ] {
             let failure = line(text).unwrap_err();
             assert_eq!(failure.status, USAGE, "{text}");
-            assert!(
-                failure.line.contains(part) && !failure.line.contains('\n'),
-                "{text}: {failure}"
-            );
+            assert!(failure.line.contains(part) && !failure.line.contains('\n'), "{text}: {failure}");
         }
     }
 

@@ -40,29 +40,9 @@ pub enum Item {
 impl Item {
     pub fn of(event: Event) -> Item {
         match event {
-            Event::KeepAlive {
-                wal_end,
-                server_time,
-                reply_requested: reply,
-            } => Item::KeepAlive {
-                wal_end,
-                time: server_time,
-                reply,
-            },
-            Event::Begin {
-                final_lsn,
-                commit_time: time,
-                xid,
-            } => Item::Begin {
-                final_lsn,
-                time,
-                xid,
-            },
-            Event::Commit {
-                lsn,
-                end_lsn,
-                commit_time: time,
-            } => Item::Commit { lsn, end_lsn, time },
+            Event::KeepAlive { wal_end, server_time, reply_requested: reply } => Item::KeepAlive { wal_end, time: server_time, reply },
+            Event::Begin { final_lsn, commit_time: time, xid } => Item::Begin { final_lsn, time, xid },
+            Event::Commit { lsn, end_lsn, commit_time: time } => Item::Commit { lsn, end_lsn, time },
             Event::StoppedAt { reached } => Item::StoppedAt(reached),
             Event::Message { .. } | Event::XLogData { .. } => Item::with_bytes(event),
         }
@@ -71,28 +51,10 @@ impl Item {
     // The events that have bytes of the server; others have been told apart.
     fn with_bytes(event: Event) -> Item {
         match event {
-            Event::Message {
-                transactional,
-                lsn,
-                prefix,
-                content,
-            } => Item::Message {
-                transactional,
-                lsn,
-                prefix: prefix.to_vec(),
-                content: content.to_vec(),
-            },
-            Event::XLogData {
-                wal_start: start,
-                wal_end: end,
-                server_time: time,
-                data,
-            } => Item::Data {
-                start,
-                end,
-                time,
-                data: data.to_vec(),
-            },
+            Event::Message { transactional, lsn, prefix, content } => {
+                Item::Message { transactional, lsn, prefix: prefix.to_vec(), content: content.to_vec() }
+            }
+            Event::XLogData { wal_start: start, wal_end: end, server_time: time, data } => Item::Data { start, end, time, data: data.to_vec() },
             other => Item::of(other),
         }
     }
@@ -100,9 +62,7 @@ impl Item {
     /// How many bytes of the server it holds.
     pub fn size(&self) -> usize {
         match self {
-            Item::Message {
-                prefix, content, ..
-            } => prefix.len() + content.len(),
+            Item::Message { prefix, content, .. } => prefix.len() + content.len(),
             Item::Data { data, .. } => data.len(),
             _ => 0,
         }
@@ -114,30 +74,13 @@ impl Item {
             Item::KeepAlive { wal_end, time, .. } => {
                 format!("keepalive {wal_end} at {}", date(*time))
             }
-            Item::Begin {
-                final_lsn,
-                time,
-                xid,
-            } => format!("begin {xid} final {final_lsn} at {}", date(*time)),
+            Item::Begin { final_lsn, time, xid } => format!("begin {xid} final {final_lsn} at {}", date(*time)),
             Item::Commit { lsn, end_lsn, time } => {
                 format!("commit {lsn} end {end_lsn} at {}", date(*time))
             }
-            Item::Message {
-                transactional,
-                lsn,
-                prefix,
-                content,
-            } => {
-                let kind = if *transactional {
-                    "transactional"
-                } else {
-                    "immediate"
-                };
-                format!(
-                    "message {lsn} {kind} {} {}",
-                    quoted(prefix),
-                    quoted(content)
-                )
+            Item::Message { transactional, lsn, prefix, content } => {
+                let kind = if *transactional { "transactional" } else { "immediate" };
+                format!("message {lsn} {kind} {} {}", quoted(prefix), quoted(content))
             }
             Item::Data { start, data, .. } => {
                 format!("data {start} {} {} bytes", kind(data), data.len())
@@ -150,35 +93,9 @@ impl Item {
     /// A line that is a JSON object; bytes stand as hexadecimal text, positions as PostgreSQL shows them.
     pub fn json(&self) -> String {
         let (event, fields) = match self {
-            Item::KeepAlive {
-                wal_end,
-                time,
-                reply,
-            } => (
-                "keepalive",
-                format!(
-                    r#""wal_end":"{wal_end}","time":"{}","reply":{reply}"#,
-                    date(*time)
-                ),
-            ),
-            Item::Begin {
-                final_lsn,
-                time,
-                xid,
-            } => (
-                "begin",
-                format!(
-                    r#""final_lsn":"{final_lsn}","time":"{}","xid":{xid}"#,
-                    date(*time)
-                ),
-            ),
-            Item::Commit { lsn, end_lsn, time } => (
-                "commit",
-                format!(
-                    r#""lsn":"{lsn}","end_lsn":"{end_lsn}","time":"{}""#,
-                    date(*time)
-                ),
-            ),
+            Item::KeepAlive { wal_end, time, reply } => ("keepalive", format!(r#""wal_end":"{wal_end}","time":"{}","reply":{reply}"#, date(*time))),
+            Item::Begin { final_lsn, time, xid } => ("begin", format!(r#""final_lsn":"{final_lsn}","time":"{}","xid":{xid}"#, date(*time))),
+            Item::Commit { lsn, end_lsn, time } => ("commit", format!(r#""lsn":"{lsn}","end_lsn":"{end_lsn}","time":"{}""#, date(*time))),
             Item::Message { .. } => ("message", self.json_bytes()),
             Item::Data { .. } => ("data", self.json_bytes()),
             Item::StoppedAt(reached) => ("stopped", format!(r#""reached":"{reached}""#)),
@@ -190,27 +107,12 @@ impl Item {
     // The JSON fields of the items that have bytes of the server.
     fn json_bytes(&self) -> String {
         match self {
-            Item::Message {
-                transactional,
-                lsn,
-                prefix,
-                content,
-            } => format!(
-                r#""transactional":{transactional},"lsn":"{lsn}","prefix":{},"content":"{}""#,
-                quoted(prefix),
-                hex(content)
-            ),
-            Item::Data {
-                start,
-                end,
-                time,
-                data,
-            } => format!(
-                r#""kind":"{}","wal_start":"{start}","wal_end":"{end}","time":"{}","data":"{}""#,
-                kind(data),
-                date(*time),
-                hex(data)
-            ),
+            Item::Message { transactional, lsn, prefix, content } => {
+                format!(r#""transactional":{transactional},"lsn":"{lsn}","prefix":{},"content":"{}""#, quoted(prefix), hex(content))
+            }
+            Item::Data { start, end, time, data } => {
+                format!(r#""kind":"{}","wal_start":"{start}","wal_end":"{end}","time":"{}","data":"{}""#, kind(data), date(*time), hex(data))
+            }
             _ => String::new(),
         }
     }
@@ -248,9 +150,7 @@ fn quoted(bytes: &[u8]) -> String {
             '"' => text.push_str("\\\""),
             '\\' => text.push_str("\\\\"),
             '\n' => text.push_str("\\n"),
-            c if c < ' ' || c == '\x7f' => {
-                write!(text, "\\u{:04x}", c as u32).expect("a string takes all")
-            }
+            c if c < ' ' || c == '\x7f' => write!(text, "\\u{:04x}", c as u32).expect("a string takes all"),
             c => text.push(c),
         }
     }
@@ -259,10 +159,7 @@ fn quoted(bytes: &[u8]) -> String {
 
 // Microseconds from 2000-01-01 as a date of the Gregorian calendar, UTC.
 fn date(micros: i64) -> String {
-    let (days, rest) = (
-        micros.div_euclid(86_400_000_000),
-        micros.rem_euclid(86_400_000_000),
-    );
+    let (days, rest) = (micros.div_euclid(86_400_000_000), micros.rem_euclid(86_400_000_000));
     // Days from 0000-03-01, in eras of 400 years; years begin in March, so that a leap day is a year's last.
     let days = days + 730_425;
     let (era, day) = (days.div_euclid(146_097), days.rem_euclid(146_097));
@@ -270,11 +167,7 @@ fn date(micros: i64) -> String {
     let day = day - (365 * year + year / 4 - year / 100);
     let month = (5 * day + 2) / 153;
     let day = day - (153 * month + 2) / 5 + 1;
-    let (month, next) = if month < 10 {
-        (month + 3, 0)
-    } else {
-        (month - 9, 1)
-    };
+    let (month, next) = if month < 10 { (month + 3, 0) } else { (month - 9, 1) };
     let seconds = rest / 1_000_000;
     format!(
         "{:04}-{month:02}-{day:02}T{:02}:{:02}:{:02}.{:06}Z",
@@ -302,25 +195,10 @@ mod tests {
 
     #[test]
     fn lines() {
-        let commit = Item::of(Event::Commit {
-            lsn: Lsn(16),
-            end_lsn: Lsn(1 << 32),
-            commit_time: 0,
-        });
-        assert_eq!(
-            commit.text(),
-            "commit 0/10 end 1/0 at 2000-01-01T00:00:00.000000Z"
-        );
-        assert_eq!(
-            commit.json(),
-            r#"{"event":"commit","lsn":"0/10","end_lsn":"1/0","time":"2000-01-01T00:00:00.000000Z"}"#
-        );
-        let message = Item::of(Event::Message {
-            transactional: true,
-            lsn: Lsn(1),
-            prefix: b"a\"\n\x01\xff",
-            content: b"\x00\xfe",
-        });
+        let commit = Item::of(Event::Commit { lsn: Lsn(16), end_lsn: Lsn(1 << 32), commit_time: 0 });
+        assert_eq!(commit.text(), "commit 0/10 end 1/0 at 2000-01-01T00:00:00.000000Z");
+        assert_eq!(commit.json(), r#"{"event":"commit","lsn":"0/10","end_lsn":"1/0","time":"2000-01-01T00:00:00.000000Z"}"#);
+        let message = Item::of(Event::Message { transactional: true, lsn: Lsn(1), prefix: b"a\"\n\x01\xff", content: b"\x00\xfe" });
         assert_eq!(
             message.json(),
             "{\"event\":\"message\",\"transactional\":true,\"lsn\":\"0/1\",\"prefix\":\"a\\\"\\n\\u0001\u{fffd}\",\"content\":\"00fe\"}"

@@ -5,9 +5,7 @@ use crate::link::Link;
 use crate::print::Item;
 use crate::startup::message;
 use crate::sys;
-use rufflesquash::{
-    Input, Lsn, Moment, NextStep, Queue, Refusal, Run, Settings, State, STEP_OUTPUT,
-};
+use rufflesquash::{Input, Lsn, Moment, NextStep, Queue, Refusal, Run, Settings, State, STEP_OUTPUT};
 use std::time::{Duration, Instant, SystemTime, UNIX_EPOCH};
 
 const PIECE: usize = 131_072;
@@ -29,9 +27,7 @@ impl Clock {
 
     // Microseconds from 2000-01-01.
     fn client_time() -> i64 {
-        let since = SystemTime::now()
-            .duration_since(UNIX_EPOCH)
-            .unwrap_or_default();
+        let since = SystemTime::now().duration_since(UNIX_EPOCH).unwrap_or_default();
         since.as_micros() as i64 - 946_684_800_000_000
     }
 }
@@ -61,25 +57,9 @@ pub struct Session<'a> {
 
 impl<'a> Session<'a> {
     /// The run and the query that it has already written are ready; the query is sent here.
-    pub fn new(
-        mut link: Link<'a>,
-        settings: Settings,
-        opened: (Run, &[u8]),
-        payload: &'a mut [u8],
-        clock: Clock,
-    ) -> Result<Session<'a>, Failure> {
+    pub fn new(mut link: Link<'a>, settings: Settings, opened: (Run, &[u8]), payload: &'a mut [u8], clock: Clock) -> Result<Session<'a>, Failure> {
         link.send(opened.1)?;
-        Ok(Session {
-            link,
-            settings,
-            run: opened.0,
-            payload,
-            clock,
-            input: vec![0; PIECE],
-            at: 0,
-            filled: 0,
-            ended: false,
-        })
+        Ok(Session { link, settings, run: opened.0, payload, clock, input: vec![0; PIECE], at: 0, filled: 0, ended: false })
     }
 
     /// Until the stream ends: by the stop position or a stop request well, otherwise with the failure.
@@ -143,19 +123,14 @@ impl<'a> Session<'a> {
         }
         match refusal {
             None => Ok(written),
-            Some(Refusal::ServerError) => Err(Failure::server(
-                self.run.error(self.payload).unwrap_or_default(),
-            )),
+            Some(Refusal::ServerError) => Err(Failure::server(self.run.error(self.payload).unwrap_or_default())),
             Some(refusal) => Err(Failure::refused(refusal, self.settings.max_message_size)),
         }
     }
 
     // Reads where the run takes bytes and has none, and waits where no step would move.
     fn pause(&mut self, outbox: &Outbox) {
-        let takes = matches!(
-            self.run.state(),
-            State::Opening | State::Reading | State::Waiting
-        );
+        let takes = matches!(self.run.state(), State::Opening | State::Reading | State::Waiting);
         if takes && (self.at < self.filled || self.ended) {
             return;
         }
@@ -167,9 +142,7 @@ impl<'a> Session<'a> {
         }
         let timeout = match self.run.next_step(self.payload.len(), outbox.queue()) {
             NextStep::AtOnce | NextStep::Never => return,
-            NextStep::From(moment) => Some(Duration::from_nanos(
-                moment.0.saturating_sub(self.clock.now().0),
-            )),
+            NextStep::From(moment) => Some(Duration::from_nanos(moment.0.saturating_sub(self.clock.now().0))),
             NextStep::OnInput => None,
         };
         self.link.wait(takes, timeout);
@@ -179,20 +152,14 @@ impl<'a> Session<'a> {
     fn close(&mut self, outbox: &Outbox, copy_done: &[u8], totals: &mut Totals) {
         let until = Instant::now() + CLOSING;
         while !outbox.settled() && Instant::now() < until {
-            self.link
-                .wait(false, Some(until.saturating_duration_since(Instant::now())));
+            self.link.wait(false, Some(until.saturating_duration_since(Instant::now())));
         }
         if let Err(failure) = self.say_goodbye(outbox.position(), copy_done, totals) {
             eprintln!("follow: {failure}; what was printed last may be sent again");
         }
     }
 
-    fn say_goodbye(
-        &mut self,
-        done: Lsn,
-        copy_done: &[u8],
-        totals: &mut Totals,
-    ) -> Result<(), Failure> {
+    fn say_goodbye(&mut self, done: Lsn, copy_done: &[u8], totals: &mut Totals) -> Result<(), Failure> {
         if totals.last_status.unwrap_or_default() < done {
             self.link.send(&self.last_status(done))?;
             totals.last_status = Some(done);
@@ -207,18 +174,9 @@ impl<'a> Session<'a> {
     // A run that is already open begins with a status: here the one that an ended run no longer sends.
     fn last_status(&self, done: Lsn) -> [u8; STEP_OUTPUT] {
         let mut out = [0; STEP_OUTPUT];
-        let settings = Settings {
-            max_message_size: 0,
-            ..self.settings
-        };
+        let settings = Settings { max_message_size: 0, ..self.settings };
         if let Ok(mut run) = Run::already_open(&settings, done) {
-            let input = Input {
-                moment: self.clock.now(),
-                client_time: Clock::client_time(),
-                stop: false,
-                queue: Queue::Free,
-                ended: false,
-            };
+            let input = Input { moment: self.clock.now(), client_time: Clock::client_time(), stop: false, queue: Queue::Free, ended: false };
             run.step(&input, b"", &mut [], &mut out);
         }
         out

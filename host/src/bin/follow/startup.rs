@@ -26,14 +26,9 @@ pub fn start(link: &mut Link, options: &Options) -> Result<(), Failure> {
 
 /// Makes the slot; where it may be there already, that is no error.
 pub fn create_slot(link: &mut Link, options: &Options) -> Result<(), Failure> {
-    let text = format!(
-        "CREATE_REPLICATION_SLOT {} LOGICAL pgoutput NOEXPORT_SNAPSHOT",
-        options.slot
-    );
+    let text = format!("CREATE_REPLICATION_SLOT {} LOGICAL pgoutput NOEXPORT_SNAPSHOT", options.slot);
     match query(link, &text)?.error {
-        Some(error) if !options.if_not_exists || sqlstate(&error) != b"42710" => {
-            Err(Failure::server(&error))
-        }
+        Some(error) if !options.if_not_exists || sqlstate(&error) != b"42710" => Err(Failure::server(&error)),
         _ => Ok(()),
     }
 }
@@ -48,10 +43,7 @@ pub fn check_publications(link: &mut Link, options: &Options) -> Result<(), Fail
     match options.publications.iter().find(missing) {
         None => Ok(()),
         Some(name) => {
-            let line = format!(
-                "the database {} has no publication {name}; make it with CREATE PUBLICATION, or name another",
-                options.dbname
-            );
+            let line = format!("the database {} has no publication {name}; make it with CREATE PUBLICATION, or name another", options.dbname);
             Err(Failure::new(FAILED, line))
         }
     }
@@ -113,8 +105,7 @@ fn answer(link: &mut Link) -> Result<(u8, Vec<u8>), Failure> {
     link.read_whole(&mut header, until)?;
     let length = u32::from_be_bytes([header[1], header[2], header[3], header[4]]) as usize;
     if !(4..=LONGEST_ANSWER).contains(&length) {
-        let line =
-            "the server's first bytes are not what the protocol says: is this a PostgreSQL server?";
+        let line = "the server's first bytes are not what the protocol says: is this a PostgreSQL server?";
         return Err(Failure::new(FAILED, line));
     }
     let mut payload = vec![0; length - 4];
@@ -141,9 +132,6 @@ fn authenticate(link: &mut Link, payload: &[u8]) -> Result<(), Failure> {
 fn send_password(link: &mut Link) -> Result<(), Failure> {
     match env::var("PGPASSWORD") {
         Ok(password) => link.send(&message(b'p', &[password.as_bytes(), b"\0"].concat())),
-        Err(_) => Err(Failure::new(
-            FAILED,
-            "the server asks for a password; set PGPASSWORD",
-        )),
+        Err(_) => Err(Failure::new(FAILED, "the server asks for a password; set PGPASSWORD")),
     }
 }

@@ -72,16 +72,9 @@ impl Waiter {
 
     /// Until the socket can be read (or written, where `out`), a wake comes, or the time has passed.
     pub fn wait(&self, socket: Option<(c_int, bool)>, timeout: Option<Duration>) {
-        let entry = |fd, events| PollFd {
-            fd,
-            events,
-            revents: 0,
-        };
+        let entry = |fd, events| PollFd { fd, events, revents: 0 };
         let (fd, out) = socket.unwrap_or((-1, false));
-        let mut fds = [
-            entry(self.woken.as_raw_fd(), POLLIN),
-            entry(fd, if out { POLLOUT } else { POLLIN }),
-        ];
+        let mut fds = [entry(self.woken.as_raw_fd(), POLLIN), entry(fd, if out { POLLOUT } else { POLLIN })];
         let millis = match timeout {
             None => -1,
             // Rounded up, so that the moment has come when the wait ends.

@@ -1,0 +1,194 @@
+//! The Rust's answers, as the lines that the program `leaves` prints.
+
+use super::{records, room, texts, Leaves, Record};
+use crate::leaves::{self, Answer, Query, Row, Told};
+use crate::record::Event;
+use crate::text::position;
+use model::sum;
+use std::io::Write;
+
+#[derive(Default)]
+pub struct OriginalLeaves;
+
+/// The limit of the reader in a simple query.
+const QUERY_LIMIT: usize = 65_536;
+
+impl Leaves for OriginalLeaves {
+    fn name(&self) -> &'static str {
+        "rust"
+    }
+
+    fn answer(&mut self, bytes: &[u8]) -> Vec<u8> {
+        let mut out = Vec::with_capacity(2 * bytes.len());
+        for record in records(bytes) {
+            out.extend_from_slice(&[record.kind, b' ']);
+            original_line(&record, &mut out);
+            out.push(b'\n');
+        }
+        out
+    }
+}
+
+fn number_at(bytes: &[u8], at: usize) -> u64 {
+    u64::from_be_bytes(bytes[at..at + 8].try_into().unwrap())
+}
+
+fn put_hex(bytes: &[u8], out: &mut Vec<u8>) {
+    const DIGITS: &[u8; 16] = b"0123456789abcdef";
+    if bytes.is_empty() {
+        out.push(b'-');
+    }
+    bytes.iter().for_each(|b| out.extend_from_slice(&[DIGITS[*b as usize >> 4], DIGITS[*b as usize & 15]]));
+}
+
+fn put_columns(row: &Row, out: &mut Vec<u8>) {
+    for column in row {
+        out.push(b' ');
+        match column {
+            Some(value) => put_hex(value, out),
+            None => out.push(b'n'),
+        }
+    }
+}
+
+/// A writer's line, where the output suffices.
+fn put_written(text: &[u8], record: &Record, out: &mut Vec<u8>) {
+    let whole = (text.len()..record.room).fold(sum(text), |h, _| h.wrapping_mul(31).wrapping_add(record.fill as u32));
+    let _ = write!(out, "0 {} {whole} ", text.len());
+    put_hex(text, out);
+}
+
+/// An answer that may be refused.
+fn put_answer<T>(answer: Answer<T>, out: &mut Vec<u8>, put: impl FnOnce(T, &mut Vec<u8>)) {
+    match answer {
+        Ok(told) => {
+            out.extend_from_slice(b"0 ");
+            put(told, out);
+        }
+        Err(number) => drop(write!(out, "{number}")),
+    }
+}
+
+fn put_copy_data(event: Event, out: &mut Vec<u8>) {
+    match event {
+        Event::Other { start, end, time, data } => {
+            let _ = write!(out, "w {} {} {time} ", position(start), position(end));
+            put_hex(&data, out);
+        }
+        Event::KeepAlive { end, time, reply } => drop(write!(out, "k {} {time} {}", position(end), reply as u8)),
+        _ => unreachable!("a CopyData payload is data or a keepalive"),
+    }
+}
+
+fn utf8(text: &[u8]) -> String {
+    String::from_utf8(text.to_vec()).expect("the Rust takes well-formed text alone")
+}
+
+fn startup(input: &[u8]) -> Vec<u8> {
+    let version = i32::from_be_bytes(input[..4].try_into().unwrap());
+    let all: Vec<String> = texts(&input[4..]).into_iter().map(utf8).collect();
+    let pairs: Vec<(&str, &str)> = all.chunks_exact(2).map(|p| (p[0].as_str(), p[1].as_str())).collect();
+    leaves::write_startup(version, &pairs)
+}
+
+fn original_line(record: &Record, out: &mut Vec<u8>) {
+    let input = record.input;
+    let written = |text: &[u8], out: &mut Vec<u8>| put_written(text, record, out);
+    match record.kind {
+        b'p' => {
+            let answer = leaves::parse_position(input).expect("the Rust takes well-formed text alone");
+            put_answer(answer, out, |p, out| out.extend_from_slice(leaves::display_position(p).as_bytes()))
+        }
+        b'd' => written(leaves::display_position(number_at(input, 0)).as_bytes(), out),
+        b'l' => written(leaves::lossy(input).as_bytes(), out),
+        b'e' => written(&leaves::error_text(input), out),
+        b'f' => {
+            out.push(b'0');
+            put_columns(&leaves::error_fields(input).into_iter().map(|f| f.map(String::into_bytes)).collect(), out)
+        }
+        b'a' => put_answer(leaves::auth_request(input), out, |(code, rest), out| {
+            let _ = write!(out, "{code} ");
+            put_hex(rest, out);
+        }),
+        b'c' => put_answer(leaves::copy_data(input), out, put_copy_data),
+        b'b' => put_answer(leaves::boundary(input), out, |event, out| out.extend_from_slice(event.map_or("n".to_string(), |e| e.line()).as_bytes())),
+        b'r' => put_answer(leaves::data_row(input), out, |row, out| {
+            let _ = write!(out, "{}", row.len());
+            put_columns(&row, out);
+        }),
+        b'q' => written(&leaves::write_simple_query(&utf8(input)), out),
+        b'y' => written(&leaves::write_data(input), out),
+        b't' => written(&leaves::write_status(number_at(input, 0), number_at(input, 8) as i64, input[16] != 0), out),
+        b'z' => written(&leaves::write_done(), out),
+        b'x' => written(&leaves::write_terminate(), out),
+        b'o' => written(leaves::option_value(texts(input).into_iter().map(utf8).collect()).as_bytes(), out),
+        b's' => written(&startup(input), out),
+        b'g' => reader_line(record, out),
+        b'm' => query_line(input, out),
+        kind => panic!("no kind of leaf: {kind}"),
+    }
+}
+
+/// What the reader tells of each message; then the sum of a buffer in which every payload was stored at the front as far as it came.
+fn reader_line(record: &Record, out: &mut Vec<u8>) {
+    let (limit, piece) = (room(b'g', record.input), u16::from_be_bytes([record.input[5], record.input[6]]) as usize);
+    let server = &record.input[7..];
+    let mut buffer = vec![record.fill; record.room];
+    let mut rest = server;
+    out.pop();
+    for told in leaves::read(server, limit, piece, record.input[4] != 0) {
+        match told {
+            Told::Whole(tag, payload) => {
+                let _ = write!(out, " W {tag} {}", payload.len());
+                buffer[..payload.len()].copy_from_slice(&payload);
+                rest = &rest[5 + payload.len()..];
+            }
+            Told::Refused(number) => {
+                let _ = write!(out, " R {number}");
+                rest = match number {
+                    6 => &rest[5..],
+                    7 => &[],
+                    _ => rest,
+                };
+            }
+        }
+    }
+    if let Some(part) = rest.get(5..) {
+        buffer[..part.len()].copy_from_slice(part);
+    }
+    let _ = write!(out, " {}", sum(&buffer));
+}
+
+/// The Rust keeps no rows where an error or a refusal comes: they are those of its reader and of its `parse_data_row` there. The end is the
+/// query's own.
+fn query_line(server: &[u8], out: &mut Vec<u8>) {
+    let put_row = |row: &Row, out: &mut Vec<u8>| {
+        out.push(b'D');
+        put_columns(row, out);
+        out.extend_from_slice(b" | ");
+    };
+    let end = leaves::simple_query(server, QUERY_LIMIT);
+    if let Query::Rows(rows) = &end {
+        rows.iter().for_each(|row| put_row(row, out));
+    } else {
+        for told in leaves::read(server, QUERY_LIMIT, server.len().max(1), false) {
+            match told {
+                Told::Whole(b'D', payload) => match leaves::data_row(&payload) {
+                    Ok(row) => put_row(&row, out),
+                    Err(_) => break,
+                },
+                Told::Whole(b'Z', _) | Told::Refused(_) => break,
+                Told::Whole(..) => {}
+            }
+        }
+    }
+    match end {
+        Query::Rows(_) => out.extend_from_slice(b"Z ok"),
+        Query::Error(text) => {
+            out.extend_from_slice(b"Z error ");
+            put_hex(&text, out);
+        }
+        Query::Refused(number) => drop(write!(out, "{number}")),
+        Query::Unfinished => out.push(b'-'),
+    }
+}
