@@ -107,18 +107,20 @@ impl Options {
         true
     }
 
-    fn value(&mut self, name: &str, value: String) -> Result<(), Failure> {
+    // An option with a value. The name is judged before the value is asked for.
+    fn value(&mut self, name: &str, value: impl FnOnce() -> Option<String>) -> Result<(), Failure> {
+        let value = || value().ok_or_else(|| usage(format!("{name} needs a value")));
         match name {
-            "--dbname" | "-d" => self.dbname = value,
-            "--host" | "-h" => self.host = value,
-            "--port" | "-p" => self.port = port(name, &value)?,
-            "--username" | "-U" => self.username = value,
-            "--slot" | "-S" => self.slot = value,
-            "--publication" => self.publications.push(value),
-            "--startpos" | "-I" => self.startpos = position(name, &value)?,
-            "--endpos" | "-E" => self.endpos = Some(position(name, &value)?),
-            "--status-interval" | "-s" => self.status_interval = seconds(name, &value)?,
-            "--max-message-size" => self.max_message_size = size(name, &value)?,
+            "--dbname" | "-d" => self.dbname = value()?,
+            "--host" | "-h" => self.host = value()?,
+            "--port" | "-p" => self.port = port(name, &value()?)?,
+            "--username" | "-U" => self.username = value()?,
+            "--slot" | "-S" => self.slot = value()?,
+            "--publication" => self.publications.push(value()?),
+            "--startpos" | "-I" => self.startpos = position(name, &value()?)?,
+            "--endpos" | "-E" => self.endpos = Some(position(name, &value()?)?),
+            "--status-interval" | "-s" => self.status_interval = seconds(name, &value()?)?,
+            "--max-message-size" => self.max_message_size = size(name, &value()?)?,
             _ => return Err(usage(format!("there is no option {name}"))),
         }
         Ok(())
@@ -230,40 +232,9 @@ pub fn parse(arguments: impl IntoIterator<Item = String>) -> Result<Wanted, Fail
             }
             continue;
         }
-        // The name is judged before a value is asked for.
-        if value.is_none() && !takes_value(&name) {
-            return Err(usage(format!("there is no option {name}")));
-        }
-        let Some(value) = value.or_else(|| arguments.next()) else {
-            return Err(usage(format!("{name} needs a value")));
-        };
-        options.value(&name, value)?;
+        options.value(&name, || value.or_else(|| arguments.next()))?;
     }
     Ok(Wanted::Follow(Box::new(options.complete()?)))
-}
-
-fn takes_value(name: &str) -> bool {
-    matches!(
-        name,
-        "--dbname"
-            | "-d"
-            | "--host"
-            | "-h"
-            | "--port"
-            | "-p"
-            | "--username"
-            | "-U"
-            | "--slot"
-            | "-S"
-            | "--publication"
-            | "--startpos"
-            | "-I"
-            | "--endpos"
-            | "-E"
-            | "--status-interval"
-            | "-s"
-            | "--max-message-size"
-    )
 }
 
 #[cfg(test)]

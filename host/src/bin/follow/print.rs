@@ -44,18 +44,10 @@ impl Item {
             Event::Begin { final_lsn, commit_time: time, xid } => Item::Begin { final_lsn, time, xid },
             Event::Commit { lsn, end_lsn, commit_time: time } => Item::Commit { lsn, end_lsn, time },
             Event::StoppedAt { reached } => Item::StoppedAt(reached),
-            Event::Message { .. } | Event::XLogData { .. } => Item::with_bytes(event),
-        }
-    }
-
-    // The events that have bytes of the server; others have been told apart.
-    fn with_bytes(event: Event) -> Item {
-        match event {
             Event::Message { transactional, lsn, prefix, content } => {
                 Item::Message { transactional, lsn, prefix: prefix.to_vec(), content: content.to_vec() }
             }
             Event::XLogData { wal_start: start, wal_end: end, server_time: time, data } => Item::Data { start, end, time, data: data.to_vec() },
-            other => Item::of(other),
         }
     }
 
@@ -96,25 +88,17 @@ impl Item {
             Item::KeepAlive { wal_end, time, reply } => ("keepalive", format!(r#""wal_end":"{wal_end}","time":"{}","reply":{reply}"#, date(*time))),
             Item::Begin { final_lsn, time, xid } => ("begin", format!(r#""final_lsn":"{final_lsn}","time":"{}","xid":{xid}"#, date(*time))),
             Item::Commit { lsn, end_lsn, time } => ("commit", format!(r#""lsn":"{lsn}","end_lsn":"{end_lsn}","time":"{}""#, date(*time))),
-            Item::Message { .. } => ("message", self.json_bytes()),
-            Item::Data { .. } => ("data", self.json_bytes()),
+            Item::Message { transactional, lsn, prefix, content } => {
+                ("message", format!(r#""transactional":{transactional},"lsn":"{lsn}","prefix":{},"content":"{}""#, quoted(prefix), hex(content)))
+            }
+            Item::Data { start, end, time, data } => (
+                "data",
+                format!(r#""kind":"{}","wal_start":"{start}","wal_end":"{end}","time":"{}","data":"{}""#, kind(data), date(*time), hex(data)),
+            ),
             Item::StoppedAt(reached) => ("stopped", format!(r#""reached":"{reached}""#)),
             Item::Resumed(from) => ("resumed", format!(r#""from":"{from}""#)),
         };
         format!(r#"{{"event":"{event}",{fields}}}"#)
-    }
-
-    // The JSON fields of the items that have bytes of the server.
-    fn json_bytes(&self) -> String {
-        match self {
-            Item::Message { transactional, lsn, prefix, content } => {
-                format!(r#""transactional":{transactional},"lsn":"{lsn}","prefix":{},"content":"{}""#, quoted(prefix), hex(content))
-            }
-            Item::Data { start, end, time, data } => {
-                format!(r#""kind":"{}","wal_start":"{start}","wal_end":"{end}","time":"{}","data":"{}""#, kind(data), date(*time), hex(data))
-            }
-            _ => String::new(),
-        }
     }
 }
 
