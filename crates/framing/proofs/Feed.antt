@@ -9,6 +9,7 @@ use lib.ListN.{length, getD, take, drop, length-append, length-take, length-drop
 use lib.Seq.{take-all, take-append-le, take-append-add, drop-append-add, drop-append-le, take-take, take-length, getD-take, take-add, length-take-le}
 use borrow.Author.Tests.{lt-ltb, le-ltb, ne-eqb, leb-true, leb-false, ltb-true, ltb-false}
 use Rattle.wire.specs.Bytes.{at, be, put}
+use Rattle.wire.specs.Int.{half, isNegative}
 use lib.Dec.{leb, ltb, eqb}
 use mathlib.Core.Logic.{_⊎_, ⊎-elim, inl, inr}
 use Rattle.wire.proofs.Laws.{put-none, length-put, by-test, impossible}
@@ -194,7 +195,7 @@ fresh-holds : (p : List ℕ) → Holds [] fresh p
 fresh-holds p = record { going = refl; filled = refl; five = refl; head = refl; size = λ h. absurd (omega arith); front = refl }
 
 -- a whole message is there in its own bytes
-whole-taken : (limit : ℕ) (s : List ℕ) → 5 ≤ length s → lengthField s < 2147483648 → 4 ≤ lengthField s → lengthField s - 4 ≤ limit
+whole-taken : (limit : ℕ) (s : List ℕ) → 5 ≤ length s → lengthField s < half 4 → 4 ≤ lengthField s → lengthField s - 4 ≤ limit
     → lengthField s + 1 ≤ length s → frontOf limit (take (5 + (lengthField s - 4)) s) ≡ whole-at (getD s 0 0) (lengthField s - 4)
 whole-taken limit s h a b c d =
     let t : List ℕ = take (5 + (lengthField s - 4)) s in
@@ -303,23 +304,23 @@ module _ (setting : ℕ) (rest u : List ℕ) (e : Bool) (r : MessageReader) (p :
         local limit rest u e p x _ _ _ _ _ (cut-bad-length limit s f) (judged ∙ ap (later k) (sym j)) refl alone alone-within (sym (put-none p 0))
         _ (ap (cutOf limit) (first-five (k + 0) alone) ∙ cut-bad-alone limit (take 5 s) five-long g) (fresh-holds p) refl
 
-    negative-step : 2147483648 ≤ lengthField s → Local limit rest u e p x
+    negative-step : half 4 ≤ lengthField s → Local limit rest u e p x
     negative-step a =
-        let b : 2147483648 ≤ lengthField (take 5 s) = rw (← field) a in
+        let b : half 4 ≤ lengthField (take 5 s) = rw (← field) a in
         bad-step (length-negative limit (take 5 s) (drop 5 s) p (lengthField s) field fresh refl a) (negative-front limit s h a)
         (negative-front limit (take 5 s) (omega (arith, five-long)) b)
 
-    module _ (a : lengthField s < 2147483648) where
+    module _ (a : lengthField s < half 4) where
       short-step : lengthField s < 4 → Local limit rest u e p x
       short-step b =
-          let c : lengthField (take 5 s) < 2147483648 = rw (← field) a in
+          let c : lengthField (take 5 s) < half 4 = rw (← field) a in
           let d : lengthField (take 5 s) < 4 = rw (← field) b in
           bad-step (length-short limit (take 5 s) (drop 5 s) p (lengthField s) field a fresh refl b) (short-front limit s h a b)
           (short-front limit (take 5 s) (omega (arith, five-long)) c d)
 
       over-step : 4 ≤ lengthField s → limit < lengthField s - 4 → Local limit rest u e p x
       over-step b o =
-          let c : lengthField (take 5 s) < 2147483648 = rw (← field) a in
+          let c : lengthField (take 5 s) < half 4 = rw (← field) a in
           let d : 4 ≤ lengthField (take 5 s) = rw (← field) b in
           let g : limit < lengthField (take 5 s) - 4 = rw (← field) o in
           let w : frontOf limit (take 5 s) ≡ too-large = over-front limit (take 5 s) (omega (arith, five-long)) c d g in
@@ -368,7 +369,7 @@ module _ (setting : ℕ) (rest u : List ℕ) (e : Bool) (r : MessageReader) (p :
 
   -- ---- the header was there before
 
-  module _ (h : 5 ≤ length rest) (a : lengthField rest < 2147483648) (b : 4 ≤ lengthField rest) (c : lengthField rest - 4 ≤ limit)
+  module _ (h : 5 ≤ length rest) (a : lengthField rest < half 4) (b : 4 ≤ lengthField rest) (c : lengthField rest - 4 ≤ limit)
       (d : length rest < lengthField rest + 1) where
     abbrev len : ℕ
     len = lengthField rest - 4
@@ -450,7 +451,7 @@ module _ (setting : ℕ) (rest u : List ℕ) (e : Bool) (r : MessageReader) (p :
   from-header l in-payload (cut-payload h a b c d) = payload-step l h a b c d
   from-header l (whole-at tag n) (complete h a b c d) = whole-step l h a b c d
 
-  from-payload : 5 ≤ length rest → lengthField rest < 2147483648 → 4 ≤ lengthField rest → lengthField rest - 4 ≤ limit → length rest < lengthField rest + 1
+  from-payload : 5 ≤ length rest → lengthField rest < half 4 → 4 ≤ lengthField rest → lengthField rest - 4 ≤ limit → length rest < lengthField rest + 1
       → Local limit rest u e p x
   from-payload h a b c d =
       by-test (ltb (length (rest ++ u)) (lengthField rest + 1))
@@ -528,7 +529,7 @@ module _ (u : List ℕ) (p : List ℕ) where
   judged-kept : (limit : ℕ) (h : List ℕ) → (v : List ℕ) → ((r : MessageReader) → length (payloadOf r v false p .3) ≡ length p) → length (judgedOf limit h v p .3) ≡ length p
   unfolding judgedOf
   judged-kept limit h v f =
-      pick-both Kept (leb 2147483648 (lengthField h)) _ _ refl
+      pick-both Kept (isNegative 4 (lengthField h)) _ _ refl
       (pick-both Kept (ltb (lengthField h) 4) _ _ refl (pick-both Kept (ltb limit (lengthField h - 4)) _ _ refl (f (at-byte h 5 (lengthField h - 4)))))
 
 header-kept : (limit : ℕ) (r : MessageReader) (u : List ℕ) (e : Bool) (p : List ℕ) → length (headerOf limit r u e p .3) ≡ length p

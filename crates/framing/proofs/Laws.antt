@@ -10,6 +10,7 @@ use lib.Seq.{take-all}
 use lib.Dec.{ltb, leb}
 use borrow.Author.Tests.{le-leb, lt-leb, lt-ltb, le-ltb}
 use Rattle.wire.specs.Bytes.{pick, put, copied}
+use Rattle.wire.specs.Int.{half, isNegative}
 use Rattle.stream.specs.Message.{lengthField}
 use Rattle.framing.specs.declared.MessageReader.{MessageReader}
 use Rattle.framing.specs.Read.{Said, whole, refused, fresh, shut, at-byte, Result, later, unfinished, payloadOf, judgedOf, headerOf}
@@ -48,11 +49,11 @@ module _ (r : MessageReader) (u : List ℕ) (e : Bool) (p : List ℕ) (n have ta
     payload-whole f ef l = rw (ef, eq, ← en, ← eh, ← et, ← ek) (simp (lt-leb _ _ h, le-ltb _ _ l))
 
 module _ (limit : ℕ) (h u p : List ℕ) (n : ℕ) (en : n ≡ lengthField h) where
-  pub length-negative : (f : MessageReader) → f ≡ fresh → 2147483648 ≤ n → (refused 6, f, 0, p) ≡ judgedOf limit h u p
+  pub length-negative : (f : MessageReader) → f ≡ fresh → half 4 ≤ n → (refused 6, f, 0, p) ≡ judgedOf limit h u p
   unfolding judgedOf
   length-negative f ef l = rw (← en, ef) (simp (le-leb _ _ l))
 
-  module _ (l : n < 2147483648) where
+  module _ (l : n < half 4) where
     pub length-short : (f : MessageReader) → f ≡ fresh → n < 4 → (refused 6, f, 0, p) ≡ judgedOf limit h u p
     unfolding judgedOf
     length-short f ef k = rw (← en, ef) (simp (lt-leb _ _ l, lt-ltb _ _ k))
@@ -102,4 +103,4 @@ judged-taken limit h u p =
     let P : Result → Type 0 = λ s. s .2 ≤ length u in
     let n : ℕ = lengthField h in
     let z : 0 ≤ length u = omega arith in
-    pick-both P (leb 2147483648 n) _ _ z (pick-both P (ltb n 4) _ _ z (pick-both P (ltb limit (n - 4)) _ _ z (payload-taken (at-byte h 5 (n - 4)) u false p)))
+    pick-both P (isNegative 4 n) _ _ z (pick-both P (ltb n 4) _ _ z (pick-both P (ltb limit (n - 4)) _ _ z (payload-taken (at-byte h 5 (n - 4)) u false p)))

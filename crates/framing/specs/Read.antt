@@ -5,6 +5,7 @@ use mathlib.Core.List.{List, [], _∷_}
 use lib.ListN.{length, getD, take, drop}
 use lib.Dec.{ltb, leb, eqb}
 use Rattle.wire.specs.Bytes.{pick, put}
+use Rattle.wire.specs.Int.{isNegative}
 use Rattle.stream.specs.Message.{lengthField}
 use Rattle.error.specs.Refusal.{numberOf}
 use Rattle.framing.specs.declared.MessageReader.{MessageReader}
@@ -68,7 +69,7 @@ payloadOf r u e p =
 unfoldable pub judgedOf : ℕ → List ℕ → List ℕ → List ℕ → Result
 judgedOf limit h u p =
     let n : ℕ = lengthField h in
-    pick (leb 2147483648 n) (refused 6, fresh, 0, p)
+    pick (isNegative 4 n) (refused 6, fresh, 0, p)
     (pick (ltb n 4) (refused 6, fresh, 0, p)
     (pick (ltb limit (n - 4)) (refused 7, shut, 0, p)
     (payloadOf (at-byte h 5 (n - 4)) u false p)))

@@ -15,6 +15,8 @@ use wire::store::least;
 // The largest limit.
 pub const MAX_MESSAGE_SIZE: usize = 1073741824;
 
+const FIRST_NEGATIVE: usize = wire::field::FIRST_NEGATIVE_32 as usize;
+
 // What is there of a message: its header bytes, how many bytes came, header and payload together, the payload's length once the header is
 // there, and whether a message over the limit was met.
 pub struct MessageReader {
@@ -160,7 +162,7 @@ fn judge(limit: usize, header: [u8; 5], unread: &[u8], payload: &mut [u8]) -> Re
     ensures { λ s. ⌜ (saidBy (s .answer), s .reader, s .taken, now (payload .exit)) ≡ judgedOf limit header (now (unread .entry)) (now (payload .entry)) ⌝ }
 {
     let n = length_of(&header) as usize;
-    if 2147483648 <= n {
+    if FIRST_NEGATIVE <= n {
         return ReadStep {
             answer: Answer::Refused(Refusal::InvalidLength),
             reader: MessageReader::new(),

@@ -10,7 +10,7 @@ use lib.Seq.{drop-cons}
 use lib.IntN.{ℤ}
 use denote.Ref.{RefT, now}
 use Rattle.wire.specs.Bytes.{beBytes, placed}
-use Rattle.wire.specs.Field.{unsigned}
+use Rattle.wire.specs.Int.{intBytes}
 use Rattle.wire.proofs.Laws.{length-beBytes}
 use Rattle.wire.proofs.FieldLaws.{beBytes-one}
 use Rattle.wire.proofs.Pieces.{Filling, filling-start, filling-next}
@@ -48,7 +48,7 @@ length-query text = length-framed 81 (text ++ (0 ∷ [])) ∙ omega (arith, leng
 -- ---- status updates
 
 pub status-pieces : (p : ℕ) (t : ℤ) (r : Bool)
-    → statusBody p t r ≡ beBytes 1 114 ++ (beBytes 8 p ++ (beBytes 8 p ++ (beBytes 8 p ++ (beBytes 8 (unsigned 9223372036854775808 t) ++ beBytes 1 (flag r)))))
+    → statusBody p t r ≡ beBytes 1 114 ++ (beBytes 8 p ++ (beBytes 8 p ++ (beBytes 8 p ++ (intBytes 8 t ++ beBytes 1 (flag r)))))
 unfolding statusBody beBytes
 status-pieces p t true = refl
 status-pieces p t false = refl
@@ -86,23 +86,23 @@ pairs-pieces (name ∷ value ∷ rest) =
 abbrev pub startupLength : List (RefT (List ℕ)) → ℕ
 startupLength texts = total texts + length texts + length texts % 2 + 9
 
-startup-body : (version : ℤ) (texts : List (RefT (List ℕ))) → length (beBytes 4 (unsigned 2147483648 version) ++ pairs texts) + 4 ≡ startupLength texts
+startup-body : (version : ℤ) (texts : List (RefT (List ℕ))) → length (intBytes 4 version ++ pairs texts) + 4 ≡ startupLength texts
 startup-body version texts = simp (length-append, length-beBytes, pairs-pieces texts, length-strings) (omega arith)
 
 pub startup-pieces : (version : ℤ) (texts : List (RefT (List ℕ)))
-    → startup version texts ≡ beBytes 4 (startupLength texts) ++ (beBytes 4 (unsigned 2147483648 version) ++ (strings texts ++ beBytes (length texts % 2 + 1) 0))
+    → startup version texts ≡ beBytes 4 (startupLength texts) ++ (intBytes 4 version ++ (strings texts ++ beBytes (length texts % 2 + 1) 0))
 unfolding startup
 startup-pieces version texts = rw (startup-body version texts, pairs-pieces texts)
 
 pub length-startup : (version : ℤ) (texts : List (RefT (List ℕ))) → length (startup version texts) ≡ startupLength texts
 unfolding startup
 length-startup version texts =
-    let b : List ℕ = beBytes 4 (unsigned 2147483648 version) ++ pairs texts in
+    let b : List ℕ = intBytes 4 version ++ pairs texts in
     length-append (beBytes 4 (length b + 4)) b ∙ omega (arith, length-beBytes 4 (length b + 4), startup-body version texts)
 
 -- its length field and its version, written
 pub startup-front : (version : ℤ) (texts : List (RefT (List ℕ))) (out : List ℕ) {e f : List ℕ} {r q : ℕ} → 0 + length (startup version texts) ≤ length out
-    → (r, e) ≡ placed out 0 (beBytes 4 (startupLength texts)) → (q, f) ≡ placed e r (beBytes 4 (unsigned 2147483648 version))
+    → (r, e) ≡ placed out 0 (beBytes 4 (startupLength texts)) → (q, f) ≡ placed e r (intBytes 4 version)
     → Filling out 0 (startup version texts) f q (strings texts ++ beBytes (length texts % 2 + 1) 0)
 startup-front version texts out h p q =
-    filling-next h (beBytes 4 (unsigned 2147483648 version)) (filling-next h (beBytes 4 (startupLength texts)) (filling-start (startup-pieces version texts)) p) q
+    filling-next h (intBytes 4 version) (filling-next h (beBytes 4 (startupLength texts)) (filling-start (startup-pieces version texts)) p) q

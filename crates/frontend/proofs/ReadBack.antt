@@ -9,6 +9,7 @@ use lib.Seq.{take-at, drop-at, take-append-seam, drop-append-seam, drop-drop}
 use lib.IntN.{ℤ}
 use borrow.Author.Tests.{le-ltb, lt-leb}
 use Rattle.wire.specs.Bytes.{at, beBytes}
+use Rattle.wire.specs.Int.{half}
 use Rattle.wire.proofs.Laws.{length-beBytes}
 use Rattle.stream.specs.Message.{framed, frontOf, lengthField, whole}
 use Rattle.stream.specs.Cut.{behind, message, cutOf}
@@ -18,7 +19,7 @@ use Rattle.stream.proofs.Laws.{cut-next}
 use Rattle.wire.proofs.FieldLaws.{be-beBytes}
 
 module _ (tag : ℕ) (payload rest : List ℕ) where
-  field-back : length payload + 4 < 2147483648 → lengthField (framed tag payload ++ rest) ≡ length payload + 4
+  field-back : length payload + 4 < half 4 → lengthField (framed tag payload ++ rest) ≡ length payload + 4
   unfolding framed
   field-back h =
       let b : List ℕ = beBytes 4 (length payload + 4) in
@@ -35,7 +36,7 @@ module _ (tag : ℕ) (payload rest : List ℕ) where
       let b : List ℕ = beBytes 4 (length payload + 4) in
       rw (append-assoc b payload rest) (drop-at b (payload ++ rest) 4 (length-beBytes 4 (length payload + 4)))
 
-  front-back : (limit : ℕ) → length payload + 4 < 2147483648 → length payload ≤ limit → frontOf limit (framed tag payload ++ rest) ≡ whole tag (length payload)
+  front-back : (limit : ℕ) → length payload + 4 < half 4 → length payload ≤ limit → frontOf limit (framed tag payload ++ rest) ≡ whole tag (length payload)
   unfolding frontOf
   front-back limit h k =
       let n : length (framed tag payload ++ rest) ≡ length payload + 5 + length rest = length-append (framed tag payload) rest ∙ omega (arith, length-framed tag payload) in
@@ -43,14 +44,14 @@ module _ (tag : ℕ) (payload rest : List ℕ) where
       rw (field-back h, tag-back, e, n)
       (simp (
         le-ltb (length payload + 5 + length rest) 5 (omega arith),
-        lt-leb 2147483648 (length payload + 4) h,
+        lt-leb (half 4) (length payload + 4) h,
         le-ltb (length payload + 4) 4 (omega arith),
         le-ltb limit (length payload) k,
         le-ltb (length payload + 5 + length rest) (length payload + 4 + 1) (omega arith),
       ))
 
 -- a framed message is cut off whole
-pub framed-back : (limit tag : ℕ) (payload rest : List ℕ) → length payload + 4 < 2147483648 → length payload ≤ limit
+pub framed-back : (limit tag : ℕ) (payload rest : List ℕ) → length payload + 4 < half 4 → length payload ≤ limit
     → cutOf limit (framed tag payload ++ rest) ≡ behind (message tag payload) (cutOf limit rest)
 framed-back limit tag payload rest h k =
     let s : List ℕ = framed tag payload ++ rest in
@@ -61,14 +62,14 @@ framed-back limit tag payload rest h k =
 
 -- ---- each message, with any bytes behind it
 
-pub query-back : (limit : ℕ) (text rest : List ℕ) → length text + 5 < 2147483648 → length text + 1 ≤ limit
+pub query-back : (limit : ℕ) (text rest : List ℕ) → length text + 5 < half 4 → length text + 1 ≤ limit
     → cutOf limit (query text ++ rest) ≡ behind (message 81 (text ++ (0 ∷ []))) (cutOf limit rest)
 unfolding query
 query-back limit text rest h k =
     let n : length (text ++ (0 ∷ [])) ≡ length text + 1 = length-append text (0 ∷ []) in
     framed-back limit 81 (text ++ (0 ∷ [])) rest (omega arith) (omega arith)
 
-pub copy-data-back : (limit : ℕ) (payload rest : List ℕ) → length payload + 4 < 2147483648 → length payload ≤ limit
+pub copy-data-back : (limit : ℕ) (payload rest : List ℕ) → length payload + 4 < half 4 → length payload ≤ limit
     → cutOf limit (copyData payload ++ rest) ≡ behind (message 100 payload) (cutOf limit rest)
 unfolding copyData
 copy-data-back limit payload rest h k = framed-back limit 100 payload rest h k

@@ -2,7 +2,7 @@
 use mathlib.Core.Path.{_≡_, refl, _∙_}
 use mathlib.Core.List.{List, [], _∷_, _++_, append-assoc}
 use mathlib.Core.Option.{some}
-use Prim.Native.Nat.{ℕ, zero, suc, _+_, _≤_, _<_}
+use Prim.Native.Nat.{ℕ, zero, suc, _+_, _^_, _≤_, _<_}
 use native.Mathlib.Nat.{not-suc-le-zero}
 use native.Mathlib.Omega.{arith}
 use lib.ListN.{length, drop, length-append}
@@ -12,10 +12,11 @@ use lib.Signed.{mag}
 use denote.Ref.{RefT, now}
 use borrow.Author.Tests.{le-ltb, lt-leb}
 use Rattle.wire.specs.Bytes.{beBytes}
-use Rattle.wire.specs.Field.{fieldAt, unsigned}
+use Rattle.wire.specs.Field.{fieldAt}
+use Rattle.wire.specs.Int.{half, intAt, intBytes}
 use Rattle.wire.specs.Find.{indexOf, NoZero}
 use Rattle.wire.proofs.Laws.{length-beBytes}
-use Rattle.wire.proofs.FieldLaws.{field-read, signed-unsigned, unsigned-below}
+use Rattle.wire.proofs.FieldLaws.{field-read, int-read}
 use Rattle.wire.proofs.FindLaws.{zero-at}
 use Rattle.frontend.specs.Frontend.{pairs, startup}
 use Rattle.frontend.specs.Startup.{stringOf, pairsFrom, pairsOf, startupOf, paired, Sendable}
@@ -60,23 +61,22 @@ pairs-back texts s = pairs-from (length (pairs texts)) texts (fewer texts) s
 
 module _ (version : ℤ) (texts : List (RefT (List ℕ))) where
   -- the length field counts the whole message
-  pub length-back : (rest : List ℕ) → length (startup version texts) < 4294967296 → fieldAt 4 (startup version texts ++ rest) 0 ≡ some (length (startup version texts))
+  pub length-back : (rest : List ℕ) → length (startup version texts) < 2 ^ 32 → fieldAt 4 (startup version texts ++ rest) 0 ≡ some (length (startup version texts))
   unfolding startup
   length-back rest h =
-      let b : List ℕ = beBytes 4 (unsigned 2147483648 version) ++ pairs texts in
+      let b : List ℕ = intBytes 4 version ++ pairs texts in
       let n : length (startup version texts) ≡ length b + 4 = length-append (beBytes 4 (length b + 4)) b ∙ omega (arith, length-beBytes 4 (length b + 4)) in
       rw (append-assoc (beBytes 4 (length b + 4)) b rest, n) (field-read 4 (beBytes 4 (length b + 4) ++ (b ++ rest)) 0 (length b + 4) (b ++ rest) (omega arith) (omega arith) refl .0)
 
   -- behind it stand the version and the texts
-  fields-back : mag version < 2147483648 → (fieldAt 4 (startup version texts) 4 ≡ some (unsigned 2147483648 version)) × (drop 8 (startup version texts) ≡ pairs texts)
+  fields-back : mag version < half 4 → (intAt 4 (startup version texts) 4 ≡ some version) × (drop 8 (startup version texts) ≡ pairs texts)
   unfolding startup
   fields-back h =
-      let v : ℕ = unsigned 2147483648 version in
-      let b : List ℕ = beBytes 4 v ++ pairs texts in
-      field-read 4 (startup version texts) 4 v (pairs texts) (omega arith) (unsigned-below 2147483648 version h) (drop-at (beBytes 4 (length b + 4)) b 4 (length-beBytes 4 (length b + 4)))
+      let b : List ℕ = intBytes 4 version ++ pairs texts in
+      int-read 4 (startup version texts) 4 (omega arith) version (pairs texts) h (drop-at (beBytes 4 (length b + 4)) b 4 (length-beBytes 4 (length b + 4)))
 
   -- a startup message of texts without zero bytes and of names that are not empty is read back, with the bytes behind it
-  pub startup-back : (rest : List ℕ) → mag version < 2147483648 → Sendable texts → length (startup version texts) < 2147483648
+  pub startup-back : (rest : List ℕ) → mag version < half 4 → Sendable texts → length (startup version texts) < half 4
       → startupOf (startup version texts ++ rest) ≡ some (record { version = version; parameters = paired texts; rest = rest })
   unfolding startupOf
   startup-back rest h s k =
@@ -84,5 +84,5 @@ module _ (version : ℤ) (texts : List (RefT (List ℕ))) where
       let n : length m ≤ length (m ++ rest) = omega (arith, length-append m rest) in
       let f = fields-back h in
       rw (length-back rest (omega arith))
-      (simp (lt-leb 2147483648 (length m) k, le-ltb (length (m ++ rest)) (length m) n)
-      (rw (take-append-seam m rest, drop-append-seam m rest, f .0, f .1, signed-unsigned 2147483648 version h, pairs-back texts s)))
+      (simp (lt-leb (half 4) (length m) k, le-ltb (length (m ++ rest)) (length m) n)
+      (rw (take-append-seam m rest, drop-append-seam m rest, f .0, f .1, pairs-back texts s)))

@@ -7,7 +7,7 @@ use lib.ListN.{length}
 use lib.IntN.{ℤ}
 use denote.Ref.{RefT, now}
 use Rattle.wire.specs.Bytes.{beBytes}
-use Rattle.wire.specs.Field.{unsigned}
+use Rattle.wire.specs.Int.{intBytes}
 use Rattle.stream.specs.Message.{framed}
 
 -- Query: Byte1('Q'), Int32, String
@@ -37,7 +37,7 @@ statusBody position time reply =
     114 ∷ (beBytes 8 position
     ++ (beBytes 8 position
     ++ (beBytes 8 position
-    ++ (beBytes 8 (unsigned 9223372036854775808 time)
+    ++ (intBytes 8 time
     ++ (flag reply ∷ [])))))
 
 -- the whole message: the body in a CopyData
@@ -53,5 +53,5 @@ pairs (name ∷ value ∷ rest) = now name ++ (0 ∷ (now value ++ (0 ∷ pairs 
 -- StartupMessage: Int32 length counting itself, Int32 version, pairs; it has no tag
 unfoldable pub startup : ℤ → List (RefT (List ℕ)) → List ℕ
 startup version texts =
-    let body : List ℕ = beBytes 4 (unsigned 2147483648 version) ++ pairs texts in
+    let body : List ℕ = intBytes 4 version ++ pairs texts in
     beBytes 4 (length body + 4) ++ body

@@ -6,10 +6,11 @@ use mathlib.Core.Option.{Option, some, none}
 use Prim.Native.Nat.{ℕ, zero, suc, _+_}
 use lib.ListN.{length, take, drop}
 use lib.IntN.{ℤ}
-use lib.Dec.{leb, ltb}
+use lib.Dec.{ltb}
 use denote.Ref.{RefT, now}
 use Rattle.wire.specs.Bytes.{pick}
-use Rattle.wire.specs.Field.{andThen, fieldAt, signedOf}
+use Rattle.wire.specs.Field.{andThen, fieldAt}
+use Rattle.wire.specs.Int.{isNegative, intAt}
 use Rattle.wire.specs.Find.{indexOf, NoZero}
 use Rattle.wire.specs.declared.find.Found.{Found}
 use Rattle.wire.specs.declared.find.Found.the-variants.{At, Nothing}
@@ -47,7 +48,7 @@ pairsOf s = pairsFrom (length s) s
 -- by the bytes of a message, its length field with them, and those behind it
 abbrev pub startupBy : List ℕ → List ℕ → Option Startup
 startupBy m rest =
-    andThen (signedOf 2147483648 (fieldAt 4 m 4)) (λ version.
+    andThen (intAt 4 m 4) (λ version.
     andThen (pairsOf (drop 8 m)) (λ pairs.
     some (record { version = version; parameters = pairs; rest = rest })))
 
@@ -55,7 +56,7 @@ startupBy m rest =
 unfoldable pub startupOf : List ℕ → Option Startup
 startupOf s =
     andThen (fieldAt 4 s 0) (λ n.
-    pick (leb 2147483648 n) none
+    pick (isNegative 4 n) none
     (pick (ltb (length s) n) none
     (startupBy (take n s) (drop n s))))
 

@@ -12,6 +12,9 @@ use error::Written;
 use hex::HexPart;
 use wire::find::Found;
 
+// A position has two halves of 32 bits.
+const HALF: u64 = 4294967296;
+
 // A position in the server's log.
 pub struct Lsn(pub u64);
 
@@ -67,7 +70,7 @@ impl Lsn {
     pub fn text_len(self) -> usize
         ensures { λ r. ⌜ r ≡ length (displayOf (self .0)) ⌝ }
     {
-        text::hex_len(self.0 / 4294967296) + 1 + text::hex_len(self.0 % 4294967296)
+        text::hex_len(self.0 / HALF) + 1 + text::hex_len(self.0 % HALF)
     }
 
     // The place behind Display, written at `to` where it fits.
@@ -80,9 +83,9 @@ impl Lsn {
         if out.len() - to < self.text_len() {
             return to;
         }
-        let a = text::place_hex(out, to, self.0 / 4294967296);
+        let a = text::place_hex(out, to, self.0 / HALF);
         let b = wire::store::place(out, a, b"/");
-        text::place_hex(out, b, self.0 % 4294967296)
+        text::place_hex(out, b, self.0 % HALF)
     }
 
     // The Rust's Display.

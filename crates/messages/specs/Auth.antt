@@ -4,7 +4,7 @@ use mathlib.Core.Option.{Option, some, none}
 use Prim.Native.Nat.{ℕ, _-_}
 use lib.ListN.{length}
 use lib.IntN.{ℤ, pos}
-use Rattle.wire.specs.Field.{fieldAt, signed}
+use Rattle.wire.specs.Int.{intAt}
 use Rattle.error.specs.Refusal.{numberOf}
 use Rattle.messages.specs.declared.AuthRequest.{AuthRequest}
 use Rattle.messages.specs.declared.AuthRequest.the-variants.{Request, Refused}
@@ -15,10 +15,10 @@ authOutcome (Request code from len) = (0, code, from, len)
 authOutcome (Refused r) = (numberOf r, pos 0, 0, 0)
 
 -- the same of a code that may be cut: 21 under 4 bytes
-abbrev pub authBy : ℕ → Option ℕ → ℕ × ℤ × ℕ × ℕ
+abbrev pub authBy : ℕ → Option ℤ → ℕ × ℤ × ℕ × ℕ
 authBy n none = (21, pos 0, 0, 0)
-authBy n (some v) = (0, signed 2147483648 v, 4, n - 4)
+authBy n (some code) = (0, code, 4, n - 4)
 
 -- a 32-bit code and the rest
 unfoldable pub authOf : List ℕ → ℕ × ℤ × ℕ × ℕ
-authOf payload = authBy (length payload) (fieldAt 4 payload 0)
+authOf payload = authBy (length payload) (intAt 4 payload 0)

@@ -1,61 +1,30 @@
 -- What the fields of a message say where they are not cut, and the refusal where one is.
-use mathlib.Core.Path.{_≡_, refl, sym}
+use mathlib.Core.Path.{_≡_, refl}
 use mathlib.Core.List.{List, [], _∷_}
-use mathlib.Core.Option.{some, none}
+use mathlib.Core.Option.{some}
 use Prim.Native.Nat.{ℕ, _+_, _-_, _%_, _≤_, _<_}
 use native.Mathlib.Omega.{arith}
 use lib.ListN.{length, drop, getD, length-drop}
 use lib.Dec.{eqb}
 use borrow.Author.Tests.{lt-leb, le-ltb, eq-eqb, ne-eqb}
 use lib.IntN.{ℤ}
-use Rattle.wire.specs.Field.{fieldAt, signedOf}
+use Rattle.wire.specs.Field.{fieldAt}
+use Rattle.wire.specs.Int.{half, intAt}
 use Rattle.wire.specs.Find.{indexOf}
 use Rattle.wire.specs.declared.find.Found.the-variants.{At}
 use Rattle.wire.proofs.FindLaws.{found-below}
-use Rattle.wire.proofs.FieldLaws.{field-within, signed-some, signed-none}
-use Rattle.pgoutput.specs.Boundary.{Said, begin, commit, message, no-boundary, refused, time64, beginAt, commitAt, messageAt, boundaryOf}
-
--- a time that is not cut ends within the bytes
-pub time-within : (s : List ℕ) (i : ℕ) (z : ℤ) → signedOf 9223372036854775808 (fieldAt 8 s i) ≡ some z → i + 8 ≤ length s
-time-within s i z e =
-    let w = signed-some 9223372036854775808 (fieldAt 8 s i) z e in
-    field-within 8 s i (w .0) (w .1)
+use Rattle.pgoutput.specs.Boundary.{Said, begin, commit, message, no-boundary, beginAt, commitAt, messageAt, boundaryOf}
 
 module _ (s : List ℕ) (i : ℕ) where
-  pub begin-values : (a t x : ℕ) → fieldAt 8 s i ≡ some a → fieldAt 8 s (i + 8) ≡ some t → fieldAt 4 s (i + 16) ≡ some x → beginAt s i ≡ begin a (time64 t) x
-  begin-values a t x e f g = simp (e, f, g)
+  pub begin-values : (a : ℕ) (z : ℤ) (x : ℕ) → fieldAt 8 s i ≡ some a → intAt 8 s (i + 8) ≡ some z → fieldAt 4 s (i + 16) ≡ some x → beginAt s i ≡ begin a z x
+  begin-values a z x e f g = simp (e, f, g)
 
-  pub begin-read : (a : ℕ) (z : ℤ) (x : ℕ) → fieldAt 8 s i ≡ some a → signedOf 9223372036854775808 (fieldAt 8 s (i + 8)) ≡ some z → fieldAt 4 s (i + 16) ≡ some x
-      → begin a z x ≡ beginAt s i
-  begin-read a z x e f g =
-      let w = signed-some 9223372036854775808 (fieldAt 8 s (i + 8)) z f in
-      rw (← (w .2)) (sym (begin-values a (w .0) x e (w .1) g))
-
-  pub begin-time-cut : (a : ℕ) → fieldAt 8 s i ≡ some a → signedOf 9223372036854775808 (fieldAt 8 s (i + 8)) ≡ none → refused 16 ≡ beginAt s i
-  begin-time-cut a e f = simp (e, signed-none 9223372036854775808 (fieldAt 8 s (i + 8)) f)
-
-  pub begin-xid-cut : (a : ℕ) (z : ℤ) → fieldAt 8 s i ≡ some a → signedOf 9223372036854775808 (fieldAt 8 s (i + 8)) ≡ some z → fieldAt 4 s (i + 16) ≡ none
-      → refused 15 ≡ beginAt s i
-  begin-xid-cut a z e f g =
-      let w = signed-some 9223372036854775808 (fieldAt 8 s (i + 8)) z f in
-      simp (e, w .1, g)
-
-  pub commit-values : (v a b t : ℕ) → fieldAt 1 s i ≡ some v → fieldAt 8 s (i + 1) ≡ some a → fieldAt 8 s (i + 9) ≡ some b → fieldAt 8 s (i + 17) ≡ some t
-      → commitAt s i ≡ commit a b (time64 t)
-  commit-values v a b t e f g h = simp (e, f, g, h)
-
-  pub commit-read : (v a b : ℕ) (z : ℤ) → fieldAt 1 s i ≡ some v → fieldAt 8 s (i + 1) ≡ some a → fieldAt 8 s (i + 9) ≡ some b
-      → signedOf 9223372036854775808 (fieldAt 8 s (i + 17)) ≡ some z → commit a b z ≡ commitAt s i
-  commit-read v a b z e f g h =
-      let w = signed-some 9223372036854775808 (fieldAt 8 s (i + 17)) z h in
-      rw (← (w .2)) (sym (commit-values v a b (w .0) e f g (w .1)))
-
-  pub commit-time-cut : (v a b : ℕ) → fieldAt 1 s i ≡ some v → fieldAt 8 s (i + 1) ≡ some a → fieldAt 8 s (i + 9) ≡ some b
-      → signedOf 9223372036854775808 (fieldAt 8 s (i + 17)) ≡ none → refused 16 ≡ commitAt s i
-  commit-time-cut v a b e f g h = simp (e, f, g, signed-none 9223372036854775808 (fieldAt 8 s (i + 17)) h)
+  pub commit-values : (v a b : ℕ) (z : ℤ) → fieldAt 1 s i ≡ some v → fieldAt 8 s (i + 1) ≡ some a → fieldAt 8 s (i + 9) ≡ some b → intAt 8 s (i + 17) ≡ some z
+      → commitAt s i ≡ commit a b z
+  commit-values v a b z e f g h = simp (e, f, g, h)
 
   pub message-values : (v a n len : ℕ) → fieldAt 1 s i ≡ some v → fieldAt 8 s (i + 1) ≡ some a → indexOf 0 (drop (i + 9) s) ≡ At n
-      → fieldAt 4 s (i + 9 + n + 1) ≡ some len → len < 2147483648 → len ≤ length s - (i + 9 + n + 1 + 4)
+      → fieldAt 4 s (i + 9 + n + 1) ≡ some len → len < half 4 → len ≤ length s - (i + 9 + n + 1 + 4)
       → messageAt s i ≡ message (eqb (v % 2) 1) a (i + 9) n (i + 9 + n + 1 + 4) len
   message-values v a n len e f g h l m = simp (e, f, g, h, lt-leb _ _ l, le-ltb _ _ m)
 

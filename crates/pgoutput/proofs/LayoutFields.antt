@@ -5,15 +5,17 @@ use mathlib.Core.List.{List, [], _∷_}
 use mathlib.Core.Option.{Option, some, none}
 use Prim.Native.Nat.{ℕ, _+_, _-_, _%_, _≤_, _<_}
 use lib.ListN.{length, drop}
-use lib.Dec.{eqb, leb, ltb}
+use lib.IntN.{ℤ}
+use lib.Dec.{eqb, ltb}
 use borrow.Author.Tests.{eqb-true, leb-false, ltb-false}
 use Rattle.wire.specs.Bytes.{pick}
 use Rattle.wire.specs.Field.{fieldAt}
+use Rattle.wire.specs.Int.{half, isNegative, intAt}
 use Rattle.wire.specs.Find.{indexOf}
 use Rattle.wire.specs.declared.find.Found.{Found}
 use Rattle.wire.specs.declared.find.Found.the-variants.{At, Nothing}
 use Rattle.wire.proofs.Laws.{by-test}
-use Rattle.pgoutput.specs.Boundary.{Said, begin, commit, message, no-boundary, refused, need, time64, beginAt, commitAt, contentAt, prefixBy, messageAt, boundaryOf}
+use Rattle.pgoutput.specs.Boundary.{Said, begin, commit, message, no-boundary, refused, need, beginAt, commitAt, contentAt, prefixBy, messageAt, boundaryOf}
 
 -- what data say is what one of the three messages says, or that they are no boundary
 pub by-letter : {X : Type 0} (s : List ℕ) → ((t : List ℕ) → s ≡ 66 ∷ t → boundaryOf s ≡ beginAt s 1 → X) → ((t : List ℕ) → s ≡ 67 ∷ t → boundaryOf s ≡ commitAt s 1 → X)
@@ -30,7 +32,7 @@ by-letter (b ∷ t) f g h k =
     (λ r. k (simp (p, q, r)))))
 
 module _ (x : Said) (accepted : (n : ℕ) → refused n ≡ x → ⊥) where
-  needed : (n : ℕ) (o : Option ℕ) (go : ℕ → Said) → need n o go ≡ x → (v : ℕ) × (o ≡ some v) × (go v ≡ x)
+  needed : {A : Type 0} (n : ℕ) (o : Option A) (go : A → Said) → need n o go ≡ x → (v : A) × (o ≡ some v) × (go v ≡ x)
   needed n none go e = absurd (accepted n e)
   needed n (some v) go e = (v, refl, e)
 
@@ -40,21 +42,21 @@ module _ (x : Said) (accepted : (n : ℕ) → refused n ≡ x → ⊥) where
 
   module _ (s : List ℕ) (i : ℕ) where
     pub begin-fields : beginAt s i ≡ x
-        → (a t y : ℕ) × (fieldAt 8 s i ≡ some a) × (fieldAt 8 s (i + 8) ≡ some t) × (fieldAt 4 s (i + 16) ≡ some y) × (begin a (time64 t) y ≡ x)
+        → (a : ℕ) × (z : ℤ) × (y : ℕ) × (fieldAt 8 s i ≡ some a) × (intAt 8 s (i + 8) ≡ some z) × (fieldAt 4 s (i + 16) ≡ some y) × (begin a z y ≡ x)
     begin-fields e =
         let p = needed 16 (fieldAt 8 s i) _ e in
-        let q = needed 16 (fieldAt 8 s (i + 8)) _ (p .2) in
+        let q = needed 16 (intAt 8 s (i + 8)) _ (p .2) in
         let r = needed 15 (fieldAt 4 s (i + 16)) _ (q .2) in
         (p .0, q .0, r .0, p .1, q .1, r .1, r .2)
 
     pub commit-fields : commitAt s i ≡ x
-        → (v a b t : ℕ) × (fieldAt 1 s i ≡ some v) × (fieldAt 8 s (i + 1) ≡ some a) × (fieldAt 8 s (i + 9) ≡ some b) × (fieldAt 8 s (i + 17) ≡ some t)
-        × (commit a b (time64 t) ≡ x)
+        → (v a b : ℕ) × (z : ℤ) × (fieldAt 1 s i ≡ some v) × (fieldAt 8 s (i + 1) ≡ some a) × (fieldAt 8 s (i + 9) ≡ some b) × (intAt 8 s (i + 17) ≡ some z)
+        × (commit a b z ≡ x)
     commit-fields e =
         let p = needed 14 (fieldAt 1 s i) _ e in
         let q = needed 16 (fieldAt 8 s (i + 1)) _ (p .2) in
         let r = needed 16 (fieldAt 8 s (i + 9)) _ (q .2) in
-        let w = needed 16 (fieldAt 8 s (i + 17)) _ (r .2) in
+        let w = needed 16 (intAt 8 s (i + 17)) _ (r .2) in
         (p .0, q .0, r .0, w .0, p .1, q .1, r .1, w .1, w .2)
 
     found : (v a : ℕ) (f : Found) → prefixBy s i v a f ≡ x → (n : ℕ) × (f ≡ At n) × (contentAt s (i + n + 1) v a i n ≡ x)
@@ -62,16 +64,16 @@ module _ (x : Said) (accepted : (n : ℕ) → refused n ≡ x → ⊥) where
     found v a (At n) e = (n, refl, e)
 
     content-fields : (v a from n : ℕ) → contentAt s i v a from n ≡ x
-        → (len : ℕ) × (fieldAt 4 s i ≡ some len) × (len < 2147483648) × (len ≤ length s - (i + 4)) × (message (eqb (v % 2) 1) a from n (i + 4) len ≡ x)
+        → (len : ℕ) × (fieldAt 4 s i ≡ some len) × (len < half 4) × (len ≤ length s - (i + 4)) × (message (eqb (v % 2) 1) a from n (i + 4) len ≡ x)
     content-fields v a from n e =
         let p = needed 15 (fieldAt 4 s i) _ e in
-        let q = picked 18 (leb 2147483648 (p .0)) _ (p .2) in
+        let q = picked 18 (isNegative 4 (p .0)) _ (p .2) in
         let r = picked 18 (ltb (length s - (i + 4)) (p .0)) _ (q .1) in
-        (p .0, p .1, leb-false 2147483648 (p .0) (q .0), ltb-false (length s - (i + 4)) (p .0) (r .0), r .1)
+        (p .0, p .1, leb-false (half 4) (p .0) (q .0), ltb-false (length s - (i + 4)) (p .0) (r .0), r .1)
 
   pub message-fields : (s : List ℕ) (i : ℕ) → messageAt s i ≡ x
       → (v a n len : ℕ) × (fieldAt 1 s i ≡ some v) × (fieldAt 8 s (i + 1) ≡ some a) × (indexOf 0 (drop (i + 9) s) ≡ At n) × (fieldAt 4 s (i + 9 + n + 1) ≡ some len)
-      × (len < 2147483648) × (len ≤ length s - (i + 9 + n + 1 + 4)) × (message (eqb (v % 2) 1) a (i + 9) n (i + 9 + n + 1 + 4) len ≡ x)
+      × (len < half 4) × (len ≤ length s - (i + 9 + n + 1 + 4)) × (message (eqb (v % 2) 1) a (i + 9) n (i + 9 + n + 1 + 4) len ≡ x)
   message-fields s i e =
       let p = needed 14 (fieldAt 1 s i) _ e in
       let q = needed 16 (fieldAt 8 s (i + 1)) _ (p .2) in

@@ -11,6 +11,7 @@ use lib.Dec.{eqb}
 use lib.Pow.{areBytes}
 use Rattle.wire.specs.Bytes.{at, beBytes}
 use Rattle.wire.specs.Field.{fieldAt}
+use Rattle.wire.specs.Int.{half}
 use Rattle.wire.specs.Find.{indexOf, NoZero}
 use Rattle.wire.specs.declared.find.Found.the-variants.{At}
 use Rattle.wire.proofs.FindLaws.{zero-at, found-at}
@@ -69,7 +70,7 @@ regroup : (a b c d e : List ℕ) → a ++ (b ++ (0 ∷ (c ++ (d ++ e)))) ≡ (a 
 regroup a b c d e = simp append-assoc
 
 sent : (t : List ℕ) (v a n len : ℕ) → areBytes (77 ∷ t) ≡ true → fieldAt 1 (77 ∷ t) 1 ≡ some v → fieldAt 8 (77 ∷ t) 2 ≡ some a → indexOf 0 (drop 10 (77 ∷ t)) ≡ At n
-    → fieldAt 4 (77 ∷ t) (10 + n + 1) ≡ some len → len < 2147483648 → len ≤ length (77 ∷ t) - (10 + n + 1 + 4)
+    → fieldAt 4 (77 ∷ t) (10 + n + 1) ≡ some len → len < half 4 → len ≤ length (77 ∷ t) - (10 + n + 1 + 4)
     → (length (at (77 ∷ t) 10 n) ≡ n) × (length (at (77 ∷ t) (10 + n + 1 + 4) len) ≡ len)
     × SentMessage (77 ∷ t) (eqb (v % 2) 1) a (at (77 ∷ t) 10 n) (at (77 ∷ t) (10 + n + 1 + 4) len)
 unfolding messageBytes
@@ -100,7 +101,7 @@ sent t v a n len bytes e f g h b l =
 -- what is read as Message has its letter and its fields, none of them cut
 as-message : {X : Type 0} (s : List ℕ) (flag : Bool) (position pf pl cf cl : ℕ) → boundaryOf s ≡ message flag position pf pl cf cl
     → ((t : List ℕ) (v a n len : ℕ) → s ≡ 77 ∷ t → fieldAt 1 s 1 ≡ some v → fieldAt 8 s 2 ≡ some a → indexOf 0 (drop 10 s) ≡ At n → fieldAt 4 s (10 + n + 1) ≡ some len
-    → len < 2147483648 → len ≤ length s - (10 + n + 1 + 4) → message (eqb (v % 2) 1) a 10 n (10 + n + 1 + 4) len ≡ message flag position pf pl cf cl → X)
+    → len < half 4 → len ≤ length s - (10 + n + 1 + 4) → message (eqb (v % 2) 1) a 10 n (10 + n + 1 + 4) len ≡ message flag position pf pl cf cl → X)
     → X
 as-message s flag position pf pl cf cl e go =
     by-letter s

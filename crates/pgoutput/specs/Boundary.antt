@@ -7,9 +7,10 @@ use mathlib.Core.List.{List, [], _∷_, _++_}
 use mathlib.Core.Option.{Option, some, none}
 use lib.ListN.{length, drop}
 use lib.IntN.{ℤ}
-use lib.Dec.{ltb, leb, eqb}
+use lib.Dec.{ltb, eqb}
 use Rattle.wire.specs.Bytes.{pick, beBytes}
-use Rattle.wire.specs.Field.{fieldAt, signed, unsigned}
+use Rattle.wire.specs.Field.{fieldAt}
+use Rattle.wire.specs.Int.{isNegative, intAt, intBytes}
 use Rattle.wire.specs.Find.{indexOf}
 use Rattle.wire.specs.declared.find.Found.{Found}
 use Rattle.wire.specs.declared.find.Found.the-variants.{At, Nothing}
@@ -27,20 +28,17 @@ pub data Said : Type 0 where
   refused : ℕ → Said
 
 -- a field that may be cut: its refusal, or what follows
-abbrev pub need : ℕ → Option ℕ → (ℕ → Said) → Said
+abbrev pub need : {A : Type 0} → ℕ → Option A → (A → Said) → Said
 need n none go = refused n
 need n (some v) go = go v
-
-abbrev pub time64 : ℕ → ℤ
-time64 v = signed 9223372036854775808 v
 
 -- Begin, Byte1('B'), then from place i: Int64 final LSN, Int64 commit time, Int32 xid
 abbrev pub beginAt : List ℕ → ℕ → Said
 beginAt s i =
     need 16 (fieldAt 8 s i) (λ final.
-    need 16 (fieldAt 8 s (i + 8)) (λ time.
+    need 16 (intAt 8 s (i + 8)) (λ time.
     need 15 (fieldAt 4 s (i + 16)) (λ xid.
-    begin final (time64 time) xid)))
+    begin final time xid)))
 
 -- Commit, Byte1('C'), then from place i: Int8 flags, Int64 LSN, Int64 end LSN, Int64 commit time
 abbrev pub commitAt : List ℕ → ℕ → Said
@@ -48,14 +46,14 @@ commitAt s i =
     need 14 (fieldAt 1 s i) (λ flags.
     need 16 (fieldAt 8 s (i + 1)) (λ position.
     need 16 (fieldAt 8 s (i + 9)) (λ end.
-    need 16 (fieldAt 8 s (i + 17)) (λ time.
-    commit position end (time64 time)))))
+    need 16 (intAt 8 s (i + 17)) (λ time.
+    commit position end time))))
 
 -- the end of a Message whose prefix has n bytes from a place, from place i: Int32 length of the content, Byten content
 abbrev pub contentAt : List ℕ → ℕ → ℕ → ℕ → ℕ → ℕ → Said
 contentAt s i flags position from n =
     need 15 (fieldAt 4 s i) (λ len.
-    pick (leb 2147483648 len) (refused 18)
+    pick (isNegative 4 len) (refused 18)
     (pick (ltb (length s - (i + 4)) len) (refused 18)
     (message (eqb (flags % 2) 1) position from n (i + 4) len)))
 
@@ -90,12 +88,12 @@ saidBy (Refused r) = refused (numberOf r)
 
 -- the bytes of each message
 unfoldable pub beginBytes : ℕ → ℤ → ℕ → List ℕ
-beginBytes final time xid = 66 ∷ (beBytes 8 final ++ (beBytes 8 (unsigned 9223372036854775808 time) ++ beBytes 4 xid))
+beginBytes final time xid = 66 ∷ (beBytes 8 final ++ (intBytes 8 time ++ beBytes 4 xid))
 
 -- of a Commit: flags, LSN, end LSN, time
 unfoldable pub commitBytes : ℕ → ℕ → ℕ → ℤ → List ℕ
 commitBytes flags position end time =
-    67 ∷ flags ∷ (beBytes 8 position ++ (beBytes 8 end ++ beBytes 8 (unsigned 9223372036854775808 time)))
+    67 ∷ flags ∷ (beBytes 8 position ++ (beBytes 8 end ++ intBytes 8 time))
 
 -- of a Message: flags, LSN, prefix and its zero byte, length of the content, content
 unfoldable pub messageBytes : ℕ → ℕ → List ℕ → List ℕ → List ℕ

@@ -6,6 +6,7 @@ mod reader;
 
 use error::Refusal;
 use lsn::Lsn;
+use wire::field::FIRST_NEGATIVE_32;
 use wire::field::I64Field;
 use wire::field::U8Field;
 use wire::field::U32Field;
@@ -97,8 +98,7 @@ fn message_at(bytes: &[u8], at: usize) -> Boundary
     let U32Field::Value(n) = reader::u32_at(bytes, count) else {
         return Boundary::Refused(Refusal::TruncatedI32);
     };
-    // a signed length, of which this is the negative half
-    if 2147483648 <= n {
+    if FIRST_NEGATIVE_32 <= n {
         return Boundary::Refused(Refusal::ContentTooShort);
     }
     let rest = reader::rest_at(bytes, count + 4);

@@ -2,8 +2,9 @@
 ghost use mathlib.Core.Path.{_≡_};
 ghost use Prim.Native.Nat.{_-_};
 ghost use lib.ListN.{drop, length};
-ghost use Rattle.wire.specs.Field.{fieldAt, signedOf, u8Of, u32Of, u64Of, i64Of};
+ghost use Rattle.wire.specs.Field.{fieldAt, u8Of, u32Of, u64Of, i64Of};
 ghost use Rattle.wire.specs.Find.{indexOf};
+ghost use Rattle.wire.specs.Int.{intAt};
 use wire::field::I64Field;
 use wire::field::U8Field;
 use wire::field::U32Field;
@@ -74,7 +75,7 @@ pub fn take_u64<'a>(r: Reader<'a>) -> U64Field
 }
 
 pub fn take_i64<'a>(r: Reader<'a>) -> I64Field
-    ensures { λ n. ⌜ i64Of n ≡ signedOf 9223372036854775808 (fieldAt 8 (now (r .entry .bytes)) (r .entry .place)) ⌝ }
+    ensures { λ n. ⌜ i64Of n ≡ intAt 8 (now (r .entry .bytes)) (r .entry .place) ⌝ }
 {
     wire::field::read_i64(r.bytes, r.place)
 }
@@ -113,7 +114,7 @@ pub fn u64_at(bytes: &[u8], at: usize) -> U64Field
 }
 
 pub fn i64_at(bytes: &[u8], at: usize) -> I64Field
-    ensures { λ r. ⌜ i64Of r ≡ signedOf 9223372036854775808 (fieldAt 8 (now (bytes .entry)) at) ⌝ }
+    ensures { λ r. ⌜ i64Of r ≡ intAt 8 (now (bytes .entry)) at ⌝ }
 {
     take_i64(new(bytes, at))
 }

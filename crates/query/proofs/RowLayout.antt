@@ -4,7 +4,7 @@ use mathlib.Core.Bool.{Bool, true, false}
 use mathlib.Core.List.{List, [], _∷_, _++_, map, map-map, append-assoc}
 use mathlib.Core.Logic.{inl, inr, ⊎-elim}
 use mathlib.Core.Option.{Option, some, none}
-use Prim.Native.Nat.{ℕ, zero, suc, _+_, _-_, _≤_, _<_}
+use Prim.Native.Nat.{ℕ, zero, suc, _+_, _-_, _^_, _≤_, _<_}
 use native.Mathlib.Omega.{arith}
 use lib.ListN.{length, drop, length-append, length-take, length-drop, length-map, take-append-drop}
 use lib.Seq.{drop-drop, take-append-seam, drop-append-seam}
@@ -13,6 +13,7 @@ use lib.Pow.{areBytes}
 use borrow.Author.Tests.{le-leb, lt-leb, le-ltb, leb-true, leb-false, ltb-false}
 use Rattle.wire.specs.Bytes.{pick, at, be, beBytes}
 use Rattle.wire.specs.Field.{fieldAt}
+use Rattle.wire.specs.Int.{half, isNegative}
 use Rattle.wire.proofs.FieldLaws.{field-read, part-bytes, part-there}
 use Rattle.wire.proofs.Laws.{impossible}
 use Rattle.query.specs.Row.{columnBy, columnAt, also, andThen, columnsFrom, rowBy, rowOf, nth, columnOf}
@@ -59,7 +60,7 @@ cells-read (value v ∷ cells) s i rest h e =
 pub laid-is-read : Laid-is-read
 unfolding readOf rowOf
 laid-is-read payload cells r =
-    let n : r .count < 65536 = ⊎-elim (λ h. omega arith) (λ h. h .1) (r .counts) in
+    let n : r .count < 2 ^ 16 = ⊎-elim (λ h. omega arith) (λ h. h .1) (r .counts) in
     let f = field-read 2 payload 0 (r .count) (cellsBytes cells ++ r .rest) (omega arith) n (r .whole) in
     ⊎-elim
     (λ h. rw (f .0) (simp (lt-leb _ _ (h .1)) (rw (h .0) (cells-read cells payload 2 (r .rest) (r .sendable) (f .1)))))
@@ -89,8 +90,8 @@ sent-is-read vs surplus n h =
 -- what stands at a place
 data Stands (s : List ℕ) (i : ℕ) : Option (Column × ℕ) → Type 0 where
   cut : Stands s i none
-  a-null : i + 4 ≤ length s → 2147483648 ≤ be (at s i 4) → Stands s i (some (Null, i + 4))
-  a-value : be (at s i 4) < 2147483648 → i + 4 + be (at s i 4) ≤ length s → Stands s i (some (Part (i + 4) (be (at s i 4)), i + 4 + be (at s i 4)))
+  a-null : i + 4 ≤ length s → half 4 ≤ be (at s i 4) → Stands s i (some (Null, i + 4))
+  a-value : be (at s i 4) < half 4 → i + 4 + be (at s i 4) ≤ length s → Stands s i (some (Part (i + 4) (be (at s i 4)), i + 4 + be (at s i 4)))
 
 stands : (s : List ℕ) (i : ℕ) → Stands s i (columnAt s i)
 unfolding columnAt fieldAt
@@ -99,16 +100,16 @@ stands s i = there (leb (i + 4) (length s)) refl
     n : ℕ
     n = be (at s i 4)
 
-    room : (t : Bool) → ltb (length s - (i + 4)) n ≡ t → i + 4 ≤ length s → n < 2147483648 → Stands s i (pick t none (some (Part (i + 4) n, i + 4 + n)))
+    room : (t : Bool) → ltb (length s - (i + 4)) n ≡ t → i + 4 ≤ length s → n < half 4 → Stands s i (pick t none (some (Part (i + 4) n, i + 4 + n)))
     room true q h a = cut
     room false q h a = let k : n ≤ length s - (i + 4) = ltb-false _ _ q in a-value a (omega arith)
 
-    sign : (t : Bool) → leb 2147483648 n ≡ t → i + 4 ≤ length s → Stands s i (pick t (some (Null, i + 4)) (pick (ltb (length s - (i + 4)) n) none (some (Part (i + 4) n, i + 4 + n))))
+    sign : (t : Bool) → isNegative 4 n ≡ t → i + 4 ≤ length s → Stands s i (pick t (some (Null, i + 4)) (pick (ltb (length s - (i + 4)) n) none (some (Part (i + 4) n, i + 4 + n))))
     sign true q h = a-null h (leb-true _ _ q)
     sign false q h = room (ltb (length s - (i + 4)) n) refl h (leb-false _ _ q)
 
     there : (t : Bool) → leb (i + 4) (length s) ≡ t → Stands s i (columnBy (length s) i (pick t (some n) none))
-    there true q = sign (leb 2147483648 n) refl (leb-true _ _ q)
+    there true q = sign (isNegative 4 n) refl (leb-true _ _ q)
     there false q = cut
 
 -- bytes that begin with n columns, which say these things
@@ -172,19 +173,19 @@ read-is-laid payload ts b e = there (leb 2 (length payload)) refl e
     n : ℕ
     n = be (at payload 0 2)
 
-    sign : (t : Bool) → leb 32768 n ≡ t → 2 ≤ length payload → toldBy payload (pick t (some []) (columnsFrom n payload 2)) ≡ some ts
+    sign : (t : Bool) → isNegative 2 n ≡ t → 2 ≤ length payload → toldBy payload (pick t (some []) (columnsFrom n payload 2)) ≡ some ts
         → (cells : List Cell) × Laid payload cells × (map meant cells ≡ ts)
     sign true q h p =
-        ([], record { count = n; counts = inr (leb-true 32768 n q, part-bytes payload 0 2 b h .1, refl); sendable = tt; rest = drop 2 payload; whole = part-there 2 payload 0 b h }, (cc))
+        ([], record { count = n; counts = inr (leb-true (half 2) n q, part-bytes payload 0 2 b h .1, refl); sendable = tt; rest = drop 2 payload; whole = part-there 2 payload 0 b h }, (cc))
     sign false q h p =
         let w = told-some payload (columnsFrom n payload 2) ts p in
         let r = walk-laid n payload 2 (w .0) b (w .1) in
         let x : payload ≡ beBytes 2 n ++ (cellsBytes (r .cells) ++ r .rest) = part-there 2 payload 0 b h ∙ ap (λ (l : List ℕ). beBytes 2 n ++ l) (r .whole) in
-        (r .cells, record { count = n; counts = inl (sym (r .count), leb-false 32768 n q); sendable = r .sendable; rest = r .rest; whole = x }, r .same ∙ w .2)
+        (r .cells, record { count = n; counts = inl (sym (r .count), leb-false (half 2) n q); sendable = r .sendable; rest = r .rest; whole = x }, r .same ∙ w .2)
 
     there : (t : Bool) → leb 2 (length payload) ≡ t → toldBy payload (rowBy payload (pick t (some n) none)) ≡ some ts
         → (cells : List Cell) × Laid payload cells × (map meant cells ≡ ts)
-    there true q p = sign (leb 32768 n) refl (leb-true 2 (length payload) q) p
+    there true q p = sign (isNegative 2 n) refl (leb-true 2 (length payload) q) p
     there false q p = impossible cc
 
 -- ---- a part stands in the payload
@@ -218,7 +219,7 @@ walk-within (suc n) s i = column-within s i (columnAt s i) (λ k. columnsFrom n 
 
 row-within : (s : List ℕ) (f : Option ℕ) → RowWithin s (rowBy s f)
 row-within s none = tt
-row-within s (some n) = by (leb 32768 n)
+row-within s (some n) = by (isNegative 2 n)
   where
     by : (t : Bool) → RowWithin s (pick t (some []) (columnsFrom n s 2))
     by true = tt

@@ -4,9 +4,10 @@ use Prim.Native.Nat.{ℕ, zero, suc, _+_, _-_}
 use mathlib.Core.List.{List, [], _∷_}
 use mathlib.Core.Option.{Option, some, none}
 use lib.ListN.{length}
-use lib.Dec.{ltb, leb}
+use lib.Dec.{ltb}
 use Rattle.wire.specs.Bytes.{pick}
 use Rattle.wire.specs.Field.{fieldAt}
+use Rattle.wire.specs.Int.{isNegative}
 use Rattle.error.specs.Refusal.{numberOf}
 use Rattle.query.specs.declared.Column.{Column}
 use Rattle.query.specs.declared.Column.the-variants.{Null, Part, Absent}
@@ -17,7 +18,7 @@ use Rattle.query.specs.declared.row.Row.the-variants.{Columns, Refused}
 abbrev pub columnBy : ℕ → ℕ → Option ℕ → Option (Column × ℕ)
 columnBy n i none = none
 columnBy n i (some len) =
-    pick (leb 2147483648 len) (some (Null, i + 4))
+    pick (isNegative 4 len) (some (Null, i + 4))
     (pick (ltb (n - (i + 4)) len) none
     (some (Part (i + 4) len, i + 4 + len)))
 
@@ -43,7 +44,7 @@ columnsFrom (suc n) s i = andThen (columnAt s i) (λ k. columnsFrom n s k)
 -- by the number of columns
 abbrev pub rowBy : List ℕ → Option ℕ → Option (List Column)
 rowBy s none = none
-rowBy s (some n) = pick (leb 32768 n) (some []) (columnsFrom n s 2)
+rowBy s (some n) = pick (isNegative 2 n) (some []) (columnsFrom n s 2)
 
 -- the columns of a row
 unfoldable pub rowOf : List ℕ → Option (List Column)

@@ -6,10 +6,11 @@ use mathlib.Core.Bool.{true}
 use mathlib.Core.List.{List, [], _∷_, _++_, map}
 use mathlib.Core.Logic.{_⊎_}
 use mathlib.Core.Option.{Option, some, none}
-use Prim.Native.Nat.{ℕ, _+_, _≤_, _<_}
+use Prim.Native.Nat.{ℕ, _+_, _-_, _^_, _≤_, _<_}
 use lib.ListN.{length}
 use lib.Pow.{areBytes}
 use Rattle.wire.specs.Bytes.{at, beBytes}
+use Rattle.wire.specs.Int.{half}
 use Rattle.query.specs.Row.{rowOf, columnOf}
 use Rattle.query.specs.declared.Column.{Column}
 use Rattle.query.specs.declared.Column.the-variants.{Null, Part, Absent}
@@ -31,8 +32,8 @@ cellsBytes (c ∷ cs) = cellBytes c ++ cellsBytes cs
 
 -- a null's length is negative, a value's is not
 abbrev pub Sendable : Cell → Type 0
-Sendable (null n) = (2147483648 ≤ n) × (n < 4294967296)
-Sendable (value v) = length v < 2147483648
+Sendable (null n) = (half 4 ≤ n) × (n < 2 ^ 32)
+Sendable (value v) = length v < half 4
 
 abbrev pub AllSendable : List Cell → Type 0
 AllSendable [] = Unit
@@ -40,7 +41,7 @@ AllSendable (c ∷ cs) = Sendable c × AllSendable cs
 
 -- the number of columns as it is sent: how many there are, or a negative number for none
 abbrev pub Counts : ℕ → List Cell → Type 0
-Counts n cs = ((n ≡ length cs) × (n < 32768)) ⊎ ((32768 ≤ n) × (n < 65536) × (cs ≡ []))
+Counts n cs = ((n ≡ length cs) × (n < half 2)) ⊎ ((half 2 ≤ n) × (n < 2 ^ 16) × (cs ≡ []))
 
 -- the payload is these columns as they are sent, and what follows them
 pub record Laid (payload : List ℕ) (cells : List Cell) : Type 0 where
@@ -83,22 +84,22 @@ Read-is-laid = (payload : List ℕ) (ts : List Told) → areBytes payload ≡ tr
 
 -- nulls and values as the document has them sent: the length of a null is -1
 abbrev pub cellOf : Option (List ℕ) → Cell
-cellOf none = null 4294967295
+cellOf none = null (2 ^ 32 - 1)
 cellOf (some v) = value v
 
 -- Int16 count of columns, then the columns
 unfoldable pub rowBytes : List (Option (List ℕ)) → List ℕ
 rowBytes vs = beBytes 2 (length vs) ++ cellsBytes (map cellOf vs)
 
--- every value is shorter than 2^31
+-- every value's length is a number that is not negative
 abbrev pub Short : List (Option (List ℕ)) → Type 0
 Short [] = Unit
 Short (none ∷ vs) = Short vs
-Short (some v ∷ vs) = (length v < 2147483648) × Short vs
+Short (some v ∷ vs) = (length v < half 4) × Short vs
 
 -- so they are read back, whatever follows
 abbrev pub Sent-is-read : Type 0
-Sent-is-read = (vs : List (Option (List ℕ))) (surplus : List ℕ) → length vs < 32768 → Short vs
+Sent-is-read = (vs : List (Option (List ℕ))) (surplus : List ℕ) → length vs < half 2 → Short vs
     → readOf (rowBytes vs ++ surplus) ≡ some (map (λ v. meant (cellOf v)) vs)
 
 -- a part that a column names stands in the payload whole

@@ -6,6 +6,8 @@ ghost use Rattle.query.specs.Row.{columnAt, columnsFrom, rowOf, countOf,
 ghost use Rattle.query.specs.Code.{nextOf, walkOf, pickedOf};
 use crate::Column;
 use error::Refusal;
+use wire::field::FIRST_NEGATIVE_16;
+use wire::field::FIRST_NEGATIVE_32;
 use wire::field::U16Field;
 use wire::field::U32Field;
 
@@ -33,8 +35,7 @@ fn column_at(payload: &[u8], at: usize) -> Next
         return Next::Cut;
     };
     let from = at + 4;
-    // The upper half of the lengths are negative.
-    if 2147483648 <= len {
+    if FIRST_NEGATIVE_32 <= len {
         return Next::At(Column::Null, from);
     }
     let n = len as usize;
@@ -75,8 +76,7 @@ fn walk_row(payload: &[u8], i: usize) -> Walked
     let U16Field::Value(n) = wire::field::read_u16(payload, 0) else {
         return Walked::Malformed;
     };
-    // The upper half of the counts are negative.
-    if 32768 <= n {
+    if FIRST_NEGATIVE_16 <= n {
         return Walked::Row(0, Column::Absent);
     }
     walk(payload, n as usize, i)

@@ -11,23 +11,24 @@ use lib.IntN.{ℤ}
 use lib.Dec.{eqb}
 use borrow.Author.Tests.{lt-ltb, le-ltb, eq-eqb, ne-eqb, eqb-true}
 use Rattle.wire.specs.Bytes.{be, at}
-use Rattle.wire.specs.Field.{fieldAt, signed, signedOf}
+use Rattle.wire.specs.Field.{fieldAt}
+use Rattle.wire.specs.Int.{int, intAt}
 use Rattle.wire.proofs.Laws.{by-test, impossible}
-use Rattle.wire.proofs.FieldLaws.{field-whole, be-one, signed-none}
+use Rattle.wire.proofs.FieldLaws.{field-whole, int-whole, be-one}
 use Rattle.replication.specs.CopyData.{Said, w, k, refused, xlogOf, keepAliveOf, copyDataOf}
 
 -- a field that is there has its value and is not cut
 value : (n : ℕ) (s : List ℕ) (i v : ℕ) → i + n ≤ length s → some v ≡ fieldAt n s i → v ≡ be (at s i n)
 value n s i v h e = cc (field-whole n s i h)
 
-time : (n half : ℕ) (s : List ℕ) (i : ℕ) (z : ℤ) → i + n ≤ length s → some z ≡ signedOf half (fieldAt n s i) → z ≡ signed half (be (at s i n))
-time n half s i z h e = let q : some z ≡ some (signed half (be (at s i n))) = rw (field-whole n s i h) at e in cc
+time : (n : ℕ) (s : List ℕ) (i : ℕ) (z : ℤ) → i + n ≤ length s → some z ≡ intAt n s i → z ≡ int n (be (at s i n))
+time n s i z h e = cc (int-whole n s i h)
 
 pub not-cut : (n : ℕ) (s : List ℕ) (i : ℕ) → i + n ≤ length s → none ≡ fieldAt n s i → ⊥
 not-cut n s i h e = impossible (cc (field-whole n s i h))
 
-pub time-not-cut : (n half : ℕ) (s : List ℕ) (i : ℕ) → i + n ≤ length s → none ≡ signedOf half (fieldAt n s i) → ⊥
-time-not-cut n half s i h e = not-cut n s i h (sym (signed-none half (fieldAt n s i) (sym e)))
+pub time-not-cut : (n : ℕ) (s : List ℕ) (i : ℕ) → i + n ≤ length s → none ≡ intAt n s i → ⊥
+time-not-cut n s i h e = impossible (cc (int-whole n s i h))
 
 pub xlog-short : (s : List ℕ) → length s < 24 → refused 11 ≡ xlogOf s
 xlog-short s h = simp (lt-ltb _ _ h)
@@ -36,15 +37,15 @@ pub keep-alive-short : (s : List ℕ) → length s < 17 → refused 12 ≡ keepA
 keep-alive-short s h = simp (lt-ltb _ _ h)
 
 pub xlog-read : (s : List ℕ) (a b : ℕ) (z : ℤ) → 24 ≤ length s → some a ≡ fieldAt 8 s 0 → some b ≡ fieldAt 8 s 8
-    → some z ≡ signedOf 9223372036854775808 (fieldAt 8 s 16) → w a b z 25 (length s - 24) ≡ xlogOf s
+    → some z ≡ intAt 8 s 16 → w a b z 25 (length s - 24) ≡ xlogOf s
 xlog-read s a b z h e f g =
-    rw (value 8 s 0 a (omega arith) e, value 8 s 8 b (omega arith) f, time 8 9223372036854775808 s 16 z (omega arith) g)
+    rw (value 8 s 0 a (omega arith) e, value 8 s 8 b (omega arith) f, time 8 s 16 z (omega arith) g)
     (simp (le-ltb _ _ h))
 
 pub keep-alive-read : (s : List ℕ) (a : ℕ) (z : ℤ) (b : ℕ) → 17 ≤ length s → some a ≡ fieldAt 8 s 0
-    → some z ≡ signedOf 9223372036854775808 (fieldAt 8 s 8) → some b ≡ fieldAt 1 s 16 → k a z (not (eqb b 0)) ≡ keepAliveOf s
+    → some z ≡ intAt 8 s 8 → some b ≡ fieldAt 1 s 16 → k a z (not (eqb b 0)) ≡ keepAliveOf s
 keep-alive-read s a z b h e g f =
-    rw (value 8 s 0 a (omega arith) e, time 8 9223372036854775808 s 8 z (omega arith) g, value 1 s 16 b (omega arith) f, be-one s 16 (omega arith))
+    rw (value 8 s 0 a (omega arith) e, time 8 s 8 z (omega arith) g, value 1 s 16 b (omega arith) f, be-one s 16 (omega arith))
     (simp (le-ltb _ _ h))
 
 -- ---- by the letter

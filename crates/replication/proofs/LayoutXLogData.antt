@@ -12,26 +12,25 @@ use lib.Dec.{ltb}
 use lib.Pow.{areBytes}
 use borrow.Author.Tests.{le-ltb, ltb-false}
 use Rattle.wire.specs.Bytes.{at, beBytes}
-use Rattle.wire.specs.Field.{unsigned}
+use Rattle.wire.specs.Int.{intBytes}
 use Rattle.wire.proofs.Laws.{length-beBytes, by-test, impossible}
-use Rattle.wire.proofs.FieldLaws.{part-read, part-there, part-bytes, first-byte, signed-unsigned, unsigned-signed, unsigned-below, signed-within}
-use Rattle.replication.specs.CopyData.{w, int64, time64, xlogOf, keepAliveOf, copyDataOf, xlogData}
+use Rattle.wire.proofs.FieldLaws.{part-read, int-part-read, int-part-there, part-there, part-bytes, first-byte}
+use Rattle.replication.specs.CopyData.{w, lsnAt, timeAt, xlogOf, keepAliveOf, copyDataOf, xlogData}
 use Rattle.replication.proofs.Laws.{by-letter}
 use Rattle.replication.specs.CopyDataLayout.{XLogData-is-read, SentXLogData, Read-is-XLogData}
 
 -- ---- from the bytes to the values
 
 laid : (s : List ℕ) (a b : ℕ) (z : ℤ) (rest : List ℕ) → a < 2 ^ 64 → b < 2 ^ 64 → mag z < 2 ^ 63
-    → s ≡ beBytes 8 a ++ (beBytes 8 b ++ (beBytes 8 (unsigned 9223372036854775808 z) ++ rest)) → (xlogOf s ≡ w a b z 25 (length rest)) × (drop 24 s ≡ rest)
+    → s ≡ beBytes 8 a ++ (beBytes 8 b ++ (intBytes 8 z ++ rest)) → (xlogOf s ≡ w a b z 25 (length rest)) × (drop 24 s ≡ rest)
 laid s a b z rest ha hb hz e =
-    let u : ℕ = unsigned 9223372036854775808 z in
-    let p = part-read 8 s 0 a (beBytes 8 b ++ (beBytes 8 u ++ rest)) ha e in
-    let q = part-read 8 s 8 b (beBytes 8 u ++ rest) hb (p .1) in
-    let r = part-read 8 s 16 u rest (unsigned-below 9223372036854775808 z hz) (q .1) in
+    let p = part-read 8 s 0 a (beBytes 8 b ++ (intBytes 8 z ++ rest)) ha e in
+    let q = part-read 8 s 8 b (intBytes 8 z ++ rest) hb (p .1) in
+    let r = int-part-read 8 s 16 (omega arith) z rest hz (q .1) in
     let l : length s ≡ 24 + length rest = ap length e ∙ simp (length-append, length-beBytes) (omega arith) in
     let t : 24 ≤ length s = omega arith in
     let n : length s - 24 ≡ length rest = omega arith in
-    (simp (le-ltb _ _ t, p .0, q .0, r .0, n, signed-unsigned 9223372036854775808 z hz), r .1)
+    (simp (le-ltb _ _ t, p .0, q .0, r .0, n), r .1)
 
 pub xlog-data-is-read : XLogData-is-read
 unfolding copyDataOf xlogData
@@ -42,12 +41,12 @@ xlog-data-is-read start end time sent hs he ht =
 -- ---- from the values to the bytes
 
 fields : (s : List ℕ) (a b : ℕ) (z : ℤ) (from len : ℕ) → xlogOf s ≡ w a b z from len
-    → (24 ≤ length s) × (int64 s 0 ≡ a) × (int64 s 8 ≡ b) × (time64 s 16 ≡ z) × (25 ≡ from) × (length s - 24 ≡ len)
+    → (24 ≤ length s) × (lsnAt s 0 ≡ a) × (lsnAt s 8 ≡ b) × (timeAt s 16 ≡ z) × (25 ≡ from) × (length s - 24 ≡ len)
 fields s a b z from len e =
     by-test (ltb (length s) 24)
     (λ t. impossible cc)
     (λ t.
-    let q : w (int64 s 0) (int64 s 8) (time64 s 16) 25 (length s - 24) ≡ w a b z from len = rw t at e in
+    let q : w (lsnAt s 0) (lsnAt s 8) (timeAt s 16) 25 (length s - 24) ≡ w a b z from len = rw t at e in
     (ltb-false _ _ t, cc, cc, cc, cc, cc))
 
 no-keep-alive : (s : List ℕ) (a b : ℕ) (z : ℤ) (from len : ℕ) → keepAliveOf s ≡ w a b z from len → ⊥
@@ -58,13 +57,12 @@ no-keep-alive s a b z from len e =
 
 -- the three fields and the data, of a body that is long enough
 body : (s : List ℕ) → areBytes s ≡ true → 24 ≤ length s
-    → s ≡ beBytes 8 (int64 s 0) ++ (beBytes 8 (int64 s 8) ++ (beBytes 8 (unsigned 9223372036854775808 (time64 s 16)) ++ drop 24 s))
+    → s ≡ beBytes 8 (lsnAt s 0) ++ (beBytes 8 (lsnAt s 8) ++ (intBytes 8 (timeAt s 16) ++ drop 24 s))
 body s e l =
-    let h : int64 s 16 < 9223372036854775808 * 2 = part-bytes s 16 8 e (omega arith) .1 in
-    let p : s ≡ beBytes 8 (int64 s 0) ++ drop 8 s = part-there 8 s 0 e (omega arith) in
-    let q : drop 8 s ≡ beBytes 8 (int64 s 8) ++ drop 16 s = part-there 8 s 8 e (omega arith) in
-    let r : drop 16 s ≡ beBytes 8 (int64 s 16) ++ drop 24 s = part-there 8 s 16 e (omega arith) in
-    p ∙ ap (λ (x : List ℕ). beBytes 8 (int64 s 0) ++ x) (q ∙ ap (λ (x : List ℕ). beBytes 8 (int64 s 8) ++ x) (r ∙ rw (unsigned-signed 9223372036854775808 (int64 s 16) h)))
+    let p : s ≡ beBytes 8 (lsnAt s 0) ++ drop 8 s = part-there 8 s 0 e (omega arith) in
+    let q : drop 8 s ≡ beBytes 8 (lsnAt s 8) ++ drop 16 s = part-there 8 s 8 e (omega arith) in
+    let r : drop 16 s ≡ intBytes 8 (timeAt s 16) ++ drop 24 s = int-part-there 8 s 16 (omega arith) e (omega arith) .1 in
+    p ∙ ap (λ (x : List ℕ). beBytes 8 (lsnAt s 0) ++ x) (q ∙ ap (λ (x : List ℕ). beBytes 8 (lsnAt s 8) ++ x) r)
 
 sent : (s : List ℕ) (a b : ℕ) (z : ℤ) (from len : ℕ) → areBytes s ≡ true → xlogOf s ≡ w a b z from len → SentXLogData (119 ∷ s) a b z from len
 unfolding xlogData
@@ -75,7 +73,7 @@ sent s a b z from len e p =
     record {
       start-fits = part-bytes s 0 8 e (omega (arith, f .0)) .1;
       end-fits = part-bytes s 8 8 e (omega (arith, f .0)) .1;
-      time-fits = signed-within 9223372036854775808 (int64 s 16) (part-bytes s 16 8 e (omega (arith, f .0)) .1);
+      time-fits = int-part-there 8 s 16 (omega arith) e (omega (arith, f .0)) .0;
       there = rw (d, length-drop);
       whole = rw d (ap (λ (x : List ℕ). 119 ∷ x) (body s e (f .0)));
     }

@@ -7,7 +7,7 @@ use lib.ListN.{length, getD}
 use lib.IntN.{ℤ}
 use lib.Dec.{ltb, eqb}
 use Rattle.wire.specs.Bytes.{pick, at, be, beBytes}
-use Rattle.wire.specs.Field.{signed, unsigned}
+use Rattle.wire.specs.Int.{int, intBytes}
 use Rattle.error.specs.Refusal.{numberOf}
 use Rattle.replication.specs.declared.CopyData.{CopyData}
 use Rattle.replication.specs.declared.CopyData.the-variants.{XLogData, KeepAlive, Refused}
@@ -19,20 +19,20 @@ pub data Said : Type 0 where
   k : ℕ → ℤ → Bool → Said
   refused : ℕ → Said
 
--- a 64-bit field of s from place i
-abbrev pub int64 : List ℕ → ℕ → ℕ
-int64 s i = be (at s i 8)
+-- the Int64 of s from place i: a position, and a time
+abbrev pub lsnAt : List ℕ → ℕ → ℕ
+lsnAt s i = be (at s i 8)
 
-abbrev pub time64 : List ℕ → ℕ → ℤ
-time64 s i = signed 9223372036854775808 (int64 s i)
+abbrev pub timeAt : List ℕ → ℕ → ℤ
+timeAt s i = int 8 (be (at s i 8))
 
 -- XLogData, s behind the letter: Int64 start, Int64 end, Int64 time, Byten data
 abbrev pub xlogOf : List ℕ → Said
-xlogOf s = pick (ltb (length s) 24) (refused 11) (w (int64 s 0) (int64 s 8) (time64 s 16) 25 (length s - 24))
+xlogOf s = pick (ltb (length s) 24) (refused 11) (w (lsnAt s 0) (lsnAt s 8) (timeAt s 16) 25 (length s - 24))
 
 -- keepalive, s behind the letter: Int64 end, Int64 time, Byte1 reply, of which any but 0 asks for one
 abbrev pub keepAliveOf : List ℕ → Said
-keepAliveOf s = pick (ltb (length s) 17) (refused 12) (k (int64 s 0) (time64 s 8) (not (eqb (getD s 16 0) 0)))
+keepAliveOf s = pick (ltb (length s) 17) (refused 12) (k (lsnAt s 0) (timeAt s 8) (not (eqb (getD s 16 0) 0)))
 
 -- by the letter: `w`, `k`; 10 where there is none, 13 for another
 unfoldable pub copyDataOf : List ℕ → Said
@@ -64,8 +64,8 @@ saidBy (Refused r) = refused (numberOf r)
 -- the bytes of an XLogData
 unfoldable pub xlogData : ℕ → ℕ → ℤ → List ℕ → List ℕ
 xlogData start end time data-bytes =
-    119 ∷ (beBytes 8 start ++ (beBytes 8 end ++ (beBytes 8 (unsigned 9223372036854775808 time) ++ data-bytes)))
+    119 ∷ (beBytes 8 start ++ (beBytes 8 end ++ (intBytes 8 time ++ data-bytes)))
 
 -- the bytes of a keepalive with a reply byte
 unfoldable pub keepAlive : ℕ → ℤ → ℕ → List ℕ
-keepAlive end time reply = 107 ∷ (beBytes 8 end ++ (beBytes 8 (unsigned 9223372036854775808 time) ++ (reply ∷ [])))
+keepAlive end time reply = 107 ∷ (beBytes 8 end ++ (intBytes 8 time ++ (reply ∷ [])))

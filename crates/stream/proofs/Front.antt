@@ -9,6 +9,7 @@ use lib.Seq.{take-append-le, drop-append-le}
 use lib.Dec.{ltb, leb}
 use borrow.Author.Tests.{le-leb, lt-leb, lt-ltb, le-ltb, leb-true, leb-false, ltb-true, ltb-false}
 use Rattle.wire.specs.Bytes.{pick, be}
+use Rattle.wire.specs.Int.{half, isNegative}
 use Rattle.stream.specs.Message.{Front, in-header, in-payload, bad-length, too-large, whole, lengthField, frontBy, frontOf}
 
 -- ---- from the bytes to the front
@@ -18,11 +19,11 @@ unfolding frontOf
 header-front limit s h = simp (lt-ltb _ _ h)
 
 module _ (limit : ℕ) (s : List ℕ) (h : 5 ≤ length s) where
-  pub negative-front : 2147483648 ≤ lengthField s → frontOf limit s ≡ bad-length
+  pub negative-front : half 4 ≤ lengthField s → frontOf limit s ≡ bad-length
   unfolding frontOf
   negative-front a = simp (le-ltb _ _ h, le-leb _ _ a)
 
-  module _ (a : lengthField s < 2147483648) where
+  module _ (a : lengthField s < half 4) where
     pub short-front : lengthField s < 4 → frontOf limit s ≡ bad-length
     unfolding frontOf
     short-front b = simp (le-ltb _ _ h, lt-leb _ _ a, lt-ltb _ _ b)
@@ -46,11 +47,11 @@ module _ (limit : ℕ) (s : List ℕ) (h : 5 ≤ length s) where
 -- what a front says of the bytes
 pub data Shows (limit : ℕ) (s : List ℕ) : Front → Type 0 where
   cut-header : length s < 5 → Shows limit s in-header
-  negative : 5 ≤ length s → 2147483648 ≤ lengthField s → Shows limit s bad-length
-  short : 5 ≤ length s → lengthField s < 2147483648 → lengthField s < 4 → Shows limit s bad-length
-  large : 5 ≤ length s → lengthField s < 2147483648 → 4 ≤ lengthField s → limit < lengthField s - 4 → Shows limit s too-large
-  cut-payload : 5 ≤ length s → lengthField s < 2147483648 → 4 ≤ lengthField s → lengthField s - 4 ≤ limit → length s < lengthField s + 1 → Shows limit s in-payload
-  complete : 5 ≤ length s → lengthField s < 2147483648 → 4 ≤ lengthField s → lengthField s - 4 ≤ limit → lengthField s + 1 ≤ length s
+  negative : 5 ≤ length s → half 4 ≤ lengthField s → Shows limit s bad-length
+  short : 5 ≤ length s → lengthField s < half 4 → lengthField s < 4 → Shows limit s bad-length
+  large : 5 ≤ length s → lengthField s < half 4 → 4 ≤ lengthField s → limit < lengthField s - 4 → Shows limit s too-large
+  cut-payload : 5 ≤ length s → lengthField s < half 4 → 4 ≤ lengthField s → lengthField s - 4 ≤ limit → length s < lengthField s + 1 → Shows limit s in-payload
+  complete : 5 ≤ length s → lengthField s < half 4 → 4 ≤ lengthField s → lengthField s - 4 ≤ limit → lengthField s + 1 ≤ length s
       → Shows limit s (whole (getD s 0 0) (lengthField s - 4))
 
 pub shows : (limit : ℕ) (s : List ℕ) → Shows limit s (frontOf limit s)
@@ -60,29 +61,29 @@ shows limit s = five (ltb (length s) 5) refl
     n : ℕ
     n = lengthField s
 
-    room : (t : Bool) → ltb (length s) (n + 1) ≡ t → 5 ≤ length s → n < 2147483648 → 4 ≤ n → n - 4 ≤ limit
+    room : (t : Bool) → ltb (length s) (n + 1) ≡ t → 5 ≤ length s → n < half 4 → 4 ≤ n → n - 4 ≤ limit
         → Shows limit s (pick t in-payload (whole (getD s 0 0) (n - 4)))
     room true q h a b c = cut-payload h a b c (ltb-true _ _ q)
     room false q h a b c = complete h a b c (ltb-false _ _ q)
 
-    within : (t : Bool) → ltb limit (n - 4) ≡ t → 5 ≤ length s → n < 2147483648 → 4 ≤ n
+    within : (t : Bool) → ltb limit (n - 4) ≡ t → 5 ≤ length s → n < half 4 → 4 ≤ n
         → Shows limit s (pick t too-large (pick (ltb (length s) (n + 1)) in-payload (whole (getD s 0 0) (n - 4))))
     within true q h a b = large h a b (ltb-true _ _ q)
     within false q h a b = room (ltb (length s) (n + 1)) refl h a b (ltb-false _ _ q)
 
-    four : (t : Bool) → ltb n 4 ≡ t → 5 ≤ length s → n < 2147483648
+    four : (t : Bool) → ltb n 4 ≡ t → 5 ≤ length s → n < half 4
         → Shows limit s (pick t bad-length (pick (ltb limit (n - 4)) too-large (pick (ltb (length s) (n + 1)) in-payload (whole (getD s 0 0) (n - 4)))))
     four true q h a = short h a (ltb-true _ _ q)
     four false q h a = within (ltb limit (n - 4)) refl h a (ltb-false _ _ q)
 
-    sign : (t : Bool) → leb 2147483648 n ≡ t → 5 ≤ length s
+    sign : (t : Bool) → isNegative 4 n ≡ t → 5 ≤ length s
         → Shows limit s (pick t bad-length (pick (ltb n 4) bad-length (pick (ltb limit (n - 4)) too-large (pick (ltb (length s) (n + 1)) in-payload (whole (getD s 0 0) (n - 4))))))
     sign true q h = negative h (leb-true _ _ q)
     sign false q h = four (ltb n 4) refl h (leb-false _ _ q)
 
     five : (t : Bool) → ltb (length s) 5 ≡ t → Shows limit s (pick t in-header (frontBy limit s n))
     five true q = cut-header (ltb-true _ _ q)
-    five false q = sign (leb 2147483648 n) refl (ltb-false _ _ q)
+    five false q = sign (isNegative 4 n) refl (ltb-false _ _ q)
 
 -- ---- more bytes behind
 

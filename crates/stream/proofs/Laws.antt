@@ -6,6 +6,7 @@ use native.Mathlib.Omega.{arith}
 use lib.ListN.{length, take, drop, getD, length-append, length-drop, List·getD-append}
 use lib.Seq.{take-append-le, drop-append-le}
 use Rattle.wire.specs.Bytes.{at}
+use Rattle.wire.specs.Int.{half}
 use Rattle.wire.proofs.Laws.{impossible}
 use Rattle.stream.specs.Message.{Front, in-header, in-payload, bad-length, too-large, whole, lengthField, frontOf}
 use Rattle.stream.specs.Cut.{Item, message, refused, Ending, header, payload, over, Cut, behind, ended, cutBy, cutFrom, cutOf}
@@ -61,13 +62,13 @@ module _ (limit : ℕ) (s v : List ℕ) (h : 5 ≤ length s) where
   field : lengthField (s ++ v) ≡ lengthField s
   field = length-field-append s v h
 
-  negative-kept : 2147483648 ≤ lengthField s → frontOf limit (s ++ v) ≡ bad-length
+  negative-kept : half 4 ≤ lengthField s → frontOf limit (s ++ v) ≡ bad-length
   negative-kept a = negative-front limit (s ++ v) longer (rw field a)
 
-  short-kept : lengthField s < 2147483648 → lengthField s < 4 → frontOf limit (s ++ v) ≡ bad-length
+  short-kept : lengthField s < half 4 → lengthField s < 4 → frontOf limit (s ++ v) ≡ bad-length
   short-kept a b = short-front limit (s ++ v) longer (rw field a) (rw field b)
 
-  whole-kept : lengthField s < 2147483648 → 4 ≤ lengthField s → lengthField s - 4 ≤ limit → lengthField s + 1 ≤ length s
+  whole-kept : lengthField s < half 4 → 4 ≤ lengthField s → lengthField s - 4 ≤ limit → lengthField s + 1 ≤ length s
       → frontOf limit (s ++ v) ≡ whole (getD s 0 0) (lengthField s - 4)
   whole-kept a b c d =
       let g : getD (s ++ v) 0 0 ≡ getD s 0 0 = List·getD-append s v 0 0 (omega arith) in

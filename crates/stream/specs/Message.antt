@@ -3,8 +3,9 @@
 use Prim.Native.Nat.{ℕ, _+_, _-_}
 use mathlib.Core.List.{List, _∷_, _++_}
 use lib.ListN.{length, getD}
-use lib.Dec.{ltb, leb}
+use lib.Dec.{ltb}
 use Rattle.wire.specs.Bytes.{pick, at, be, beBytes}
+use Rattle.wire.specs.Int.{isNegative}
 
 -- the bytes of a message
 unfoldable pub framed : ℕ → List ℕ → List ℕ
@@ -25,10 +26,10 @@ pub data Front : Type 0 where
 abbrev pub lengthField : List ℕ → ℕ
 lengthField s = be (at s 1 4)
 
--- by a length field n of which 2^31 and above are negative
+-- by the length field
 abbrev pub frontBy : ℕ → List ℕ → ℕ → Front
 frontBy limit s n =
-    pick (leb 2147483648 n) bad-length
+    pick (isNegative 4 n) bad-length
     (pick (ltb n 4) bad-length
     (pick (ltb limit (n - 4)) too-large
     (pick (ltb (length s) (n + 1)) in-payload

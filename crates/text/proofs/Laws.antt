@@ -8,14 +8,11 @@ use native.Mathlib.Numerals.{add-one}
 use native.Mathlib.Omega.{arith}
 use lib.ListN.{length, drop, getD, set, length-append, drop-of-length-le}
 use lib.Seq.{drop-cons}
-use lib.Dec.{ltb, leb·zero}
-use lib.IntN.{ℤ, pos, negsuc, natAbs, _-ℤ_}
-use lib.Signed.{leZ}
+use lib.Dec.{ltb}
 use borrow.Author.Tests.{lt-ltb, le-ltb}
 use Rattle.wire.specs.Bytes.{put}
-use Rattle.wire.proofs.Signed.{above}
 use Rattle.wire.proofs.Laws.{put-set, put-one, put-two, put-next, put-none, by-test, impossible}
-use Rattle.text.specs.Numeral.{glyphOf, numeral, decimalText, signedText, lowerOf, hexBytes}
+use Rattle.text.specs.Numeral.{glyphOf, numeral, lowerOf, hexBytes}
 
 -- one digit less
 pub shorter : (base n x : ℕ) → 0 < base → x < base ^ suc n → x / base < base ^ n
@@ -110,16 +107,6 @@ unfolding hexBytes
 bytes-end d s at i h = rw (drop-of-length-le s h) (put-none d at)
 
 -- ---- signed numbers
-
-pub text-positive : (z : ℤ) → leZ (pos 0) z ≡ true → signedText z ≡ decimalText (natAbs z)
-text-positive (pos n) t = refl
-text-positive (negsuc n) t = impossible cc
-
-pub text-negative : (z : ℤ) (n : ℕ) → leZ (pos 0) z ≡ false → negsuc 0 -ℤ z ≡ pos n → signedText z ≡ 45 ∷ decimalText (n + 1)
-text-negative (pos k) n t e = impossible (cc (leb·zero k))
-text-negative (negsuc k) n t e =
-    let q : k ≡ n = cc (above k) in
-    rw q
 
 -- a sign and the digits behind it
 pub signed-digits : (d d₁ : List ℕ) (to n : ℕ) (t : List ℕ) → length t ≡ n → to + (n + 1) ≤ length d → d₁ ≡ put (set d to 45) (to + 1) t → d₁ ≡ put d to (45 ∷ t)

@@ -16,7 +16,9 @@ use lib.Dec.{leb, ltb}
 use lib.Pow.{areBytes}
 use borrow.Author.Tests.{lt-ltb, le-ltb, le-leb, ltb-true, ltb-false, leb-true}
 use Rattle.wire.specs.Bytes.{be, beFrom, beBytes, at}
-use Rattle.wire.specs.Field.{fieldAt, signed, unsigned, signedOf}
+use Rattle.wire.specs.Field.{fieldAt, signed, unsigned, valueOf}
+use Rattle.wire.specs.Int.{half, int, intAt, intBytes}
+use Rattle.wire.specs.declared.field.U64Field.{U64Field}
 use Rattle.wire.proofs.Laws.{be-snoc, be-more, be-none, length-beBytes, more, by-test, impossible}
 
 -- ---- a number and the bytes that spell it
@@ -103,6 +105,15 @@ module _ (half : ℕ) where
         (λ t. let l : v < half = ltb-true v half t in simp t l)
         (λ t. let l : half ≤ v = ltb-false v half t in simp t (omega arith))
 
+-- ---- a field that was read
+
+-- by an answer's contract, and which answer it is
+pub told : {F A : Type 0} (f : F → Option A) {r x : F} {o : Option A} → f r ≡ o → r ≡ x → o ≡ f x
+told f h e = sym h ∙ ap f e
+
+pub value-below : {r : U64Field} {v m : ℕ} → r ≡ U64Field.Value v → valueOf r < m → v < m
+value-below e h = rw e at h
+
 -- ---- a field that is not cut
 
 pub field-within : (n : ℕ) (s : List ℕ) (i v : ℕ) → fieldAt n s i ≡ some v → i + n ≤ length s
@@ -116,14 +127,15 @@ pub field-whole : (n : ℕ) (s : List ℕ) (i : ℕ) → i + n ≤ length s → 
 unfolding fieldAt
 field-whole n s i h = simp (le-leb _ _ h)
 
--- a signed field is there where the unsigned one is
-pub signed-some : (half : ℕ) (o : Option ℕ) (z : ℤ) → signedOf half o ≡ some z → (v : ℕ) × (o ≡ some v) × (signed half v ≡ z)
-signed-some half none z e = impossible cc
-signed-some half (some v) z e = (v, refl, cc)
+pub int-whole : (n : ℕ) (s : List ℕ) (i : ℕ) → i + n ≤ length s → intAt n s i ≡ some (int n (be (at s i n)))
+int-whole n s i h = rw (field-whole n s i h)
 
-pub signed-none : (half : ℕ) (o : Option ℕ) → signedOf half o ≡ none → o ≡ none
-signed-none half none e = refl
-signed-none half (some v) e = impossible cc
+pub int-within : (n : ℕ) (s : List ℕ) (i : ℕ) (z : ℤ) → intAt n s i ≡ some z → i + n ≤ length s
+unfolding fieldAt
+int-within n s i z e =
+    by-test (leb (i + n) (length s))
+    (λ t. leb-true _ _ t)
+    (λ t. let w : none ≡ some z = simp t at e in impossible cc)
 
 -- ---- a field at its place: what the list holds from there on is the field's bytes and the rest
 
@@ -149,3 +161,37 @@ field-there n s i v e f =
     let l : i + n ≤ length s = field-within n s i v f in
     let w : be (at s i n) ≡ v = cc (field-whole n s i l) in
     (l, rw w at (part-bytes s i n e l .1), rw w at (part-there n s i e l))
+
+-- ---- a signed field at its place, the same
+
+-- each value is negative or not
+halves : (n : ℕ) → 0 < n → half n * 2 ≡ 256 ^ n
+halves zero h = absurd (omega arith)
+halves (suc n) h = rw pow-suc (omega arith)
+
+value-fits : (n : ℕ) (z : ℤ) → 0 < n → mag z < half n → unsigned (half n) z < 256 ^ n
+value-fits n z h b = omega (arith, halves n h, unsigned-below (half n) z b)
+
+module _ (n : ℕ) (s : List ℕ) (i : ℕ) (h : 0 < n) where
+  pub int-part-read : (z : ℤ) (rest : List ℕ) → mag z < half n → drop i s ≡ intBytes n z ++ rest → (int n (be (at s i n)) ≡ z) × (drop (i + n) s ≡ rest)
+  int-part-read z rest b e =
+      let p = part-read n s i (unsigned (half n) z) rest (value-fits n z h b) e in
+      (rw (p .0) (signed-unsigned (half n) z b), p .1)
+
+  pub int-read : (z : ℤ) (rest : List ℕ) → mag z < half n → drop i s ≡ intBytes n z ++ rest → (intAt n s i ≡ some z) × (drop (i + n) s ≡ rest)
+  int-read z rest b e =
+      let p = field-read n s i (unsigned (half n) z) rest h (value-fits n z h b) e in
+      (rw (p .0) (ap some (signed-unsigned (half n) z b)), p .1)
+
+  pub int-part-there : areBytes s ≡ true → i + n ≤ length s
+      → (mag (int n (be (at s i n))) < half n) × (drop i s ≡ intBytes n (int n (be (at s i n))) ++ drop (i + n) s)
+  int-part-there e l =
+      let b : be (at s i n) < half n * 2 = rw (halves n h) (part-bytes s i n e l .1) in
+      (signed-within (half n) (be (at s i n)) b, rw (unsigned-signed (half n) (be (at s i n)) b) (part-there n s i e l))
+
+  pub int-there : (z : ℤ) → areBytes s ≡ true → intAt n s i ≡ some z → (i + n ≤ length s) × (mag z < half n) × (drop i s ≡ intBytes n z ++ drop (i + n) s)
+  int-there z e f =
+      let l : i + n ≤ length s = int-within n s i z f in
+      let w : int n (be (at s i n)) ≡ z = cc (int-whole n s i l) in
+      let p = int-part-there e l in
+      (l, rw w at (p .0), rw w at (p .1))

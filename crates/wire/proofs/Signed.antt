@@ -3,24 +3,22 @@ use mathlib.Core.Path.{_≡_, refl, ap, _∙_}
 use mathlib.Core.Bool.{true, false}
 use Prim.Native.Nat.{ℕ, zero, suc, _+_, _*_, _-_, _^_, _≤_, _<_}
 use native.Mathlib.Omega.{arith}
-use lib.IntN.{ℤ, pos, negsuc, natAbs, _-ℤ_}
-use lib.Signed.{mag, leZ, nonNeg}
-use lib.Dec.{T, leb·zero}
+use lib.IntN.{ℤ, pos, negsuc, _-ℤ_}
+use lib.Signed.{mag, leZ}
+use lib.Dec.{leb·zero}
 use mir.Val.{Fits, SFits, toZ, ofZ, hbits}
 use mir.Syntax.{Width, w64}
-use mathlib.Core.Option.{Option, some, none}
 use mir.ValLaws.{toZ-pos, toZ-ofZ}
 use borrow.Author.Tests.{lt-ltb, le-ltb}
-use Rattle.wire.specs.Field.{signed, unsigned, signedOf, u64Of}
-use Rattle.wire.specs.declared.field.U64Field.{U64Field}
+use Rattle.wire.specs.Field.{signed, unsigned}
 use Rattle.wire.proofs.Laws.{impossible}
 
 -- -1 - n
-pub below : (n : ℕ) → negsuc 0 -ℤ pos n ≡ negsuc n
+below : (n : ℕ) → negsuc 0 -ℤ pos n ≡ negsuc n
 below zero = refl
 below (suc n) = ap negsuc (omega arith)
 
-pub above : (n : ℕ) → negsuc 0 -ℤ negsuc n ≡ pos n
+above : (n : ℕ) → negsuc 0 -ℤ negsuc n ≡ pos n
 above n = simp (le-ltb (suc n) 1 (omega arith)) (ap pos (omega arith))
 
 -- ---- from a value to the number
@@ -32,8 +30,8 @@ module _ (half v : ℕ) (h : half ≤ 2 ^ 63) (b : v < half * 2) where
       let e : toZ w64 v ≡ pos v = toZ-pos w64 v (omega arith) in
       rw e (simp (lt-ltb _ _ l), l)
 
-  negative : half ≤ v → negsuc 0 -ℤ toZ w64 (half - 1 - (v - half)) ≡ negsuc (half * 2 - 1 - v)
-  negative l =
+  flipped : half ≤ v → negsuc 0 -ℤ toZ w64 (half - 1 - (v - half)) ≡ negsuc (half * 2 - 1 - v)
+  flipped l =
       let n : ℕ = half - 1 - (v - half) in
       let f : n < 2 ^ 63 = omega arith in
       let g : n ≡ half * 2 - 1 - v = omega arith in
@@ -41,28 +39,49 @@ module _ (half v : ℕ) (h : half ≤ 2 ^ 63) (b : v < half * 2) where
       rw e (below n ∙ ap negsuc g)
 
   pub high-fits : half ≤ v → SFits w64 (negsuc 0 -ℤ toZ w64 (half - 1 - (v - half)))
-  high-fits l = rw (negative l) (record { sfits = omega arith })
+  high-fits l = rw (flipped l) (record { sfits = omega arith })
 
   pub high : half ≤ v → (z : ℤ) → z ≡ negsuc 0 -ℤ toZ w64 (half - 1 - (v - half)) → (toZ w64 (ofZ w64 z) ≡ signed half v) × (mag (toZ w64 (ofZ w64 z)) < half)
   unfolding signed
   high l z e =
       let f : SFits w64 z = rw e (high-fits l) in
-      let g : toZ w64 (ofZ w64 z) ≡ negsuc (half * 2 - 1 - v) = toZ-ofZ w64 z f ∙ e ∙ negative l in
+      let g : toZ w64 (ofZ w64 z) ≡ negsuc (half * 2 - 1 - v) = toZ-ofZ w64 z f ∙ e ∙ flipped l in
       rw g (simp (le-ltb _ _ l), omega arith)
 
--- ---- from the number to its value
+-- ---- from the number to its value, by its sign, as the code sees it
 
-pub not-negative : (half : ℕ) (z : ℤ) → half ≤ 2 ^ 63 → mag z < half → leZ (pos 0) z ≡ true → T (nonNeg z) × (Fits w64 (natAbs z) × (natAbs z ≡ unsigned half z))
-unfolding unsigned
-not-negative half (pos n) h m t = (tt, (record { fits = omega arith }, refl))
-not-negative half (negsuc n) h m t = impossible cc
+pub record NotNegative (half : ℕ) (z : ℤ) : Type 0 where
+  pub n : ℕ
+  pub same : z ≡ pos n
+  pub seen : toZ w64 (ofZ w64 z) ≡ pos n
+  pub fits : Fits w64 n
+  pub value : n ≡ unsigned half z
 
--- what -1 - z is where z is negative
-pub negated : (half : ℕ) (z : ℤ) → half ≤ 2 ^ 63 → mag z < half → leZ (pos 0) z ≡ false
-    → (n : ℕ) × (negsuc 0 -ℤ z ≡ pos n) × (n < half) × (unsigned half z ≡ half - 1 - n + half)
-unfolding unsigned
-negated half (pos n) h m t = impossible (cc (leb·zero n))
-negated half (negsuc n) h m t = (n, above n, m, omega arith)
+-- -1 - z is a number n below half, from which the value is made
+pub record Negative (half : ℕ) (z : ℤ) : Type 0 where
+  pub n : ℕ
+  pub same : z ≡ negsuc n
+  pub flipped : negsuc 0 -ℤ toZ w64 (ofZ w64 z) ≡ pos n
+  pub seen : toZ w64 n ≡ pos n
+  pub below-half : n < half
+  pub value : half - 1 - n + half ≡ unsigned half z
+
+module _ (half : ℕ) (h : half ≤ 2 ^ 63) where
+  pub not-negative : (z : ℤ) → mag z < half → leZ (pos 0) (toZ w64 (ofZ w64 z)) ≡ true → NotNegative half z
+  unfolding unsigned
+  not-negative z m t = by-sign z (toZ-ofZ w64 z (record { sfits = omega arith })) m t
+    where
+      by-sign : (z : ℤ) → toZ w64 (ofZ w64 z) ≡ z → mag z < half → leZ (pos 0) (toZ w64 (ofZ w64 z)) ≡ true → NotNegative half z
+      by-sign (pos n) e m t = record { n = n; same = refl; seen = e; fits = record { fits = omega arith }; value = refl }
+      by-sign (negsuc n) e m t = impossible (cc (rw e at t))
+
+  pub negative : (z : ℤ) → mag z < half → leZ (pos 0) (toZ w64 (ofZ w64 z)) ≡ false → Negative half z
+  unfolding unsigned
+  negative z m t = by-sign z (toZ-ofZ w64 z (record { sfits = omega arith })) m t
+    where
+      by-sign : (z : ℤ) → toZ w64 (ofZ w64 z) ≡ z → mag z < half → leZ (pos 0) (toZ w64 (ofZ w64 z)) ≡ false → Negative half z
+      by-sign (pos n) e m t = impossible (cc (leb·zero n, rw e at t))
+      by-sign (negsuc n) e m t = record { n = n; same = refl; flipped = rw e (above n); seen = toZ-pos w64 n (omega arith); below-half = m; value = omega arith }
 
 -- ---- casts between the widths
 
@@ -76,11 +95,3 @@ pub widened : (w : Width) (z : ℤ) → SFits w z → mag z < 2 ^ 63 → toZ w64
 widened w z f k =
     let g : SFits w64 z = record { sfits = k } in
     rw (toZ-ofZ w z f) (toZ-ofZ w64 z g)
-
--- ---- a signed field from an unsigned one
-
-pub signed-value : (half : ℕ) {f : U64Field} {v : ℕ} (o : Option ℕ) {y z : ℤ} → f ≡ U64Field.Value v → u64Of f ≡ o → z ≡ signed half v → y ≡ z → some y ≡ signedOf half o
-signed-value half o e h s p = rw (← h, e, p, s)
-
-pub signed-cut : (half : ℕ) {f : U64Field} (o : Option ℕ) → f ≡ U64Field.Cut → u64Of f ≡ o → none ≡ signedOf half o
-signed-cut half o e h = rw (← h, e)

@@ -4,8 +4,23 @@ ghost use Prim.Native.Nat.{_+_, _*_, _<_, _≤_, _^_};
 ghost use lib.Signed.{mag};
 ghost use lib.ListN.{length};
 ghost use Rattle.wire.specs.Bytes.{be, at, placed, beBytes};
-ghost use Rattle.wire.specs.Field.{fieldAt, valueOf, signed, unsigned, signedOf, u8Of, u16Of, u32Of, u64Of, i8Of, i16Of, i32Of, i64Of};
+ghost use Rattle.wire.specs.Field.{fieldAt, valueOf, signed, unsigned, u8Of, u16Of, u32Of, u64Of, i8Of, i16Of, i32Of, i64Of};
+ghost use Rattle.wire.specs.Int.{intAt, intBytes};
 use crate::store;
+
+// Half of the values of 8, 16, 32 and 64 bits: from there on a value stands for a negative number.
+const HALF_8: u64 = 128;
+
+const HALF_16: u64 = 32768;
+
+const HALF_32: u64 = 2147483648;
+
+const HALF_64: u64 = 9223372036854775808;
+
+// The same for who reads a signed count or length by its value.
+pub const FIRST_NEGATIVE_16: u16 = HALF_16 as u16;
+
+pub const FIRST_NEGATIVE_32: u32 = HALF_32 as u32;
 
 pub enum U8Field {
     Value(u8),
@@ -137,37 +152,37 @@ fn of_signed(v: i64, half: u64) -> u64
 }
 
 pub fn read_i8(s: &[u8], from: usize) -> I8Field
-    ensures { λ r. ⌜ i8Of r ≡ signedOf 128 (fieldAt 1 (now (s .entry)) from) ⌝ }
+    ensures { λ r. ⌜ i8Of r ≡ intAt 1 (now (s .entry)) from ⌝ }
 {
     match read_be(s, from, 1) {
-        U64Field::Value(v) => I8Field::Value(to_signed(v, 128) as i8),
+        U64Field::Value(v) => I8Field::Value(to_signed(v, HALF_8) as i8),
         U64Field::Cut => I8Field::Cut,
     }
 }
 
 pub fn read_i16(s: &[u8], from: usize) -> I16Field
-    ensures { λ r. ⌜ i16Of r ≡ signedOf 32768 (fieldAt 2 (now (s .entry)) from) ⌝ }
+    ensures { λ r. ⌜ i16Of r ≡ intAt 2 (now (s .entry)) from ⌝ }
 {
     match read_be(s, from, 2) {
-        U64Field::Value(v) => I16Field::Value(to_signed(v, 32768) as i16),
+        U64Field::Value(v) => I16Field::Value(to_signed(v, HALF_16) as i16),
         U64Field::Cut => I16Field::Cut,
     }
 }
 
 pub fn read_i32(s: &[u8], from: usize) -> I32Field
-    ensures { λ r. ⌜ i32Of r ≡ signedOf 2147483648 (fieldAt 4 (now (s .entry)) from) ⌝ }
+    ensures { λ r. ⌜ i32Of r ≡ intAt 4 (now (s .entry)) from ⌝ }
 {
     match read_be(s, from, 4) {
-        U64Field::Value(v) => I32Field::Value(to_signed(v, 2147483648) as i32),
+        U64Field::Value(v) => I32Field::Value(to_signed(v, HALF_32) as i32),
         U64Field::Cut => I32Field::Cut,
     }
 }
 
 pub fn read_i64(s: &[u8], from: usize) -> I64Field
-    ensures { λ r. ⌜ i64Of r ≡ signedOf 9223372036854775808 (fieldAt 8 (now (s .entry)) from) ⌝ }
+    ensures { λ r. ⌜ i64Of r ≡ intAt 8 (now (s .entry)) from ⌝ }
 {
     match read_be(s, from, 8) {
-        U64Field::Value(v) => I64Field::Value(to_signed(v, 9223372036854775808)),
+        U64Field::Value(v) => I64Field::Value(to_signed(v, HALF_64)),
         U64Field::Cut => I64Field::Cut,
     }
 }
@@ -197,25 +212,25 @@ pub fn write_u64(dst: &mut [u8], to: usize, v: u64) -> usize
 }
 
 pub fn write_i8(dst: &mut [u8], to: usize, v: i8) -> usize
-    ensures { λ r. ⌜ (r, now (dst .exit)) ≡ placed (now (dst .entry)) to (beBytes 1 (unsigned 128 v)) ⌝ }
+    ensures { λ r. ⌜ (r, now (dst .exit)) ≡ placed (now (dst .entry)) to (intBytes 1 v) ⌝ }
 {
-    store::write_be(dst, to, 1, of_signed(v as i64, 128))
+    store::write_be(dst, to, 1, of_signed(v as i64, HALF_8))
 }
 
 pub fn write_i16(dst: &mut [u8], to: usize, v: i16) -> usize
-    ensures { λ r. ⌜ (r, now (dst .exit)) ≡ placed (now (dst .entry)) to (beBytes 2 (unsigned 32768 v)) ⌝ }
+    ensures { λ r. ⌜ (r, now (dst .exit)) ≡ placed (now (dst .entry)) to (intBytes 2 v) ⌝ }
 {
-    store::write_be(dst, to, 2, of_signed(v as i64, 32768))
+    store::write_be(dst, to, 2, of_signed(v as i64, HALF_16))
 }
 
 pub fn write_i32(dst: &mut [u8], to: usize, v: i32) -> usize
-    ensures { λ r. ⌜ (r, now (dst .exit)) ≡ placed (now (dst .entry)) to (beBytes 4 (unsigned 2147483648 v)) ⌝ }
+    ensures { λ r. ⌜ (r, now (dst .exit)) ≡ placed (now (dst .entry)) to (intBytes 4 v) ⌝ }
 {
-    store::write_be(dst, to, 4, of_signed(v as i64, 2147483648))
+    store::write_be(dst, to, 4, of_signed(v as i64, HALF_32))
 }
 
 pub fn write_i64(dst: &mut [u8], to: usize, v: i64) -> usize
-    ensures { λ r. ⌜ (r, now (dst .exit)) ≡ placed (now (dst .entry)) to (beBytes 8 (unsigned 9223372036854775808 v)) ⌝ }
+    ensures { λ r. ⌜ (r, now (dst .exit)) ≡ placed (now (dst .entry)) to (intBytes 8 v) ⌝ }
 {
-    store::write_be(dst, to, 8, of_signed(v, 9223372036854775808))
+    store::write_be(dst, to, 8, of_signed(v, HALF_64))
 }

@@ -69,7 +69,7 @@ none-requires-4 c κs = search needs
 
 returns-4 : tie.Need-returns-4
 unfolding xlogAtHand
-returns-4 c = absurd (time-not-cut 8 9223372036854775808 (c .before .before .before .before .before .before .before .before .before .before .before .before .before .before .args .body .now) 16 (omega arith) (sym (ap i64Of (c .before .enum-told3 .given .1)) ∙ c .before .before .before .read-i64 .ensures))
+returns-4 c = absurd (time-not-cut 8 (c .before .before .before .before .before .before .before .before .before .before .before .before .before .before .args .body .now) 16 (omega arith) (sym (ap i64Of (c .before .enum-told3 .given .1)) ∙ c .before .before .before .read-i64 .ensures))
 
 sub-parse-pgoutput-boundary : tie.Need-sub-parse-pgoutput-boundary
 sub-parse-pgoutput-boundary c = search needs

@@ -37,7 +37,7 @@ enum-told-2 c = search needs
 
 returns-3 : tie.Need-returns-3
 returns-3 c =
-    absurd (time-not-cut 8 9223372036854775808 (c .before .before .before .before .before .before .before .before .before .args .body .now) 8 (omega arith) (sym (ap i64Of (c .enum-told2 .given .1)) ∙ c .before .before .read-i64 .ensures))
+    absurd (time-not-cut 8 (c .before .before .before .before .before .before .before .before .before .args .body .now) 8 (omega arith) (sym (ap i64Of (c .enum-told2 .given .1)) ∙ c .before .before .read-i64 .ensures))
 
 read-u8-requires : tie.Need-read-u8-requires
 read-u8-requires c κs = search needs

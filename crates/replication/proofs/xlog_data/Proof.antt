@@ -50,7 +50,7 @@ enum-told-3 c = search needs
 
 returns-4 : tie.Need-returns-4
 returns-4 c =
-    absurd (time-not-cut 8 9223372036854775808 (c .before .before .before .before .before .before .before .before .before .before .before .before .before .args .body .now) 16 (omega arith) (sym (ap i64Of (c .enum-told3 .given .1)) ∙ c .before .before .read-i64 .ensures))
+    absurd (time-not-cut 8 (c .before .before .before .before .before .before .before .before .before .before .before .before .before .args .body .now) 16 (omega arith) (sym (ap i64Of (c .enum-told3 .given .1)) ∙ c .before .before .read-i64 .ensures))
 
 sub-t16 : tie.Need-sub-t16
 sub-t16 c = search needs

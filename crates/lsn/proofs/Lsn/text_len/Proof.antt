@@ -1,4 +1,4 @@
-use Prim.Native.Nat.{_/_, _%_}
+use Prim.Native.Nat.{_/_, _%_, _^_}
 use native.Mathlib.Omega.{arith}
 use Rattle.text.proofs.Laws.{numeral-length}
 use Rattle.lsn.proofs.Laws.{length-display}
@@ -10,13 +10,13 @@ hex-len-requires : tie.Need-hex-len-requires
 hex-len-requires c κs = search needs
 
 add-result : tie.Need-add-result
-add-result c = omega (arith, numeral-length 16 20 (c .before .before .args .self .0 / 4294967296), numeral-length 16 20 (c .before .before .args .self .0 % 4294967296))
+add-result c = omega (arith, numeral-length 16 20 (c .before .before .args .self .0 / 2 ^ 32), numeral-length 16 20 (c .before .before .args .self .0 % 2 ^ 32))
 
 hex-len-requires-2 : tie.Need-hex-len-requires-2
 hex-len-requires-2 c κs = search needs
 
 add-result-2 : tie.Need-add-result-2
-add-result-2 c = omega (arith, numeral-length 16 20 (c .before .before .before .before .args .self .0 / 4294967296), numeral-length 16 20 (c .before .before .before .before .args .self .0 % 4294967296))
+add-result-2 c = omega (arith, numeral-length 16 20 (c .before .before .before .before .args .self .0 / 2 ^ 32), numeral-length 16 20 (c .before .before .before .before .args .self .0 % 2 ^ 32))
 
 returns : tie.Need-returns
 returns c = omega (arith, length-display (c .before .before .before .before .args .self .0))

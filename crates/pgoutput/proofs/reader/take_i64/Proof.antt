@@ -7,7 +7,8 @@ use contract.Running.{givenOf, tables, tablesOf}
 use denote.Enum.Laws.{lawful}
 use denote.Triple.Spec.{tripleOf}
 use denote.Triple.Table.{entered, cited}
-use Rattle.wire.specs.Field.{fieldAt, signedOf, i64Of}
+use Rattle.wire.specs.Field.{i64Of}
+use Rattle.wire.specs.Int.{intAt}
 use Rattle.wire.specs.declared.field.I64Field.{I64Field}
 use Rattle.wire.proofs.field.I64Field as S
 use Rattle.wire.proofs.field.I64Field.Laws as S′
@@ -19,7 +20,7 @@ use Rattle.pgoutput.proofs.reader.take_i64.Statement as stated
 use Rattle.pgoutput.proofs.reader.take_i64.Code as code
 
 abbrev Says : List ℕ → ℕ → I64Field → Type 0
-Says s i r = i64Of r ≡ signedOf 9223372036854775808 (fieldAt 8 s i)
+Says s i r = i64Of r ≡ intAt 8 s i
 
 pub take-i64-spec : {M : Type 1} → stated.statement M
 unfolding code.routine tablesOf

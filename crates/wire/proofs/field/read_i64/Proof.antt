@@ -1,6 +1,9 @@
 use mir.Syntax.{w64}
 use mir.ValLaws.{toZ-ofZ}
-use Rattle.wire.proofs.Signed.{signed-value, signed-cut}
+use Rattle.wire.specs.Field.{u64Of}
+use Rattle.wire.proofs.FieldLaws.{told}
+use mathlib.Core.Path.{ap}
+use mathlib.Core.Option.{some}
 use borrow.Author.Needs.{needs}
 use Rattle.wire.proofs.field.read_i64.Statement.{statement}
 use Rattle.wire.proofs.field.read_i64.Tie as tie
@@ -19,11 +22,11 @@ enum-told c = search needs
 
 returns : tie.Need-returns
 returns c =
-    signed-value 9223372036854775808 _ (c .before .before .v .given .1) (c .before .before .before .before .read-be .ensures .0) (c .to-signed .ensures .0)
-    (toZ-ofZ w64 (c .to-signed .result) (record { sfits = c .to-signed .ensures .1 }))
+    rw (toZ-ofZ w64 (c .to-signed .result) (record { sfits = c .to-signed .ensures .1 }), told u64Of (c .before .before .before .before .read-be .ensures .0) (c .before .before .v .given .1))
+    (ap some (c .to-signed .ensures .0))
 
 returns-2 : tie.Need-returns-2
-returns-2 c = signed-cut 9223372036854775808 _ (c .enum-told .given .1) (c .before .before .read-be .ensures .0)
+returns-2 c = simp (told u64Of (c .before .before .read-be .ensures .0) (c .enum-told .given .1))
 
 pub read-i64-spec : {M : Type 1} → statement M
 read-i64-spec =

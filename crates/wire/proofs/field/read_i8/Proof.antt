@@ -1,8 +1,10 @@
 use mir.Syntax.{w8}
-use Rattle.wire.proofs.Signed.{narrowed, signed-value, signed-cut}
-use Rattle.wire.specs.Field.{valueOf}
-use mathlib.Core.Path.{_≡_, ap}
+use Rattle.wire.specs.Field.{u64Of}
+use Rattle.wire.proofs.Signed.{narrowed}
+use Rattle.wire.proofs.FieldLaws.{told, value-below}
 use native.Mathlib.Omega.{arith}
+use mathlib.Core.Path.{ap}
+use mathlib.Core.Option.{some}
 use borrow.Author.Needs.{needs}
 use Rattle.wire.proofs.field.read_i8.Statement.{statement}
 use Rattle.wire.proofs.field.read_i8.Tie as tie
@@ -15,9 +17,7 @@ enum-known-v c = search needs
 
 to-signed-requires : tie.Need-to-signed-requires
 to-signed-requires c κs =
-    let r = c .before .before .before .read-be in
-    let e : valueOf (r .result) ≡ c .before .v .given .0 .0 = ap valueOf (c .before .v .given .1) in
-    (omega arith, rw e at (r .ensures .1))
+    (omega arith, value-below (c .before .v .given .1) (c .before .before .before .read-be .ensures .1))
 
 cast-t7 : tie.Need-cast-t7
 cast-t7 c = search needs
@@ -27,11 +27,11 @@ enum-told c = search needs
 
 returns : tie.Need-returns
 returns c =
-    signed-value 128 _ (c .before .before .v .given .1) (c .before .before .before .before .read-be .ensures .0) (c .to-signed .ensures .0)
-    (narrowed w8 (c .to-signed .result) (c .to-signed .ensures .1) (omega arith))
+    rw (narrowed w8 (c .to-signed .result) (c .to-signed .ensures .1) (omega arith), told u64Of (c .before .before .before .before .read-be .ensures .0) (c .before .before .v .given .1))
+    (ap some (c .to-signed .ensures .0))
 
 returns-2 : tie.Need-returns-2
-returns-2 c = signed-cut 128 _ (c .enum-told .given .1) (c .before .before .read-be .ensures .0)
+returns-2 c = simp (told u64Of (c .before .before .read-be .ensures .0) (c .enum-told .given .1))
 
 pub read-i8-spec : {M : Type 1} → statement M
 read-i8-spec =

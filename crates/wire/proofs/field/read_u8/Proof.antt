@@ -1,5 +1,4 @@
-use Rattle.wire.specs.Field.{valueOf}
-use mathlib.Core.Path.{_≡_, ap}
+use Rattle.wire.proofs.FieldLaws.{value-below}
 use borrow.Author.Needs.{needs}
 use Rattle.wire.proofs.field.read_u8.Statement.{statement}
 use Rattle.wire.proofs.field.read_u8.Tie as tie
@@ -12,9 +11,7 @@ enum-known-v c = search needs
 
 cast-t6 : tie.Need-cast-t6
 cast-t6 c =
-    let r = c .before .before .before .read-be in
-    let e : valueOf (r .result) ≡ c .before .v .given .0 .0 = ap valueOf (c .before .v .given .1) in
-    record { fits = rw e at (r .ensures .1) }
+    record { fits = value-below (c .before .v .given .1) (c .before .before .before .read-be .ensures .1) }
 
 enum-told : tie.Need-enum-told
 enum-told c = search needs

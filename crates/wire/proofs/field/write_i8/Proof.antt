@@ -1,10 +1,6 @@
-use Rattle.wire.specs.Bytes.{placed, beBytes}
-use Rattle.wire.specs.Field.{unsigned}
 use mir.Syntax.{w8}
 use mir.ValLaws.{toZ-ofZ}
 use Rattle.wire.proofs.Signed.{widened}
-use Prim.Native.Nat.{ℕ}
-use mathlib.Core.Path.{_≡_, ap, _∙_}
 use native.Mathlib.Omega.{arith}
 use borrow.Author.Needs.{needs}
 use Rattle.wire.proofs.field.write_i8.Statement.{statement}
@@ -25,8 +21,7 @@ same-length c = search needs
 returns : tie.Need-returns
 returns c =
     let s = c .before .before .before .before .before .before in
-    let e : c .before .before .before .of-signed .result ≡ unsigned 128 (s .args .v) = c .before .before .before .of-signed .ensures ∙ ap (unsigned 128) (widened w8 (s .args .v) (s .fits .v) (omega (arith, s .fits .v .sfits))) in
-    c .before .before .write-be .ensures ∙ ap (λ (x : ℕ). placed (s .args .dst .now) (s .args .to) (beBytes 1 x)) e
+    rw (c .before .before .before .of-signed .ensures, widened w8 (s .args .v) (s .fits .v) (omega (arith, s .fits .v .sfits))) at (c .before .before .write-be .ensures)
 
 pub write-i8-spec : {M : Type 1} → statement M
 write-i8-spec =
