@@ -24,25 +24,10 @@ mul-acc c =
     let f = fits (l .i) (c .before .before .before .args .n) {a = l .acc} {b = 0} (omega arith) (omega arith) (l .inv .2) (omega arith) in
     omega arith
 
-add-wide : tie.Need-add-wide Inv-loop μ-loop
-add-wide c = omega arith
-
-shared-slice-read-wide : tie.Need-shared-slice-read-wide Inv-loop μ-loop
-shared-slice-read-wide c = omega arith
-
-wide-requires : tie.Need-wide-requires Inv-loop μ-loop
-wide-requires c κs = search needs
-
 add-acc : tie.Need-add-acc Inv-loop μ-loop
 add-acc c =
     let l = c .before .before .before in
     record { fits = fits (l .loop .i) (l .before .before .args .n) (omega arith) (omega arith) (l .loop .inv .2) (c .wide .ensures .1) }
-
-add-i : tie.Need-add-i Inv-loop μ-loop
-add-i c = omega arith
-
-loop-less : tie.Need-loop-less Inv-loop μ-loop
-loop-less c = omega arith
 
 loop-again : tie.Need-loop-again Inv-loop μ-loop
 loop-again c =
@@ -60,4 +45,5 @@ returns c =
 pub load-be-spec : {M : Type 1} → statement M
 load-be-spec =
     tie.close
-    (tie.spec Inv-loop μ-loop loop-holds mul-acc add-wide shared-slice-read-wide wide-requires add-acc add-i loop-less loop-again returns)
+    (tie.spec Inv-loop μ-loop loop-holds mul-acc (search needs) (search needs) (search needs) add-acc (search needs) (search needs)
+    loop-again returns)

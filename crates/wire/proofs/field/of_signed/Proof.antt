@@ -30,4 +30,5 @@ returns-2 c = let k = flipped c in rw (k .flipped, k .seen) (k .value)
 
 pub of-signed-spec : {M : Type 1} → statement M
 of-signed-spec =
-    tie.close (tie.spec cast-result (search needs) sub-result-2 cast-result-2 sub-result-3 (search needs) returns returns-2)
+    tie.close
+    (tie.spec cast-result (search needs) sub-result-2 cast-result-2 sub-result-3 (search needs) returns returns-2)

@@ -14,15 +14,9 @@ returns : tie.Need-returns
 unfolding fieldAt
 returns c = let h : length (c .before .before .args .s .now) < c .before .before .args .from + c .before .before .args .n = omega arith in (simp (lt-leb _ _ h), below-pow (c .before .before .args .n))
 
-sub-if2 : tie.Need-sub-if2
-sub-if2 c = search needs
-
 returns-2 : tie.Need-returns-2
 unfolding fieldAt
 returns-2 c = let h : length (c .before .before .before .args .s .now) < c .before .before .before .args .from + c .before .before .before .args .n = omega arith in (simp (lt-leb _ _ h), below-pow (c .before .before .before .args .n))
-
-load-be-requires : tie.Need-load-be-requires
-load-be-requires c κs = search needs
 
 returns-3 : tie.Need-returns-3
 unfolding fieldAt
@@ -32,4 +26,4 @@ returns-3 c =
     (simp (le-leb _ _ h) (ap some (c .load-be .ensures .0)), c .load-be .ensures .1)
 
 pub read-be-spec : {M : Type 1} → statement M
-read-be-spec = tie.close (tie.spec returns sub-if2 returns-2 load-be-requires returns-3)
+read-be-spec = tie.close (tie.spec returns (search needs) returns-2 (search needs) returns-3)

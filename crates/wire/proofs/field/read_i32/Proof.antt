@@ -9,21 +9,9 @@ use borrow.Author.Needs.{needs}
 use Rattle.wire.proofs.field.read_i32.Statement.{statement}
 use Rattle.wire.proofs.field.read_i32.Tie as tie
 
-read-be-requires : tie.Need-read-be-requires
-read-be-requires c κs = search needs
-
-enum-known-v : tie.Need-enum-known-v
-enum-known-v c = search needs
-
 to-signed-requires : tie.Need-to-signed-requires
 to-signed-requires c κs =
     (omega arith, value-below (c .before .v .given .1) (c .before .before .before .read-be .ensures .1))
-
-cast-t7 : tie.Need-cast-t7
-cast-t7 c = search needs
-
-enum-told : tie.Need-enum-told
-enum-told c = search needs
 
 returns : tie.Need-returns
 returns c =
@@ -36,4 +24,4 @@ returns-2 c = simp (told u64Of (c .before .before .read-be .ensures .0) (c .enum
 pub read-i32-spec : {M : Type 1} → statement M
 read-i32-spec =
     tie.close
-    (tie.spec read-be-requires enum-known-v to-signed-requires cast-t7 enum-told returns returns-2)
+    (tie.spec (search needs) (search needs) to-signed-requires (λ c. search needs) (search needs) returns returns-2)

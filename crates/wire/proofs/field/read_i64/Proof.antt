@@ -8,18 +8,6 @@ use borrow.Author.Needs.{needs}
 use Rattle.wire.proofs.field.read_i64.Statement.{statement}
 use Rattle.wire.proofs.field.read_i64.Tie as tie
 
-read-be-requires : tie.Need-read-be-requires
-read-be-requires c κs = search needs
-
-enum-known-v : tie.Need-enum-known-v
-enum-known-v c = search needs
-
-to-signed-requires : tie.Need-to-signed-requires
-to-signed-requires c κs = search needs
-
-enum-told : tie.Need-enum-told
-enum-told c = search needs
-
 returns : tie.Need-returns
 returns c =
     rw (toZ-ofZ w64 (c .to-signed .result) (record { sfits = c .to-signed .ensures .1 }), told u64Of (c .before .before .before .before .read-be .ensures .0) (c .before .before .v .given .1))
@@ -31,4 +19,4 @@ returns-2 c = simp (told u64Of (c .before .before .read-be .ensures .0) (c .enum
 pub read-i64-spec : {M : Type 1} → statement M
 read-i64-spec =
     tie.close
-    (tie.spec read-be-requires enum-known-v to-signed-requires enum-told returns returns-2)
+    (tie.spec (search needs) (search needs) (search needs) (search needs) returns returns-2)

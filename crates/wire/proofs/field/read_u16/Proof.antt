@@ -3,18 +3,9 @@ use borrow.Author.Needs.{needs}
 use Rattle.wire.proofs.field.read_u16.Statement.{statement}
 use Rattle.wire.proofs.field.read_u16.Tie as tie
 
-read-be-requires : tie.Need-read-be-requires
-read-be-requires c κs = search needs
-
-enum-known-v : tie.Need-enum-known-v
-enum-known-v c = search needs
-
 cast-t6 : tie.Need-cast-t6
 cast-t6 c =
     record { fits = value-below (c .before .v .given .1) (c .before .before .before .read-be .ensures .1) }
-
-enum-told : tie.Need-enum-told
-enum-told c = search needs
 
 returns : tie.Need-returns
 returns c = rw (c .before .v .given .1) at (c .before .before .before .read-be .ensures .0)
@@ -23,5 +14,4 @@ returns-2 : tie.Need-returns-2
 returns-2 c = rw (c .enum-told .given .1) at (c .before .before .read-be .ensures .0)
 
 pub read-u16-spec : {M : Type 1} → statement M
-read-u16-spec =
-    tie.close (tie.spec read-be-requires enum-known-v cast-t6 enum-told returns returns-2)
+read-u16-spec = tie.close (tie.spec (search needs) (search needs) cast-t6 (search needs) returns returns-2)

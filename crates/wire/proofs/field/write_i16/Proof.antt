@@ -12,17 +12,10 @@ cast-of-signed c = rw (toZ-ofZ w16 (c .before .before .args .v) (c .before .befo
 of-signed-requires : tie.Need-of-signed-requires
 of-signed-requires c κs = (omega arith, rw (widened w16 (c .before .before .args .v) (c .before .before .fits .v) (omega (arith, c .before .before .fits .v .sfits))) (c .before .before .fits .v .sfits))
 
-write-be-requires : tie.Need-write-be-requires
-write-be-requires c κs = search needs
-
-same-length : tie.Need-same-length
-same-length c = search needs
-
 returns : tie.Need-returns
 returns c =
     let s = c .before .before .before .before .before .before in
     rw (c .before .before .before .of-signed .ensures, widened w16 (s .args .v) (s .fits .v) (omega (arith, s .fits .v .sfits))) at (c .before .before .write-be .ensures)
 
 pub write-i16-spec : {M : Type 1} → statement M
-write-i16-spec =
-    tie.close (tie.spec cast-of-signed of-signed-requires write-be-requires same-length returns)
+write-i16-spec = tie.close (tie.spec cast-of-signed of-signed-requires (search needs) (search needs) returns)

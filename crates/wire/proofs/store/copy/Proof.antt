@@ -6,17 +6,11 @@ use borrow.Author.Needs.{needs}
 use Rattle.wire.proofs.store.copy.Statement.{statement}
 use Rattle.wire.proofs.store.copy.Tie as tie
 
-least-requires : tie.Need-least-requires
-least-requires c κs = search needs
-
 slice-aggregate-copy-all : tie.Need-slice-aggregate-copy-all
 slice-aggregate-copy-all c = simp length-take (omega arith)
 
 copy-all-requires : tie.Need-copy-all-requires
 copy-all-requires c κs = simp length-take (omega arith)
-
-same-length : tie.Need-same-length
-same-length c = search needs
 
 returns : tie.Need-returns
 unfolding copied
@@ -25,4 +19,4 @@ returns c = copied-at _ _ _ _ (c .before .before .before .before .before .least 
 pub copy-spec : {M : Type 1} → statement M
 copy-spec =
     tie.close
-    (tie.spec least-requires slice-aggregate-copy-all copy-all-requires same-length returns)
+    (tie.spec (search needs) slice-aggregate-copy-all copy-all-requires (search needs) returns)

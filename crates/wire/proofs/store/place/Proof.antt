@@ -10,29 +10,8 @@ use Rattle.wire.proofs.store.place.Tie as tie
 returns : tie.Need-returns
 returns c = unplaced _ _ _ (omega arith)
 
-sub-if2 : tie.Need-sub-if2
-sub-if2 c = search needs
-
 returns-2 : tie.Need-returns-2
 returns-2 c = unplaced _ _ _ (omega arith)
-
-sub-copy-all : tie.Need-sub-copy-all
-sub-copy-all c = search needs
-
-part-copy-all-start : tie.Need-part-copy-all-start
-part-copy-all-start c = search needs
-
-part-copy-all-end : tie.Need-part-copy-all-end
-part-copy-all-end c = search needs
-
-copy-all-requires : tie.Need-copy-all-requires
-copy-all-requires c κs = search needs
-
-add-result : tie.Need-add-result
-add-result c = search needs
-
-same-length : tie.Need-same-length
-same-length c = search needs
 
 returns-3 : tie.Need-returns-3
 returns-3 c =
@@ -44,14 +23,5 @@ returns-3 c =
 pub place-spec : {M : Type 1} → statement M
 place-spec =
     tie.close
-    (tie.spec
-    returns
-    sub-if2
-    returns-2
-    sub-copy-all
-    part-copy-all-start
-    part-copy-all-end
-    copy-all-requires
-    add-result
-    same-length
+    (tie.spec returns (search needs) returns-2 (search needs) (search needs) (search needs) (search needs) (search needs) (search needs)
     returns-3)

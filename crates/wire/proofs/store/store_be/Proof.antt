@@ -5,6 +5,7 @@ use native.Mathlib.Omega.{arith}
 use lib.ListN.{length, length-set}
 use Rattle.wire.specs.Bytes.{beBytes, put}
 use Rattle.wire.proofs.Laws.{put-turn, put-none}
+use borrow.Author.Needs.{needs}
 use Rattle.wire.proofs.store.store_be.Statement.{statement}
 use Rattle.wire.proofs.store.store_be.Tie as tie
 
@@ -16,21 +17,6 @@ abbrev μ-loop : tie.MeasureT-loop
 
 loop-holds : tie.Need-loop-holds Inv-loop μ-loop
 loop-holds c = (omega arith, refl, refl)
-
-sub-i : tie.Need-sub-i Inv-loop μ-loop
-sub-i c = omega arith
-
-cast-dst : tie.Need-cast-dst Inv-loop μ-loop
-cast-dst c = omega arith
-
-add-dst : tie.Need-add-dst Inv-loop μ-loop
-add-dst c = omega arith
-
-slice-write-dst : tie.Need-slice-write-dst Inv-loop μ-loop
-slice-write-dst c = omega arith
-
-loop-less : tie.Need-loop-less Inv-loop μ-loop
-loop-less c = omega arith
 
 loop-again : tie.Need-loop-again Inv-loop μ-loop
 loop-again c =
@@ -50,4 +36,6 @@ returns c =
 
 pub store-be-spec : {M : Type 1} → statement M
 store-be-spec =
-    tie.close (tie.spec Inv-loop μ-loop loop-holds sub-i cast-dst add-dst slice-write-dst loop-less loop-again same-length returns)
+    tie.close
+    (tie.spec Inv-loop μ-loop loop-holds (search needs) (search needs) (search needs) (search needs) (search needs) loop-again same-length
+    returns)

@@ -7,20 +7,8 @@ use Rattle.wire.proofs.store.write_be.Tie as tie
 returns : tie.Need-returns
 returns c = let a = c .before .before .args in unplaced (a .dst .now) (a .to) _ (rw length-beBytes (omega arith))
 
-sub-if2 : tie.Need-sub-if2
-sub-if2 c = search needs
-
 returns-2 : tie.Need-returns-2
 returns-2 c = let a = c .before .before .before .args in unplaced (a .dst .now) (a .to) _ (rw length-beBytes (omega arith))
-
-store-be-requires : tie.Need-store-be-requires
-store-be-requires c κs = search needs
-
-add-result : tie.Need-add-result
-add-result c = search needs
-
-same-length : tie.Need-same-length
-same-length c = search needs
 
 returns-3 : tie.Need-returns-3
 returns-3 c =
@@ -30,4 +18,4 @@ returns-3 c =
 pub write-be-spec : {M : Type 1} → statement M
 write-be-spec =
     tie.close
-    (tie.spec returns sub-if2 returns-2 store-be-requires add-result same-length returns-3)
+    (tie.spec returns (search needs) returns-2 (search needs) (search needs) (search needs) returns-3)
