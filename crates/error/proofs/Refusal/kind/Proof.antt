@@ -4,9 +4,6 @@ use borrow.Author.Needs.{needs}
 use Rattle.error.proofs.Refusal.kind.Statement.{statement}
 use Rattle.error.proofs.Refusal.kind.Tie as tie
 
-number-requires : tie.Need-number-requires
-number-requires c κs = search needs
-
 returns : tie.Need-returns
 unfolding kindOf
 returns c = rw (← c .before .number .ensures) (simp (le-leb _ _ (c .if1 .taken)))
@@ -46,14 +43,4 @@ returns-9 c = rw (← c .before .before .before .before .before .before .before 
 pub kind-spec : {M : Type 1} → statement M
 kind-spec =
     tie.close
-    (tie.spec
-    number-requires
-    returns
-    returns-2
-    returns-3
-    returns-4
-    returns-5
-    returns-6
-    returns-7
-    returns-8
-    returns-9)
+    (tie.spec (search needs) returns returns-2 returns-3 returns-4 returns-5 returns-6 returns-7 returns-8 returns-9)
