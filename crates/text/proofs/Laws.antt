@@ -1,6 +1,5 @@
 -- Laws of numerals to any base, for the loops that write them, and of bytes as pairs of digits.
 use mathlib.Core.Path.{_≡_, refl, ap, _∙_}
-use mathlib.Core.Bool.{true, false}
 use mathlib.Core.List.{List, [], _∷_, _++_}
 use Prim.Native.Nat.{ℕ, zero, suc, _+_, _*_, _-_, _/_, _%_, _^_, _≤_, _<_}
 use native.Mathlib.Nat.{pow-zero, pow-suc, div-lt-iff-lt-mul, div-lt-self, div-le-self, mod-lt}
@@ -11,7 +10,7 @@ use lib.Seq.{drop-cons}
 use lib.Dec.{ltb}
 use borrow.Author.Tests.{lt-ltb, le-ltb}
 use Rattle.wire.specs.Bytes.{put}
-use Rattle.wire.proofs.Laws.{put-set, put-one, put-two, put-next, put-none, by-test, impossible}
+use Rattle.wire.proofs.Laws.{put-set, put-one, put-two, put-next, put-none, by-test}
 use Rattle.text.specs.Numeral.{glyphOf, numeral, lowerOf, hexBytes}
 
 -- one digit less

@@ -11,14 +11,8 @@ use borrow.Author.Needs.{needs}
 use Rattle.text.proofs.place_negative.Statement.{statement}
 use Rattle.text.proofs.place_negative.Tie as tie
 
-places-requires : tie.Need-places-requires
-places-requires c κs = search needs
-
 returns : tie.Need-returns
 returns c = unplaced _ _ _ (omega arith)
-
-sub-if2 : tie.Need-sub-if2
-sub-if2 c = search needs
 
 add-if2 : tie.Need-add-if2
 add-if2 c = omega (arith, numeral-length 10 20 (c .before .before .before .args .m))
@@ -26,20 +20,8 @@ add-if2 c = omega (arith, numeral-length 10 20 (c .before .before .before .args 
 returns-2 : tie.Need-returns-2
 returns-2 c = unplaced _ _ _ (omega arith)
 
-slice-write-out : tie.Need-slice-write-out
-slice-write-out c = search needs
-
-add-spell : tie.Need-add-spell
-add-spell c = search needs
-
 spell-requires : tie.Need-spell-requires
 spell-requires c κs = (omega arith, (omega arith, (omega arith, (c .before .before .before .places .ensures, simp length-set (omega arith)))))
-
-add-result : tie.Need-add-result
-add-result c = search needs
-
-add-result-2 : tie.Need-add-result-2
-add-result-2 c = search needs
 
 same-length : tie.Need-same-length
 same-length c = c .before .before .spell .kept .0 ∙ simp length-set
@@ -54,16 +36,5 @@ returns-3 c =
 pub place-negative-spec : {M : Type 1} → statement M
 place-negative-spec =
     tie.close
-    (tie.spec
-    places-requires
-    returns
-    sub-if2
-    add-if2
-    returns-2
-    slice-write-out
-    add-spell
-    spell-requires
-    add-result
-    add-result-2
-    same-length
-    returns-3)
+    (tie.spec (search needs) returns (search needs) add-if2 returns-2 (search needs) (search needs) spell-requires (search needs)
+    (search needs) same-length returns-3)

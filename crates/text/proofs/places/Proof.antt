@@ -5,6 +5,7 @@ use Prim.Native.Nat.{_<_, _+_, _^_}
 use mathlib.Core.Path.{_≡_, refl, ap}
 use native.Mathlib.Omega.{arith}
 use lib.ListN.{length}
+use borrow.Author.Needs.{needs}
 use Rattle.text.proofs.places.Statement.{statement}
 use Rattle.text.proofs.places.Tie as tie
 
@@ -16,9 +17,6 @@ abbrev μ-loop : tie.MeasureT-loop
 
 loop-holds : tie.Need-loop-holds Inv-loop μ-loop
 loop-holds c = (c .pre .1, refl)
-
-div-x : tie.Need-div-x Inv-loop μ-loop
-div-x c = omega arith
 
 add-n : tie.Need-add-n Inv-loop μ-loop
 add-n c = omega (arith, numeral-length (c .before .before .args .base) 20 (c .before .before .args .v))
@@ -37,4 +35,5 @@ returns c = omega (arith, ap length (numeral-one (c .before .before .args .base)
 
 pub places-spec : {M : Type 1} → statement M
 places-spec =
-    tie.close (tie.spec Inv-loop μ-loop loop-holds div-x add-n loop-less loop-again returns)
+    tie.close
+    (tie.spec Inv-loop μ-loop loop-holds (search needs) add-n loop-less loop-again returns)

@@ -6,6 +6,7 @@ use Prim.Native.Nat.{_≤_, _<_, _^_}
 use mathlib.Core.Path.{_≡_, refl, ap}
 use native.Mathlib.Omega.{arith}
 use lib.ListN.{length, length-set}
+use borrow.Author.Needs.{needs}
 use Rattle.text.proofs.spell.Statement.{statement}
 use Rattle.text.proofs.spell.Tie as tie
 
@@ -27,9 +28,6 @@ sub-i c =
     let g = numeral-longer (a .base) (l .x) (omega arith) t (l .inv .0) in
     omega arith
 
-rem-glyph : tie.Need-rem-glyph Inv-loop μ-loop
-rem-glyph c = omega arith
-
 glyph-requires : tie.Need-glyph-requires Inv-loop μ-loop
 glyph-requires c κs =
     let l = c .before .loop in
@@ -37,9 +35,6 @@ glyph-requires c κs =
     let p = c .before .before .before .pre in
     let t = c .loop-test .taken in
     digit-below (a .base) (l .x) (p .0) (p .1 .0)
-
-add-out : tie.Need-add-out Inv-loop μ-loop
-add-out c = omega arith
 
 slice-write-out : tie.Need-slice-write-out Inv-loop μ-loop
 slice-write-out c =
@@ -49,9 +44,6 @@ slice-write-out c =
     let t = c .before .loop-test .taken in
     let g = numeral-longer (a .base) (l .x) (omega arith) t (l .inv .0) in
     omega arith
-
-div-x : tie.Need-div-x Inv-loop μ-loop
-div-x c = omega arith
 
 loop-less : tie.Need-loop-less Inv-loop μ-loop
 loop-less c =
@@ -69,9 +61,6 @@ loop-again c =
     let t = c .before .loop-test .taken in
     let g = numeral-longer (a .base) (l .x) (omega arith) t (l .inv .0) in
     (stays (a .base) (l .x) (l .inv .0), omega arith, rw (c .glyph .ensures) (spell-turn (a .base) (l .out) (a .out .now) (a .to) (l .i) (l .x) _ (omega arith) t (l .inv .0) (l .inv .1) (omega arith) (l .inv .2)), simp length-set (l .inv .3), omega arith)
-
-glyph-requires-2 : tie.Need-glyph-requires-2 Inv-loop μ-loop
-glyph-requires-2 c κs = omega arith
 
 slice-write-out-2 : tie.Need-slice-write-out-2 Inv-loop μ-loop
 slice-write-out-2 c =
@@ -96,19 +85,5 @@ returns c =
 pub spell-spec : {M : Type 1} → statement M
 spell-spec =
     tie.close
-    (tie.spec
-    Inv-loop
-    μ-loop
-    loop-holds
-    sub-i
-    rem-glyph
-    glyph-requires
-    add-out
-    slice-write-out
-    div-x
-    loop-less
-    loop-again
-    glyph-requires-2
-    slice-write-out-2
-    same-length
-    returns)
+    (tie.spec Inv-loop μ-loop loop-holds sub-i (search needs) glyph-requires (search needs) slice-write-out (search needs) loop-less
+    loop-again (search needs) slice-write-out-2 same-length returns)
