@@ -7,17 +7,8 @@ use borrow.Author.Needs.{needs}
 use Rattle.lsn.proofs.Lsn.display.Statement.{statement}
 use Rattle.lsn.proofs.Lsn.display.Tie as tie
 
-text-len-requires : tie.Need-text-len-requires
-text-len-requires c κs = search needs
-
 returns : tie.Need-returns
 returns c = let a = c .before .before .before .args in no-room 0 (displayOf (a .self .0)) (a .out .now) (omega arith) (omega arith)
-
-place-requires : tie.Need-place-requires
-place-requires c κs = search needs
-
-same-length : tie.Need-same-length
-same-length c = search needs
 
 returns-2 : tie.Need-returns-2
 returns-2 c =
@@ -26,4 +17,4 @@ returns-2 c =
     wrote-placed 0 (displayOf (a .self .0)) (a .out .now) (omega arith) (sym (l .before .text-len .ensures)) (l .if1 .left) (c .before .before .place .ensures)
 
 pub display-spec : {M : Type 1} → statement M
-display-spec = tie.close (tie.spec text-len-requires returns place-requires same-length returns-2)
+display-spec = tie.close (tie.spec (search needs) returns (search needs) (search needs) returns-2)

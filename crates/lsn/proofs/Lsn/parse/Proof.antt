@@ -7,29 +7,11 @@ use borrow.Author.Needs.{needs}
 use Rattle.lsn.proofs.Lsn.parse.Statement.{statement}
 use Rattle.lsn.proofs.Lsn.parse.Tie as tie
 
-find-requires : tie.Need-find-requires
-find-requires c κs = search needs
-
-enum-known-i : tie.Need-enum-known-i
-enum-known-i c = search needs
-
-enum-told : tie.Need-enum-told
-enum-told c = search needs
-
 returns : tie.Need-returns
 returns c = no-slash (c .before .before .before .before .args .s .now) (c .before .before .find .ensures) (c .enum-told .given .1)
 
 slice-aggregate-part : tie.Need-slice-aggregate-part
 slice-aggregate-part c = let h = slash-below (c .before .before .before .before .before .before .args .s .now) (c .before .before .before .before .find .ensures) (c .before .before .i .given .1) in simp length-take (omega arith)
-
-part-requires : tie.Need-part-requires
-part-requires c κs = search needs
-
-enum-known-hi : tie.Need-enum-known-hi
-enum-known-hi c = search needs
-
-enum-told-2 : tie.Need-enum-told-2
-enum-told-2 c = search needs
 
 returns-2 : tie.Need-returns-2
 returns-2 c = bad-high (c .before .before .before .before .before .before .before .before .before .args .s .now) (c .before .before .before .before .before .before .before .find .ensures) (c .before .before .before .before .before .i .given .1) (c .before .before .part .result) (c .before .before .part .ensures) (c .enum-told2 .given .1)
@@ -43,18 +25,6 @@ sub-part c = let h = slash-below (c .before .before .before .before .before .bef
 part-part-start : tie.Need-part-part-start
 part-part-start c = let h = slash-below (c .before .before .before .before .before .before .before .before .before .before .args .s .now) (c .before .before .before .before .before .before .before .before .find .ensures) (c .before .before .before .before .before .before .i .given .1) in omega arith
 
-part-part-end : tie.Need-part-part-end
-part-part-end c = search needs
-
-part-requires-2 : tie.Need-part-requires-2
-part-requires-2 c κs = search needs
-
-enum-known-lo : tie.Need-enum-known-lo
-enum-known-lo c = search needs
-
-enum-told-3 : tie.Need-enum-told-3
-enum-told-3 c = search needs
-
 returns-3 : tie.Need-returns-3
 returns-3 c = let h = slash-below (c .before .before .before .before .before .before .before .before .before .before .before .before .before .before .args .s .now) (c .before .before .before .before .before .before .before .before .before .before .before .before .find .ensures) (c .before .before .before .before .before .before .before .before .before .before .i .given .1) in bad-low (c .before .before .before .before .before .before .before .before .before .before .before .before .before .before .args .s .now) (c .before .before .before .before .before .before .before .before .before .before .before .before .find .ensures) (c .before .before .before .before .before .before .before .before .before .before .i .given .1) (c .before .before .before .before .before .before .before .part .result) (c .before .before .before .before .before .before .before .part .ensures) (c .before .before .before .before .before .hi .given .1) (c .before .before .part2 .result) (length (c .before .before .before .before .before .before .before .before .before .before .before .before .before .before .args .s .now) - (c .before .before .before .before .before .before .before .before .before .before .i .given .0 .0 + 1)) (omega arith) (c .before .before .part2 .ensures) (c .enum-told3 .given .1)
 
@@ -65,22 +35,5 @@ returns-4 c = let h = slash-below (c .before .before .before .before .before .be
 pub parse-spec : {M : Type 1} → statement M
 parse-spec =
     tie.close
-    (tie.spec
-    find-requires
-    enum-known-i
-    enum-told
-    returns
-    slice-aggregate-part
-    part-requires
-    enum-known-hi
-    enum-told-2
-    returns-2
-    add-part
-    sub-part
-    part-part-start
-    part-part-end
-    part-requires-2
-    enum-known-lo
-    enum-told-3
-    returns-3
-    returns-4)
+    (tie.spec (search needs) (search needs) (search needs) returns slice-aggregate-part (search needs) (search needs) (search needs)
+    returns-2 add-part sub-part part-part-start (search needs) (search needs) (search needs) (search needs) returns-3 returns-4)

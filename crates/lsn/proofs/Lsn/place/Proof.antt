@@ -9,29 +9,8 @@ use Rattle.lsn.proofs.Lsn.place.Tie as tie
 returns : tie.Need-returns
 returns c = unplaced _ _ _ (omega arith)
 
-sub-if2 : tie.Need-sub-if2
-sub-if2 c = search needs
-
-text-len-requires : tie.Need-text-len-requires
-text-len-requires c κs = search needs
-
 returns-2 : tie.Need-returns-2
 returns-2 c = unplaced _ _ _ (omega arith)
-
-place-hex-requires : tie.Need-place-hex-requires
-place-hex-requires c κs = search needs
-
-slice-aggregate-place : tie.Need-slice-aggregate-place
-slice-aggregate-place c = search needs
-
-place-requires : tie.Need-place-requires
-place-requires c κs = search needs
-
-place-hex-requires-2 : tie.Need-place-hex-requires-2
-place-hex-requires-2 c κs = search needs
-
-same-length : tie.Need-same-length
-same-length c = search needs
 
 returns-3 : tie.Need-returns-3
 returns-3 c =
@@ -42,14 +21,5 @@ returns-3 c =
 pub place-spec : {M : Type 1} → statement M
 place-spec =
     tie.close
-    (tie.spec
-    returns
-    sub-if2
-    text-len-requires
-    returns-2
-    place-hex-requires
-    slice-aggregate-place
-    place-requires
-    place-hex-requires-2
-    same-length
+    (tie.spec returns (search needs) (search needs) returns-2 (search needs) (search needs) (search needs) (search needs) (search needs)
     returns-3)

@@ -6,14 +6,8 @@ use borrow.Author.Needs.{needs}
 use Rattle.lsn.proofs.Lsn.text_len.Statement.{statement}
 use Rattle.lsn.proofs.Lsn.text_len.Tie as tie
 
-hex-len-requires : tie.Need-hex-len-requires
-hex-len-requires c κs = search needs
-
 add-result : tie.Need-add-result
 add-result c = omega (arith, numeral-length 16 20 (c .before .before .args .self .0 / 2 ^ 32), numeral-length 16 20 (c .before .before .args .self .0 % 2 ^ 32))
-
-hex-len-requires-2 : tie.Need-hex-len-requires-2
-hex-len-requires-2 c κs = search needs
 
 add-result-2 : tie.Need-add-result-2
 add-result-2 c = omega (arith, numeral-length 16 20 (c .before .before .before .before .args .self .0 / 2 ^ 32), numeral-length 16 20 (c .before .before .before .before .args .self .0 % 2 ^ 32))
@@ -22,5 +16,4 @@ returns : tie.Need-returns
 returns c = omega (arith, length-display (c .before .before .before .before .args .self .0))
 
 pub text-len-spec : {M : Type 1} → statement M
-text-len-spec =
-    tie.close (tie.spec hex-len-requires add-result hex-len-requires-2 add-result-2 returns)
+text-len-spec = tie.close (tie.spec (search needs) add-result (search needs) add-result-2 returns)

@@ -22,12 +22,6 @@ returns c = digits-empty (c .before .before .args .s .now) (c .if1 .taken)
 loop-holds : tie.Need-loop-holds Inv-loop μ-loop
 loop-holds c = (omega arith, digits-start (c .before .before .args .s .now) (c .if1 .left), omega arith)
 
-shared-slice-read-digit : tie.Need-shared-slice-read-digit Inv-loop μ-loop
-shared-slice-read-digit c = omega arith
-
-digit-requires : tie.Need-digit-requires Inv-loop μ-loop
-digit-requires c κs = search needs
-
 returns-2 : tie.Need-returns-2 Inv-loop μ-loop
 returns-2 c =
     let l = c .before .before .before .before .loop in
@@ -43,18 +37,6 @@ returns-3 c =
     let t = value-turn (a .s .now) (l .i) (l .v) (d .result) (omega arith) (d .ensures) (c .before .if2 .left) in
     let o : 2 ^ 64 ≤ l .v * 16 + d .result = omega arith in
     sym (value-over (drop (l .i + 1) (a .s .now)) (l .v * 16 + d .result) o) ∙ ap (λ (o : Option ℕ). andThen o in64) (sym t) ∙ l .inv .1
-
-mul-v : tie.Need-mul-v Inv-loop μ-loop
-mul-v c = omega arith
-
-add-v : tie.Need-add-v Inv-loop μ-loop
-add-v c = omega arith
-
-add-i : tie.Need-add-i Inv-loop μ-loop
-add-i c = omega arith
-
-loop-less : tie.Need-loop-less Inv-loop μ-loop
-loop-less c = omega arith
 
 loop-again : tie.Need-loop-again Inv-loop μ-loop
 loop-again c =
@@ -73,18 +55,5 @@ returns-4 c =
 pub digits-spec : {M : Type 1} → statement M
 digits-spec =
     tie.close
-    (tie.spec
-    Inv-loop
-    μ-loop
-    returns
-    loop-holds
-    shared-slice-read-digit
-    digit-requires
-    returns-2
-    returns-3
-    mul-v
-    add-v
-    add-i
-    loop-less
-    loop-again
-    returns-4)
+    (tie.spec Inv-loop μ-loop returns loop-holds (search needs) (search needs) returns-2 returns-3 (search needs) (search needs)
+    (search needs) (search needs) loop-again returns-4)

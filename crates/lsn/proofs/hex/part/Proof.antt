@@ -10,24 +10,6 @@ use Rattle.lsn.proofs.hex.part.Tie as tie
 returns : tie.Need-returns
 returns c = part-empty (c .before .before .args .s .now) (c .if1 .taken)
 
-shared-slice-read-if2 : tie.Need-shared-slice-read-if2
-shared-slice-read-if2 c = search needs
-
-sub-digits : tie.Need-sub-digits
-sub-digits c = search needs
-
-part-digits-start : tie.Need-part-digits-start
-part-digits-start c = search needs
-
-part-digits-end : tie.Need-part-digits-end
-part-digits-end c = search needs
-
-digits-requires : tie.Need-digits-requires
-digits-requires c κs = search needs
-
-digits-requires-2 : tie.Need-digits-requires-2
-digits-requires-2 c κs = search needs
-
 returns-2 : tie.Need-returns-2
 returns-2 c = c .digits .ensures ∙ part-signed (c .before .before .before .before .before .before .args .s .now) (length (c .before .before .before .before .before .before .args .s .now) - 1) (c .before .before .before .before .if1 .left) (omega arith) (c .before .before .if2 .taken)
 
@@ -37,13 +19,4 @@ returns-3 c = c .digits2 .ensures ∙ part-plain (c .before .before .before .bef
 pub part-spec : {M : Type 1} → statement M
 part-spec =
     tie.close
-    (tie.spec
-    returns
-    shared-slice-read-if2
-    sub-digits
-    part-digits-start
-    part-digits-end
-    digits-requires
-    digits-requires-2
-    returns-2
-    returns-3)
+    (tie.spec returns (search needs) (search needs) (search needs) (search needs) (search needs) (search needs) returns-2 returns-3)
