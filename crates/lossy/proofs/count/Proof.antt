@@ -20,15 +20,6 @@ abbrev μ-loop : tie.MeasureT-loop
 loop-holds : tie.Need-loop-holds Inv-loop μ-loop
 loop-holds c = (omega arith, omega arith, omega arith)
 
-part-at-requires : tie.Need-part-at-requires Inv-loop μ-loop
-part-at-requires c κs = omega arith
-
-shown-len-requires : tie.Need-shown-len-requires Inv-loop μ-loop
-shown-len-requires c κs = search needs
-
-sub-if1 : tie.Need-sub-if1 Inv-loop μ-loop
-sub-if1 c = omega arith
-
 returns : tie.Need-returns Inv-loop μ-loop
 returns c =
     let l = c .before .before .before .before in
@@ -37,9 +28,6 @@ returns c =
     let v = c .before .shown-len in
     let e = length-turn (a .text .now) (l .loop .i) (w .result) (omega arith) (w .ensures) (v .result) (v .ensures) in
     over (a .room) (length (lossyOf (a .text .now))) (omega arith)
-
-add-need : tie.Need-add-need Inv-loop μ-loop
-add-need c = omega arith
 
 add-i : tie.Need-add-i Inv-loop μ-loop
 add-i c = omega (arith, c .before .before .before .part-at .ensures .ends)
@@ -67,16 +55,5 @@ returns-2 c =
 pub count-spec : {M : Type 1} → statement M
 count-spec =
     tie.close
-    (tie.spec
-    Inv-loop
-    μ-loop
-    loop-holds
-    part-at-requires
-    shown-len-requires
-    sub-if1
-    returns
-    add-need
-    add-i
-    loop-less
-    loop-again
+    (tie.spec Inv-loop μ-loop loop-holds (search needs) (search needs) (search needs) returns (search needs) add-i loop-less loop-again
     returns-2)

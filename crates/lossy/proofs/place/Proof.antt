@@ -13,18 +13,6 @@ use Rattle.lossy.proofs.place.Tie as tie
 returns : tie.Need-returns
 returns c = unplaced _ _ _ (omega arith)
 
-sub-count : tie.Need-sub-count
-sub-count c = search needs
-
-count-requires : tie.Need-count-requires
-count-requires c κs = search needs
-
-enum-known-n : tie.Need-enum-known-n
-enum-known-n c = search needs
-
-enum-told : tie.Need-enum-told
-enum-told c = search needs
-
 returns-2 : tie.Need-returns-2
 returns-2 c =
     let l = c .before .before in
@@ -46,9 +34,6 @@ add-result c =
     let f = counted-fits (length (a .out .now) - a .to) (length (lossyOf (a .text .now))) (c .before .before .before .before .before .n .given .0 .0) (sym (l .count .ensures) ∙ c .before .before .before .before .before .n .given .1) in
     omega arith
 
-same-length : tie.Need-same-length
-same-length c = search needs
-
 returns-3 : tie.Need-returns-3
 returns-3 c =
     let l = c .before .before .before .before .before .before .before in
@@ -59,14 +44,5 @@ returns-3 c =
 pub place-spec : {M : Type 1} → statement M
 place-spec =
     tie.close
-    (tie.spec
-    returns
-    sub-count
-    count-requires
-    enum-known-n
-    enum-told
-    returns-2
-    fill-requires
-    add-result
-    same-length
+    (tie.spec returns (search needs) (search needs) (search needs) (search needs) returns-2 fill-requires add-result (search needs)
     returns-3)

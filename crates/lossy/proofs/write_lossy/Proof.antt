@@ -12,15 +12,6 @@ use Rattle.lossy.proofs.write_lossy.Tie as tie
 returns : tie.Need-returns
 returns c = let a = c .before .before .before .args in too-long (length (a .text .now)) (lossyOf (a .text .now)) (a .out .now) (c .if1 .taken)
 
-count-requires : tie.Need-count-requires
-count-requires c κs = search needs
-
-enum-known-n : tie.Need-enum-known-n
-enum-known-n c = search needs
-
-enum-told : tie.Need-enum-told
-enum-told c = search needs
-
 returns-2 : tie.Need-returns-2
 returns-2 c =
     let l = c .before .before in
@@ -35,9 +26,6 @@ fill-requires c κs =
     let f = counted-fits (length (a .out .now)) (length (lossyOf (a .text .now))) (c .before .before .n .given .0 .0) (sym (l .count .ensures) ∙ c .before .before .n .given .1) in
     omega arith
 
-same-length : tie.Need-same-length
-same-length c = search needs
-
 returns-3 : tie.Need-returns-3
 returns-3 c =
     let l = c .before .before .before .before .before .before .before in
@@ -48,12 +36,4 @@ returns-3 c =
 pub write-lossy-spec : {M : Type 1} → statement M
 write-lossy-spec =
     tie.close
-    (tie.spec
-    returns
-    count-requires
-    enum-known-n
-    enum-told
-    returns-2
-    fill-requires
-    same-length
-    returns-3)
+    (tie.spec returns (search needs) (search needs) (search needs) returns-2 fill-requires (search needs) returns-3)

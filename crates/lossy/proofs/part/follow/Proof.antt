@@ -13,9 +13,6 @@ returns c =
     let a = c .before .before .args in
     matched-end (a .l .due) _ _ (omega arith)
 
-next-in-requires : tie.Need-next-in-requires
-next-in-requires c κs = search needs
-
 returns-2 : tie.Need-returns-2
 returns-2 c =
     let a = c .before .before .before .before .args in
@@ -30,12 +27,6 @@ returns-3 c =
     let n = a .l .due in
     matched-next n (a .at) (a .at + 1) _ _ s (omega arith) (omega arith) (c .before .before .next-in .ensures) (not-false _ (c .before .if2 .left))
     (matched-end (n - 1) _ _ (omega arith))
-
-add-next-in : tie.Need-add-next-in
-add-next-in c = search needs
-
-next-in-requires-2 : tie.Need-next-in-requires-2
-next-in-requires-2 c κs = search needs
 
 returns-4 : tie.Need-returns-4
 returns-4 c =
@@ -53,12 +44,6 @@ returns-5 c =
     matched-next n (a .at) (a .at + 1) _ _ s (omega arith) (omega arith) (c .before .before .before .before .before .next-in .ensures) (not-false _ (c .before .before .before .before .if2 .left))
     (matched-next (n - 1) (a .at + 1) (a .at + 2) _ _ s (omega arith) (omega arith) (c .before .before .next-in2 .ensures) (not-false _ (c .before .if4 .left))
     (matched-end (n - 1 - 1) _ _ (omega arith)))
-
-add-next-in-2 : tie.Need-add-next-in-2
-add-next-in-2 c = search needs
-
-next-in-requires-3 : tie.Need-next-in-requires-3
-next-in-requires-3 c κs = search needs
 
 returns-6 : tie.Need-returns-6
 returns-6 c =
@@ -82,16 +67,5 @@ returns-7 c =
 pub follow-spec : {M : Type 1} → statement M
 follow-spec =
     tie.close
-    (tie.spec
-    returns
-    next-in-requires
-    returns-2
-    returns-3
-    add-next-in
-    next-in-requires-2
-    returns-4
-    returns-5
-    add-next-in-2
-    next-in-requires-3
-    returns-6
-    returns-7)
+    (tie.spec returns (search needs) returns-2 returns-3 (search needs) (search needs) returns-4 returns-5 (search needs) (search needs)
+    returns-6 returns-7)

@@ -6,39 +6,6 @@ use borrow.Author.Needs.{needs}
 use Rattle.lossy.proofs.part.lead_of.Statement.{statement}
 use Rattle.lossy.proofs.part.lead_of.Tie as tie
 
-due-requires : tie.Need-due-requires
-due-requires c κs = search needs
-
-none-requires : tie.Need-none-requires
-none-requires c κs = search needs
-
-due-requires-2 : tie.Need-due-requires-2
-due-requires-2 c κs = search needs
-
-due-requires-3 : tie.Need-due-requires-3
-due-requires-3 c κs = search needs
-
-due-requires-4 : tie.Need-due-requires-4
-due-requires-4 c κs = search needs
-
-due-requires-5 : tie.Need-due-requires-5
-due-requires-5 c κs = search needs
-
-due-requires-6 : tie.Need-due-requires-6
-due-requires-6 c κs = search needs
-
-due-requires-7 : tie.Need-due-requires-7
-due-requires-7 c κs = search needs
-
-due-requires-8 : tie.Need-due-requires-8
-due-requires-8 c κs = search needs
-
-due-requires-9 : tie.Need-due-requires-9
-due-requires-9 c κs = search needs
-
-none-requires-2 : tie.Need-none-requires-2
-none-requires-2 c κs = search needs
-
 returns : tie.Need-returns
 unfolding table
 returns c = rw (c .due .ensures) (row-at 0 table (c .before .before .args .b) (omega arith) (omega arith), omega arith)
@@ -86,26 +53,6 @@ returns-11 c = rw (c .none2 .ensures) (row-none 9 table (c .before .before .befo
 pub lead-of-spec : {M : Type 1} → statement M
 lead-of-spec =
     tie.close
-    (tie.spec
-    due-requires
-    none-requires
-    due-requires-2
-    due-requires-3
-    due-requires-4
-    due-requires-5
-    due-requires-6
-    due-requires-7
-    due-requires-8
-    due-requires-9
-    none-requires-2
-    returns
-    returns-2
-    returns-3
-    returns-4
-    returns-5
-    returns-6
-    returns-7
-    returns-8
-    returns-9
-    returns-10
-    returns-11)
+    (tie.spec (search needs) (search needs) (search needs) (search needs) (search needs) (search needs) (search needs) (search needs)
+    (search needs) (search needs) (search needs) returns returns-2 returns-3 returns-4 returns-5 returns-6 returns-7 returns-8 returns-9
+    returns-10 returns-11)

@@ -9,16 +9,10 @@ use Rattle.lossy.proofs.part.next_in.Tie as tie
 returns : tie.Need-returns
 returns c = rw (drop-of-length-le (c .before .args .s .now) (c .if1 .taken))
 
-shared-slice-read-if2 : tie.Need-shared-slice-read-if2
-shared-slice-read-if2 c = search needs
-
 returns-2 : tie.Need-returns-2
 returns-2 c =
     let a = c .before .before .before .args in
     rw (drop-cons (a .s .now) (a .at) 0 (c .before .before .if1 .left), lt-leb _ _ (c .if2 .taken))
-
-shared-slice-read-result : tie.Need-shared-slice-read-result
-shared-slice-read-result c = search needs
 
 returns-3 : tie.Need-returns-3
 returns-3 c =
@@ -26,5 +20,4 @@ returns-3 c =
     rw (drop-cons (a .s .now) (a .at) 0 (c .before .before .before .if1 .left), le-leb _ _ (c .before .if2 .left))
 
 pub next-in-spec : {M : Type 1} → statement M
-next-in-spec =
-    tie.close (tie.spec returns shared-slice-read-if2 returns-2 shared-slice-read-result returns-3)
+next-in-spec = tie.close (tie.spec returns (search needs) returns-2 (search needs) returns-3)

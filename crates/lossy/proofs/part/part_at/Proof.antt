@@ -10,23 +10,11 @@ use borrow.Author.Needs.{needs}
 use Rattle.lossy.proofs.part.part_at.Statement.{statement}
 use Rattle.lossy.proofs.part.part_at.Tie as tie
 
-shared-slice-read-lead-of : tie.Need-shared-slice-read-lead-of
-shared-slice-read-lead-of c = search needs
-
-lead-of-requires : tie.Need-lead-of-requires
-lead-of-requires c κs = search needs
-
 returns : tie.Need-returns
 returns c =
     let l = c .before .before in
     let a = l .before .before .before .args in
     at-ill (a .s .now) (a .at) (omega arith) (trail (l .lead-of .result)) (l .lead-of .ensures .0) (not-true _ (c .if1 .taken))
-
-add-follow : tie.Need-add-follow
-add-follow c = search needs
-
-follow-requires : tie.Need-follow-requires
-follow-requires c κs = search needs
 
 add-t8 : tie.Need-add-t8
 add-t8 c =
@@ -45,11 +33,4 @@ returns-2 c =
 pub part-at-spec : {M : Type 1} → statement M
 part-at-spec =
     tie.close
-    (tie.spec
-    shared-slice-read-lead-of
-    lead-of-requires
-    returns
-    add-follow
-    follow-requires
-    add-t8
-    returns-2)
+    (tie.spec (search needs) (search needs) returns (search needs) (search needs) add-t8 returns-2)
