@@ -21,39 +21,12 @@ abbrev μ-loop : tie.MeasureT-loop
 loop-holds : tie.Need-loop-holds Inv-loop μ-loop
 loop-holds c = (omega arith, omega arith, omega (arith, ap length (listed-start (c .args .names .now))))
 
-comma-requires : tie.Need-comma-requires Inv-loop μ-loop
-comma-requires c κs = search needs
-
-sub-if1 : tie.Need-sub-if1 Inv-loop μ-loop
-sub-if1 c = omega arith
-
 returns : tie.Need-returns Inv-loop μ-loop
 returns c =
     let l = c .before .before .before in
     let a = l .before .args in
     let t = listed-length (a .names .now) (l .loop .i) (omega arith) in
     over (a .room) (length (optionValue (a .names .now))) (omega arith)
-
-mul-s : tie.Need-mul-s Inv-loop μ-loop
-mul-s c = search needs
-
-shared-slice-copy-out-s : tie.Need-shared-slice-copy-out-s Inv-loop μ-loop
-shared-slice-copy-out-s c = omega arith
-
-sub-count-name : tie.Need-sub-count-name Inv-loop μ-loop
-sub-count-name c = omega arith
-
-sub-count-name-2 : tie.Need-sub-count-name-2 Inv-loop μ-loop
-sub-count-name-2 c = omega arith
-
-count-name-requires : tie.Need-count-name-requires Inv-loop μ-loop
-count-name-requires c κs = search needs
-
-enum-known-n : tie.Need-enum-known-n Inv-loop μ-loop
-enum-known-n c = search needs
-
-enum-told : tie.Need-enum-told Inv-loop μ-loop
-enum-told c = search needs
 
 returns-2 : tie.Need-returns-2 Inv-loop μ-loop
 returns-2 c =
@@ -77,12 +50,6 @@ add-need c = let f = fitting c in omega arith
 add-need-2 : tie.Need-add-need-2 Inv-loop μ-loop
 add-need-2 c = let f = fitting c in omega arith
 
-add-i : tie.Need-add-i Inv-loop μ-loop
-add-i c = omega arith
-
-loop-less : tie.Need-loop-less Inv-loop μ-loop
-loop-less c = omega arith
-
 loop-again : tie.Need-loop-again Inv-loop μ-loop
 loop-again c =
     let l = c .before .before .before .before .before .before .before .before in
@@ -101,24 +68,5 @@ returns-3 c =
 pub count-spec : {M : Type 1} → statement M
 count-spec =
     tie.close
-    (tie.spec
-    Inv-loop
-    μ-loop
-    loop-holds
-    comma-requires
-    sub-if1
-    returns
-    mul-s
-    shared-slice-copy-out-s
-    sub-count-name
-    sub-count-name-2
-    count-name-requires
-    enum-known-n
-    enum-told
-    returns-2
-    add-need
-    add-need-2
-    add-i
-    loop-less
-    loop-again
-    returns-3)
+    (tie.spec Inv-loop μ-loop loop-holds (search needs) (search needs) returns (search needs) (search needs) (search needs) (search needs)
+    (search needs) (search needs) (search needs) returns-2 add-need add-need-2 (search needs) (search needs) loop-again returns-3)

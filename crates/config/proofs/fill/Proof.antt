@@ -27,24 +27,12 @@ put-comma-requires c κs =
     let s = l .before .before in
     filling-room (s .pre) (commaAt (l .loop .i)) _ (rw (listed-next (s .args .names .now) (l .loop .i) (omega arith)) at (l .loop .inv .1))
 
-mul-s : tie.Need-mul-s Inv-loop μ-loop
-mul-s c = search needs
-
-shared-slice-copy-out-s : tie.Need-shared-slice-copy-out-s Inv-loop μ-loop
-shared-slice-copy-out-s c = omega arith
-
 fill-name-requires : tie.Need-fill-name-requires Inv-loop μ-loop
 fill-name-requires c κs =
     let l = c .before .before .before .before .before .before .before in
     let s = l .before .before in
     let f = rw (listed-next (s .args .names .now) (l .loop .i) (omega arith)) at (l .loop .inv .1) in
     filling-room (s .pre) (doubled (nameAt (s .args .names .now) (l .loop .i))) _ (filling-next (s .pre) (commaAt (l .loop .i)) f (c .before .before .before .before .put-comma .ensures))
-
-add-i : tie.Need-add-i Inv-loop μ-loop
-add-i c = omega arith
-
-loop-less : tie.Need-loop-less Inv-loop μ-loop
-loop-less c = omega arith
 
 loop-again : tie.Need-loop-again Inv-loop μ-loop
 loop-again c =
@@ -64,16 +52,5 @@ returns c =
 pub fill-spec : {M : Type 1} → statement M
 fill-spec =
     tie.close
-    (tie.spec
-    Inv-loop
-    μ-loop
-    loop-holds
-    put-comma-requires
-    mul-s
-    shared-slice-copy-out-s
-    fill-name-requires
-    add-i
-    loop-less
-    loop-again
-    same-length
-    returns)
+    (tie.spec Inv-loop μ-loop loop-holds put-comma-requires (search needs) (search needs) fill-name-requires (search needs) (search needs)
+    loop-again same-length returns)

@@ -13,18 +13,6 @@ returns c =
     let a = c .before .before .args in
     unplaced (a .out .now) (a .to) (optionValue (a .names .now)) (omega arith)
 
-sub-count : tie.Need-sub-count
-sub-count c = search needs
-
-count-requires : tie.Need-count-requires
-count-requires c κs = search needs
-
-enum-told : tie.Need-enum-told
-enum-told c = search needs
-
-enum-told-2 : tie.Need-enum-told-2
-enum-told-2 c = search needs
-
 returns-2 : tie.Need-returns-2
 returns-2 c =
     let a = c .before .before .before .before .before .args in
@@ -36,22 +24,10 @@ fill-requires c κs =
     let f = counted-fits _ _ _ (sym (c .before .before .before .count .ensures) ∙ c .before .enum-told .given .1) in
     omega arith
 
-same-length : tie.Need-same-length
-same-length c = search needs
-
 returns-3 : tie.Need-returns-3
 returns-3 c = c .before .before .fill .ensures
 
 pub place-spec : {M : Type 1} → statement M
 place-spec =
     tie.close
-    (tie.spec
-    returns
-    sub-count
-    count-requires
-    enum-told
-    enum-told-2
-    returns-2
-    fill-requires
-    same-length
-    returns-3)
+    (tie.spec returns (search needs) (search needs) (search needs) (search needs) returns-2 fill-requires (search needs) returns-3)

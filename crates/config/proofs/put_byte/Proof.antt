@@ -13,17 +13,8 @@ use Rattle.config.proofs.put_byte.Tie as tie
 slice-write-out : tie.Need-slice-write-out
 slice-write-out c = omega (arith, ap length (quote (c .before .args .c) (c .if1 .taken)))
 
-add-out : tie.Need-add-out
-add-out c = search needs
-
 slice-write-out-2 : tie.Need-slice-write-out-2
 slice-write-out-2 c = simp length-set (omega (arith, ap length (quote (c .before .args .c) (c .if1 .taken))))
-
-add-result : tie.Need-add-result
-add-result c = search needs
-
-same-length : tie.Need-same-length
-same-length c = search needs
 
 returns : tie.Need-returns
 returns c =
@@ -35,12 +26,6 @@ returns c =
 slice-write-out-3 : tie.Need-slice-write-out-3
 slice-write-out-3 c = omega (arith, ap length (plain (c .before .args .c) (c .if1 .left)))
 
-add-result-2 : tie.Need-add-result-2
-add-result-2 c = search needs
-
-same-length-2 : tie.Need-same-length-2
-same-length-2 c = search needs
-
 returns-2 : tie.Need-returns-2
 returns-2 c =
     let a = c .before .args in
@@ -51,14 +36,5 @@ returns-2 c =
 pub put-byte-spec : {M : Type 1} → statement M
 put-byte-spec =
     tie.close
-    (tie.spec
-    slice-write-out
-    add-out
-    slice-write-out-2
-    add-result
-    same-length
-    returns
-    slice-write-out-3
-    add-result-2
-    same-length-2
-    returns-2)
+    (tie.spec slice-write-out (search needs) slice-write-out-2 (search needs) (search needs) returns slice-write-out-3 (search needs)
+    (search needs) returns-2)

@@ -20,12 +20,6 @@ returns c =
 slice-write-out : tie.Need-slice-write-out
 slice-write-out c = omega (arith, ap length (comma-later (c .before .args .i) (c .if1 .left)))
 
-add-result : tie.Need-add-result
-add-result c = search needs
-
-same-length : tie.Need-same-length
-same-length c = search needs
-
 returns-2 : tie.Need-returns-2
 returns-2 c =
     let a = c .before .args in
@@ -34,4 +28,4 @@ returns-2 c =
     rw q (placed-at (a .out .now) (a .at) 1 (44 ∷ []) _ refl h (put-one (a .out .now) (a .at) 44 (omega arith)))
 
 pub put-comma-spec : {M : Type 1} → statement M
-put-comma-spec = tie.close (tie.spec returns slice-write-out add-result same-length returns-2)
+put-comma-spec = tie.close (tie.spec returns slice-write-out (search needs) (search needs) returns-2)

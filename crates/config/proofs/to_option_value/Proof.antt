@@ -9,29 +9,11 @@ use borrow.Author.Needs.{needs}
 use Rattle.config.proofs.to_option_value.Statement.{statement}
 use Rattle.config.proofs.to_option_value.Tie as tie
 
-inputs-len-requires : tie.Need-inputs-len-requires
-inputs-len-requires c κs = search needs
-
-enum-told : tie.Need-enum-told
-enum-told c = search needs
-
-enum-told-2 : tie.Need-enum-told-2
-enum-told-2 c = search needs
-
 returns : tie.Need-returns
 returns c =
     let a = c .before .before .before .before .args in
     let f = counted-over _ _ (sym (c .before .before .inputs-len .ensures) ∙ c .enum-told2 .given .1) in
     too-long (total (a .names .now)) (optionValue (a .names .now)) (a .out .now) f
-
-count-requires : tie.Need-count-requires
-count-requires c κs = search needs
-
-enum-told-3 : tie.Need-enum-told-3
-enum-told-3 c = search needs
-
-enum-told-4 : tie.Need-enum-told-4
-enum-told-4 c = search needs
 
 returns-2 : tie.Need-returns-2
 returns-2 c =
@@ -45,9 +27,6 @@ fill-requires c κs =
     let f = counted-fits _ _ _ (sym (c .before .before .before .count .ensures) ∙ c .before .enum-told3 .given .1) in
     omega arith
 
-same-length : tie.Need-same-length
-same-length c = search needs
-
 returns-3 : tie.Need-returns-3
 returns-3 c =
     let a = c .before .before .before .before .before .before .before .before .before .before .before .args in
@@ -60,15 +39,5 @@ returns-3 c =
 pub to-option-value-spec : {M : Type 1} → statement M
 to-option-value-spec =
     tie.close
-    (tie.spec
-    inputs-len-requires
-    enum-told
-    enum-told-2
-    returns
-    count-requires
-    enum-told-3
-    enum-told-4
-    returns-2
-    fill-requires
-    same-length
-    returns-3)
+    (tie.spec (search needs) (search needs) (search needs) returns (search needs) (search needs) (search needs) returns-2 fill-requires
+    (search needs) returns-3)
