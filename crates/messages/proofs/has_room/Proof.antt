@@ -21,15 +21,6 @@ over a b room h = let e : length (coded a b) ≡ length a + 12 + length b = leng
 under : (a b : List ℕ) (room : ℕ) → length a + 12 + length b ≤ room → true ≡ leb (length (coded a b)) room
 under a b room h = let e : length (coded a b) ≡ length a + 12 + length b = length-coded a b in sym (le-leb (length (coded a b)) room (omega arith))
 
-count-requires : tie.Need-count-requires
-count-requires c κs = search needs
-
-enum-known-n : tie.Need-enum-known-n
-enum-known-n c = search needs
-
-enum-told : tie.Need-enum-told
-enum-told c = search needs
-
 -- the length of the text
 counted : (c : tie.After-known-told) → (length (lossyOf (c .before .before .before .before .before .before .args .text .now)) ≡ c .before .n .given .0 .0) × (c .before .n .given .0 .0 ≤ c .before .before .before .before .before .before .args .room)
 counted c = let k = c .before .before .before in counted-fits (k .before .before .before .args .room) (length (lossyOf (k .before .before .before .args .text .now))) (c .before .n .given .0 .0) (sym (k .count .ensures) ∙ c .before .n .given .1)
@@ -49,15 +40,6 @@ returns-2 c =
     let a = c .before .before .before .before .before .before .before .args in
     let n = counted (c .before) in
     over (lossyOf (a .text .now)) (lossyOf (a .code .now)) (a .room) (omega arith)
-
-count-requires-2 : tie.Need-count-requires-2
-count-requires-2 c κs = search needs
-
-enum-told-2 : tie.Need-enum-told-2
-enum-told-2 c = search needs
-
-enum-told-3 : tie.Need-enum-told-3
-enum-told-3 c = search needs
 
 returns-3 : tie.Need-returns-3
 returns-3 c =
@@ -80,15 +62,5 @@ returns-4 c =
 pub has-room-spec : {M : Type 1} → statement M
 has-room-spec =
     tie.close
-    (tie.spec
-    count-requires
-    enum-known-n
-    enum-told
-    returns
-    sub-left
-    returns-2
-    count-requires-2
-    enum-told-2
-    enum-told-3
-    returns-3
-    returns-4)
+    (tie.spec (search needs) (search needs) (search needs) returns sub-left returns-2 (search needs) (search needs) (search needs)
+    returns-3 returns-4)

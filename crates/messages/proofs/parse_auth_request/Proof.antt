@@ -31,4 +31,6 @@ returns-2 c =
     simp (toZ-ofZ w32 z f, code-read c)
 
 pub parse-auth-request-spec : {M : Type 1} → statement M
-parse-auth-request-spec = tie.close (tie.spec (search needs) (search needs) (search needs) returns sub-t6 returns-2)
+parse-auth-request-spec =
+    tie.close
+    (tie.spec (search needs) (search needs) (search needs) returns sub-t6 returns-2)

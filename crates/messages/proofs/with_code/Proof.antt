@@ -28,9 +28,6 @@ four-pieces d m k f e1 e2 e3 e4 =
     let n = placed-fits d 0 (coded m k) h w .0 in
     wrote-placed 0 (coded m k) d (omega arith) (omega arith) (omega arith) w
 
-has-room-requires : tie.Need-has-room-requires
-has-room-requires c κs = search needs
-
 returns : tie.Need-returns
 returns c =
     let r = c .before in
@@ -38,27 +35,6 @@ returns c =
     let text = coded (lossyOf (a .text .now)) (lossyOf (a .code .now)) in
     let t : leb (length text) (length (a .out .now)) ≡ false = sym (r .has-room .ensures) ∙ not-true _ (c .if1 .taken) in
     no-room 0 text (a .out .now) (omega arith) (leb-false (length text) (length (a .out .now)) t)
-
-place-requires : tie.Need-place-requires
-place-requires c κs = search needs
-
-slice-aggregate-place : tie.Need-slice-aggregate-place
-slice-aggregate-place c = search needs
-
-place-requires-2 : tie.Need-place-requires-2
-place-requires-2 c κs = search needs
-
-place-requires-3 : tie.Need-place-requires-3
-place-requires-3 c κs = search needs
-
-slice-aggregate-place-2 : tie.Need-slice-aggregate-place-2
-slice-aggregate-place-2 c = search needs
-
-place-requires-4 : tie.Need-place-requires-4
-place-requires-4 c κs = search needs
-
-same-length : tie.Need-same-length
-same-length c = search needs
 
 returns-2 : tie.Need-returns-2
 returns-2 c =
@@ -77,14 +53,5 @@ returns-2 c =
 pub with-code-spec : {M : Type 1} → statement M
 with-code-spec =
     tie.close
-    (tie.spec
-    has-room-requires
-    returns
-    place-requires
-    slice-aggregate-place
-    place-requires-2
-    place-requires-3
-    slice-aggregate-place-2
-    place-requires-4
-    same-length
-    returns-2)
+    (tie.spec (search needs) returns (search needs) (search needs) (search needs) (search needs) (search needs) (search needs)
+    (search needs) returns-2)

@@ -19,41 +19,14 @@ Inv-loop payload r₀ at₀ r at = (length (r .fields) ≡ 15) × (after letters
 abbrev μ-loop : tie.MeasureT-loop
 μ-loop payload r₀ at₀ r at = length payload - at
 
-absent-requires : tie.Need-absent-requires Inv-loop μ-loop
-absent-requires c κs = search needs
-
 loop-holds : tie.Need-loop-holds Inv-loop μ-loop
 loop-holds c = (refl, rw (c .absent .ensures) (after-start (c .before .before .args .payload .now)))
-
-shared-slice-read-letter : tie.Need-shared-slice-read-letter Inv-loop μ-loop
-shared-slice-read-letter c = search needs
 
 returns : tie.Need-returns Inv-loop μ-loop
 returns c =
     let l = c .before .before .before in
     let s = l .before .before .before .args .payload .now in
     ended s (l .loop .r .fields) (l .loop .at) (l .loop .inv .0) (unread-zero s (l .loop .at) (omega arith) (c .if1 .taken)) (l .loop .inv .1)
-
-add-from : tie.Need-add-from Inv-loop μ-loop
-add-from c = search needs
-
-sub-find-zero : tie.Need-sub-find-zero Inv-loop μ-loop
-sub-find-zero c = search needs
-
-part-find-zero-start : tie.Need-part-find-zero-start Inv-loop μ-loop
-part-find-zero-start c = search needs
-
-part-find-zero-end : tie.Need-part-find-zero-end Inv-loop μ-loop
-part-find-zero-end c = search needs
-
-find-zero-requires : tie.Need-find-zero-requires Inv-loop μ-loop
-find-zero-requires c κs = search needs
-
-enum-known-len : tie.Need-enum-known-len Inv-loop μ-loop
-enum-known-len c = search needs
-
-enum-told : tie.Need-enum-told Inv-loop μ-loop
-enum-told c = search needs
 
 returns-2 : tie.Need-returns-2 Inv-loop μ-loop
 returns-2 c =
@@ -62,9 +35,6 @@ returns-2 c =
     let s = l .before .before .before .args .payload .now in
     let e : indexOf 0 (drop (l .loop .at + 1) s) ≡ Nothing = rw (tail-whole s (l .loop .at + 1)) at (sym (f .find-zero .ensures) ∙ c .enum-told .given .1) in
     ended s (l .loop .r .fields) (l .loop .at) (l .loop .inv .0) (unread-cut s (l .loop .at) (omega arith) (f .before .before .if1 .left) e) (l .loop .inv .1)
-
-with-requires : tie.Need-with-requires Inv-loop μ-loop
-with-requires c κs = search needs
 
 -- the zero byte that ends the value stands in the payload
 zero-found : (c : tie.After-with Inv-loop μ-loop) →
@@ -107,24 +77,5 @@ returns-3 c =
 pub parse-spec : {M : Type 1} → statement M
 parse-spec =
     tie.close
-    (tie.spec
-    Inv-loop
-    μ-loop
-    absent-requires
-    loop-holds
-    shared-slice-read-letter
-    returns
-    add-from
-    sub-find-zero
-    part-find-zero-start
-    part-find-zero-end
-    find-zero-requires
-    enum-known-len
-    enum-told
-    returns-2
-    with-requires
-    add-at
-    add-at-2
-    loop-less
-    loop-again
-    returns-3)
+    (tie.spec Inv-loop μ-loop (search needs) loop-holds (search needs) returns (search needs) (search needs) (search needs) (search needs)
+    (search needs) (search needs) (search needs) returns-2 (search needs) add-at add-at-2 loop-less loop-again returns-3)

@@ -8,15 +8,6 @@ use Rattle.messages.specs.Fields.{letters}
 use Rattle.messages.proofs.ErrorFields.with.Statement.{statement}
 use Rattle.messages.proofs.ErrorFields.with.Tie as tie
 
-index-of-requires : tie.Need-index-of-requires
-index-of-requires c κs = search needs
-
-enum-known-i : tie.Need-enum-known-i
-enum-known-i c = search needs
-
-enum-told : tie.Need-enum-told
-enum-told c = search needs
-
 returns : tie.Need-returns
 returns c = rw (← c .before .before .index-of .ensures, c .enum-told .given .1)
 
@@ -35,4 +26,4 @@ returns-2 c = rw (← c .before .before .before .index-of .ensures, c .before .i
 pub with-spec : {M : Type 1} → statement M
 with-spec =
     tie.close
-    (tie.spec index-of-requires enum-known-i enum-told returns mul-f element-set-from-f returns-2)
+    (tie.spec (search needs) (search needs) (search needs) returns mul-f element-set-from-f returns-2)
