@@ -10,44 +10,14 @@ use borrow.Author.Needs.{needs}
 use Rattle.framing.proofs.fill_header.Statement.{statement}
 use Rattle.framing.proofs.fill_header.Tie as tie
 
-sub-least : tie.Need-sub-least
-sub-least c = search needs
-
-least-requires : tie.Need-least-requires
-least-requires c κs = search needs
-
 slice-aggregate-head-with : tie.Need-slice-aggregate-head-with
 slice-aggregate-head-with c = simp length-take (omega arith)
 
 head-with-requires : tie.Need-head-with-requires
 head-with-requires c κs = simp length-take (omega arith)
 
-add-if1 : tie.Need-add-if1
-add-if1 c = search needs
-
-lacking-requires : tie.Need-lacking-requires
-lacking-requires c κs = search needs
-
-add-at-byte : tie.Need-add-at-byte
-add-at-byte c = search needs
-
-at-byte-requires : tie.Need-at-byte-requires
-at-byte-requires c κs = search needs
-
 returns : tie.Need-returns
 returns c = header-more (c .before .before .before .before .before .before .before .before .before .args .limit) (c .before .before .before .before .before .before .before .before .before .args .r) (c .before .before .before .before .before .before .before .before .before .args .unread .now) (c .before .before .before .before .before .before .before .before .before .args .ended) (c .before .before .before .before .before .before .before .before .before .args .payload .now) (c .before .before .before .before .before .before .least .result) (c .before .before .before .head-with .result) (c .before .before .before .before .before .before .least .ensures) (c .before .before .before .head-with .ensures) _ _ (c .before .lacking .ensures) (c .at-byte .ensures) (c .before .before .if1 .taken)
-
-sub-judge : tie.Need-sub-judge
-sub-judge c = search needs
-
-part-judge-start : tie.Need-part-judge-start
-part-judge-start c = search needs
-
-part-judge-end : tie.Need-part-judge-end
-part-judge-end c = search needs
-
-judge-requires : tie.Need-judge-requires
-judge-requires c κs = search needs
 
 add-t13 : tie.Need-add-t13
 add-t13 c =
@@ -60,9 +30,6 @@ add-t13 c =
     let l : length v ≡ length (a .unread .now) - k .result = simp (length-take, length-drop) (omega arith) in
     omega (arith, e, c .before .before .before .before .before .before .before .before .before .before .before .before .before .before .good)
 
-same-length : tie.Need-same-length
-same-length c = search needs
-
 returns-2 : tie.Need-returns-2
 returns-2 c =
     let a = c .before .before .before .before .before .before .before .before .before .before .before .before .before .before .args in
@@ -71,20 +38,5 @@ returns-2 c =
 pub fill-header-spec : {M : Type 1} → statement M
 fill-header-spec =
     tie.close
-    (tie.spec
-    sub-least
-    least-requires
-    slice-aggregate-head-with
-    head-with-requires
-    add-if1
-    lacking-requires
-    add-at-byte
-    at-byte-requires
-    returns
-    sub-judge
-    part-judge-start
-    part-judge-end
-    judge-requires
-    add-t13
-    same-length
-    returns-2)
+    (tie.spec (search needs) (search needs) slice-aggregate-head-with head-with-requires (search needs) (search needs) (search needs)
+    (search needs) returns (search needs) (search needs) (search needs) (search needs) add-t13 (search needs) returns-2)

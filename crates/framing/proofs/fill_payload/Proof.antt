@@ -9,18 +9,6 @@ use borrow.Author.Needs.{needs}
 use Rattle.framing.proofs.fill_payload.Statement.{statement}
 use Rattle.framing.proofs.fill_payload.Tie as tie
 
-least-requires : tie.Need-least-requires
-least-requires c κs = search needs
-
-behind-header-requires : tie.Need-behind-header-requires
-behind-header-requires c κs = search needs
-
-tag-of-requires : tie.Need-tag-of-requires
-tag-of-requires c κs = search needs
-
-new-requires : tie.Need-new-requires
-new-requires c κs = search needs
-
 returns : tie.Need-returns
 returns c =
     let a = c .before .before .before .before .before .before .before .before .args in
@@ -29,41 +17,8 @@ returns c =
     let t = c .before .before .tag-of in
     payload-there (a .r) (a .unread .now) (a .ended) (a .payload .now) (n .result) (o .result) (t .result) (n .ensures) (o .ensures) (t .ensures) _ (c .new .ensures) (c .before .if1 .taken)
 
-sub-least : tie.Need-sub-least
-sub-least c = search needs
-
-least-requires-2 : tie.Need-least-requires-2
-least-requires-2 c κs = search needs
-
-sub-copy : tie.Need-sub-copy
-sub-copy c = search needs
-
-part-copy-start : tie.Need-part-copy-start
-part-copy-start c = search needs
-
-part-copy-end : tie.Need-part-copy-end
-part-copy-end c = search needs
-
 slice-aggregate-copy : tie.Need-slice-aggregate-copy
 slice-aggregate-copy c = let m = min-le-right (c .before .before .before .before .before .before .before .least .result - c .before .before .before .before .before .before .behind-header .result) (length (c .before .before .before .before .before .before .before .before .before .before .args .unread .now)) in simp length-take (omega arith)
-
-copy-requires : tie.Need-copy-requires
-copy-requires c κs = search needs
-
-add-if2 : tie.Need-add-if2
-add-if2 c = search needs
-
-lacking-requires : tie.Need-lacking-requires
-lacking-requires c κs = search needs
-
-add-at-byte : tie.Need-add-at-byte
-add-at-byte c = search needs
-
-at-byte-requires : tie.Need-at-byte-requires
-at-byte-requires c κs = search needs
-
-same-length : tie.Need-same-length
-same-length c = search needs
 
 returns-2 : tie.Need-returns-2
 returns-2 c =
@@ -78,12 +33,6 @@ returns-2 c =
     (copied-all _ (take (k .result) (a .unread .now)) _ _ f (w .ensures)) in
     payload-more (a .r) (a .unread .now) (a .ended) (a .payload .now) (n .result) (o .result) (t .result) (n .ensures) (o .ensures) (t .ensures)
     (k .result) _ (k .ensures) q (c .before .before .before .before .before .before .before .before .before .if1 .left) _ _ (c .before .lacking .ensures) (c .at-byte .ensures) (c .before .before .if2 .taken)
-
-new-requires-2 : tie.Need-new-requires-2
-new-requires-2 c κs = search needs
-
-same-length-2 : tie.Need-same-length-2
-same-length-2 c = search needs
 
 returns-3 : tie.Need-returns-3
 returns-3 c =
@@ -102,25 +51,6 @@ returns-3 c =
 pub fill-payload-spec : {M : Type 1} → statement M
 fill-payload-spec =
     tie.close
-    (tie.spec
-    least-requires
-    behind-header-requires
-    tag-of-requires
-    new-requires
-    returns
-    sub-least
-    least-requires-2
-    sub-copy
-    part-copy-start
-    part-copy-end
-    slice-aggregate-copy
-    copy-requires
-    add-if2
-    lacking-requires
-    add-at-byte
-    at-byte-requires
-    same-length
-    returns-2
-    new-requires-2
-    same-length-2
-    returns-3)
+    (tie.spec (search needs) (search needs) (search needs) (search needs) returns (search needs) (search needs) (search needs)
+    (search needs) (search needs) slice-aggregate-copy (search needs) (search needs) (search needs) (search needs) (search needs)
+    (search needs) returns-2 (search needs) (search needs) returns-3)

@@ -8,22 +8,10 @@ use borrow.Author.Needs.{needs}
 use Rattle.framing.proofs.head_with.Statement.{statement}
 use Rattle.framing.proofs.head_with.Tie as tie
 
-sub-copy : tie.Need-sub-copy
-sub-copy c = search needs
-
-part-h-start : tie.Need-part-h-start
-part-h-start c = search needs
-
-part-h-end : tie.Need-part-h-end
-part-h-end c = search needs
-
-copy-requires : tie.Need-copy-requires
-copy-requires c κs = search needs
-
 returns : tie.Need-returns
 returns c =
     let a = c .before .before .before .before .args in
     lent-tail (a .header) (c .before .copy .last .0) (a .src .now) (a .from) (5 - a .from) (omega arith) (copied-all _ (a .src .now) _ _ (simp (length-take, length-drop) (omega arith)) (c .before .copy .ensures))
 
 pub head-with-spec : {M : Type 1} → statement M
-head-with-spec = tie.close (tie.spec sub-copy part-h-start part-h-end copy-requires returns)
+head-with-spec = tie.close (tie.spec (search needs) (search needs) (search needs) (search needs) returns)

@@ -4,38 +4,14 @@ use borrow.Author.Needs.{needs}
 use Rattle.framing.proofs.judge.Statement.{statement}
 use Rattle.framing.proofs.judge.Tie as tie
 
-length-of-requires : tie.Need-length-of-requires
-length-of-requires c κs = search needs
-
-cast-n : tie.Need-cast-n
-cast-n c = search needs
-
-new-requires : tie.Need-new-requires
-new-requires c κs = search needs
-
 returns : tie.Need-returns
 returns c = length-negative (c .before .before .before .before .before .before .args .limit) (c .before .before .before .before .before .before .args .t2) (c .before .before .before .before .before .before .args .unread .now) (c .before .before .before .before .before .before .args .payload .now) (c .before .before .length-of .result) (c .before .before .length-of .ensures) _ (c .new .ensures) (c .before .if1 .taken)
-
-new-requires-2 : tie.Need-new-requires-2
-new-requires-2 c κs = search needs
 
 returns-2 : tie.Need-returns-2
 returns-2 c = length-short (c .before .before .before .before .before .before .before .args .limit) (c .before .before .before .before .before .before .before .args .t2) (c .before .before .before .before .before .before .before .args .unread .now) (c .before .before .before .before .before .before .before .args .payload .now) (c .before .before .before .length-of .result) (c .before .before .before .length-of .ensures) (c .before .before .if1 .left) _ (c .new2 .ensures) (c .before .if2 .taken)
 
-stopped-requires : tie.Need-stopped-requires
-stopped-requires c κs = search needs
-
 returns-3 : tie.Need-returns-3
 returns-3 c = length-over (c .before .before .before .before .before .before .before .before .args .limit) (c .before .before .before .before .before .before .before .before .args .t2) (c .before .before .before .before .before .before .before .before .args .unread .now) (c .before .before .before .before .before .before .before .before .args .payload .now) (c .before .before .before .before .length-of .result) (c .before .before .before .before .length-of .ensures) (c .before .before .before .if1 .left) (c .before .before .if2 .left) _ (c .stopped .ensures) (c .before .if3 .taken)
-
-at-byte-requires : tie.Need-at-byte-requires
-at-byte-requires c κs = search needs
-
-fill-payload-requires : tie.Need-fill-payload-requires
-fill-payload-requires c κs = search needs
-
-same-length : tie.Need-same-length
-same-length c = search needs
 
 returns-4 : tie.Need-returns-4
 returns-4 c = length-good (c .before .before .before .before .before .before .before .before .before .before .before .before .args .limit) (c .before .before .before .before .before .before .before .before .before .before .before .before .args .t2) (c .before .before .before .before .before .before .before .before .before .before .before .before .args .unread .now) (c .before .before .before .before .before .before .before .before .before .before .before .before .args .payload .now) (c .before .before .before .before .before .before .before .before .length-of .result) (c .before .before .before .before .before .before .before .before .length-of .ensures) (c .before .before .before .before .before .before .before .if1 .left) (c .before .before .before .before .before .before .if2 .left) _ _ (c .before .before .before .before .at-byte .ensures) (c .before .before .before .before .before .if3 .left) (c .before .before .fill-payload .ensures)
@@ -43,16 +19,5 @@ returns-4 c = length-good (c .before .before .before .before .before .before .be
 pub judge-spec : {M : Type 1} → statement M
 judge-spec =
     tie.close
-    (tie.spec
-    length-of-requires
-    cast-n
-    new-requires
-    returns
-    new-requires-2
-    returns-2
-    stopped-requires
-    returns-3
-    at-byte-requires
-    fill-payload-requires
-    same-length
-    returns-4)
+    (tie.spec (search needs) (search needs) (search needs) returns (search needs) returns-2 (search needs) returns-3 (search needs)
+    (search needs) (search needs) returns-4)

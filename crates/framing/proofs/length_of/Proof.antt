@@ -10,15 +10,6 @@ use borrow.Author.Needs.{needs}
 use Rattle.framing.proofs.length_of.Statement.{statement}
 use Rattle.framing.proofs.length_of.Tie as tie
 
-read-u32-requires : tie.Need-read-u32-requires
-read-u32-requires c κs = search needs
-
-enum-known-v : tie.Need-enum-known-v
-enum-known-v c = search needs
-
-enum-told : tie.Need-enum-told
-enum-told c = search needs
-
 returns : tie.Need-returns
 returns c =
     let h = c .before .before .before .before .before .args .header .now in
@@ -34,4 +25,4 @@ returns-2 c =
     impossible (cc e)
 
 pub length-of-spec : {M : Type 1} → statement M
-length-of-spec = tie.close (tie.spec read-u32-requires enum-known-v enum-told returns returns-2)
+length-of-spec = tie.close (tie.spec (search needs) (search needs) (search needs) returns returns-2)

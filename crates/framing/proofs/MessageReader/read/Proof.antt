@@ -5,9 +5,6 @@ use borrow.Author.Needs.{needs}
 use Rattle.framing.proofs.MessageReader.read.Statement.{statement}
 use Rattle.framing.proofs.MessageReader.read.Tie as tie
 
-limit-of-requires : tie.Need-limit-of-requires
-limit-of-requires c κs = search needs
-
 returns : tie.Need-returns
 unfolding readOf
 returns c = rw (← c .before .limit-of .ensures) (simp (lt-ltb _ _ (c .if1 .taken)))
@@ -16,21 +13,9 @@ returns-2 : tie.Need-returns-2
 unfolding readOf
 returns-2 c = rw (← c .before .before .limit-of .ensures) (simp (le-ltb _ _ (c .before .if1 .left), c .if2 .taken))
 
-fill-header-requires : tie.Need-fill-header-requires
-fill-header-requires c κs = search needs
-
-same-length : tie.Need-same-length
-same-length c = search needs
-
 returns-3 : tie.Need-returns-3
 unfolding readOf
 returns-3 c = rw (← c .before .before .before .before .before .before .before .before .limit-of .ensures) (simp (le-ltb _ _ (c .before .before .before .before .before .before .before .if1 .left), c .before .before .before .before .before .before .if2 .left, lt-ltb _ _ (c .before .before .before .before .if3 .taken)) (c .before .before .fill-header .ensures))
-
-fill-payload-requires : tie.Need-fill-payload-requires
-fill-payload-requires c κs = search needs
-
-same-length-2 : tie.Need-same-length-2
-same-length-2 c = search needs
 
 returns-4 : tie.Need-returns-4
 unfolding readOf
@@ -39,13 +24,4 @@ returns-4 c = rw (← c .before .before .before .before .before .before .before 
 pub read-spec : {M : Type 1} → statement M
 read-spec =
     tie.close
-    (tie.spec
-    limit-of-requires
-    returns
-    returns-2
-    fill-header-requires
-    same-length
-    returns-3
-    fill-payload-requires
-    same-length-2
-    returns-4)
+    (tie.spec (search needs) returns returns-2 (search needs) (search needs) returns-3 (search needs) (search needs) returns-4)
