@@ -12,12 +12,6 @@ use Rattle.frontend.proofs.encode_standby_status_update.Tie as tie
 returns : tie.Need-returns
 returns c = let a = c .before .before .args in no-room 0 (statusBody (a .position .0) (a .client-time) (a .reply)) (a .out .now) (omega arith) (omega (arith, length-status (a .position .0) (a .client-time) (a .reply)))
 
-place-status-requires : tie.Need-place-status-requires
-place-status-requires c κs = search needs
-
-same-length : tie.Need-same-length
-same-length c = search needs
-
 returns-2 : tie.Need-returns-2
 returns-2 c =
     let i = c .before .before .before .before in
@@ -28,5 +22,4 @@ returns-2 c =
     (rw (toZ-ofZ w64 (a .client-time) (s .fits .client-time)) at (c .before .before .place-status .ensures))
 
 pub encode-standby-status-update-spec : {M : Type 1} → statement M
-encode-standby-status-update-spec =
-    tie.close (tie.spec returns place-status-requires same-length returns-2)
+encode-standby-status-update-spec = tie.close (tie.spec returns (search needs) (search needs) returns-2)

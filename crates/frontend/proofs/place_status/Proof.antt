@@ -12,30 +12,6 @@ use borrow.Author.Needs.{needs}
 use Rattle.frontend.proofs.place_status.Statement.{statement}
 use Rattle.frontend.proofs.place_status.Tie as tie
 
-write-u8-requires : tie.Need-write-u8-requires
-write-u8-requires c κs = search needs
-
-write-u64-requires : tie.Need-write-u64-requires
-write-u64-requires c κs = search needs
-
-write-u64-requires-2 : tie.Need-write-u64-requires-2
-write-u64-requires-2 c κs = search needs
-
-write-u64-requires-3 : tie.Need-write-u64-requires-3
-write-u64-requires-3 c κs = search needs
-
-write-i64-requires : tie.Need-write-i64-requires
-write-i64-requires c κs = search needs
-
-cast-write-u8 : tie.Need-cast-write-u8
-cast-write-u8 c = search needs
-
-write-u8-requires-2 : tie.Need-write-u8-requires-2
-write-u8-requires-2 c κs = search needs
-
-same-length : tie.Need-same-length
-same-length c = search needs
-
 returns : tie.Need-returns
 returns c =
     let c₅ = c .before .before in
@@ -58,13 +34,5 @@ returns c =
 pub place-status-spec : {M : Type 1} → statement M
 place-status-spec =
     tie.close
-    (tie.spec
-    write-u8-requires
-    write-u64-requires
-    write-u64-requires-2
-    write-u64-requires-3
-    write-i64-requires
-    cast-write-u8
-    write-u8-requires-2
-    same-length
+    (tie.spec (search needs) (search needs) (search needs) (search needs) (search needs) (search needs) (search needs) (search needs)
     returns)

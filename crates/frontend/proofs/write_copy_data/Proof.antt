@@ -4,15 +4,9 @@ use borrow.Author.Needs.{needs}
 use Rattle.frontend.proofs.write_copy_data.Statement.{statement}
 use Rattle.frontend.proofs.write_copy_data.Tie as tie
 
-write-framed-requires : tie.Need-write-framed-requires
-write-framed-requires c κs = search needs
-
-same-length : tie.Need-same-length
-same-length c = search needs
-
 returns : tie.Need-returns
 unfolding copyData
 returns c = c .before .before .write-framed .ensures
 
 pub write-copy-data-spec : {M : Type 1} → statement M
-write-copy-data-spec = tie.close (tie.spec write-framed-requires same-length returns)
+write-copy-data-spec = tie.close (tie.spec (search needs) (search needs) returns)

@@ -14,22 +14,10 @@ use Rattle.frontend.proofs.write_framed.Tie as tie
 returns : tie.Need-returns
 returns c = let a = c .before .before .before .args in too-long (length (a .payload .now)) (framed (a .tag) (a .payload .now)) (a .out .now) (c .if1 .taken)
 
-add-n : tie.Need-add-n
-add-n c = search needs
-
 returns-2 : tie.Need-returns-2
 returns-2 c =
     let a = c .before .before .before .before .args in
     no-room (length (a .payload .now)) (framed (a .tag) (a .payload .now)) (a .out .now) (omega arith) (omega (arith, length-framed (a .tag) (a .payload .now)))
-
-place-header-requires : tie.Need-place-header-requires
-place-header-requires c κs = search needs
-
-place-requires : tie.Need-place-requires
-place-requires c κs = search needs
-
-same-length : tie.Need-same-length
-same-length c = search needs
 
 returns-3 : tie.Need-returns-3
 returns-3 c =
@@ -45,4 +33,4 @@ returns-3 c =
 pub write-framed-spec : {M : Type 1} → statement M
 write-framed-spec =
     tie.close
-    (tie.spec returns add-n returns-2 place-header-requires place-requires same-length returns-3)
+    (tie.spec returns (search needs) returns-2 (search needs) (search needs) (search needs) returns-3)

@@ -15,28 +15,10 @@ use Rattle.frontend.proofs.write_query.Tie as tie
 returns : tie.Need-returns
 returns c = let a = c .before .before .before .args in too-long (length (a .text .now)) (query (a .text .now)) (a .out .now) (c .if1 .taken)
 
-add-n : tie.Need-add-n
-add-n c = search needs
-
 returns-2 : tie.Need-returns-2
 returns-2 c =
     let a = c .before .before .before .before .args in
     no-room (length (a .text .now)) (query (a .text .now)) (a .out .now) (omega arith) (omega (arith, length-query (a .text .now)))
-
-add-place-header : tie.Need-add-place-header
-add-place-header c = search needs
-
-place-header-requires : tie.Need-place-header-requires
-place-header-requires c κs = search needs
-
-place-requires : tie.Need-place-requires
-place-requires c κs = search needs
-
-write-u8-requires : tie.Need-write-u8-requires
-write-u8-requires c κs = search needs
-
-same-length : tie.Need-same-length
-same-length c = search needs
 
 returns-3 : tie.Need-returns-3
 returns-3 c =
@@ -54,13 +36,4 @@ returns-3 c =
 pub write-query-spec : {M : Type 1} → statement M
 write-query-spec =
     tie.close
-    (tie.spec
-    returns
-    add-n
-    returns-2
-    add-place-header
-    place-header-requires
-    place-requires
-    write-u8-requires
-    same-length
-    returns-3)
+    (tie.spec returns (search needs) returns-2 (search needs) (search needs) (search needs) (search needs) (search needs) returns-3)

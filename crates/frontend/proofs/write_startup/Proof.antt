@@ -15,15 +15,6 @@ use borrow.Author.Needs.{needs}
 use Rattle.frontend.proofs.write_startup.Statement.{statement}
 use Rattle.frontend.proofs.write_startup.Tie as tie
 
-inputs-len-requires : tie.Need-inputs-len-requires
-inputs-len-requires c κs = search needs
-
-enum-known-sum : tie.Need-enum-known-sum
-enum-known-sum c = search needs
-
-enum-told : tie.Need-enum-told
-enum-told c = search needs
-
 returns : tie.Need-returns
 returns c =
     let a = c .before .before .before .before .args in
@@ -45,12 +36,6 @@ returns-2 c =
     let f = counted-fits _ _ _ (sym (c .before .before .before .before .inputs-len .ensures) ∙ c .before .before .sum .given .1) in
     no-room (total (a .texts .now)) (startup (a .version) (a .texts .now)) (a .out .now) (omega arith) (omega (arith, length-startup (a .version) (a .texts .now)))
 
-write-be-requires : tie.Need-write-be-requires
-write-be-requires c κs = search needs
-
-write-i32-requires : tie.Need-write-i32-requires
-write-i32-requires c κs = search needs
-
 place-strings-requires : tie.Need-place-strings-requires
 place-strings-requires c κs =
     let i = c .before .before .before in
@@ -65,15 +50,6 @@ place-strings-requires c κs =
     let h : 0 + length (startup (a .version) t) ≤ length (a .out .now) = omega (arith, u .if1 .left) in
     let w = startup-front (a .version) t (a .out .now) h (rw (← f .0) at (b .write-be .ensures)) (rw (toZ-ofZ w32 (a .version) (s .fits .version)) at (i .write-i32 .ensures)) in
     filling-room h (strings t) _ w
-
-add-write-be : tie.Need-add-write-be
-add-write-be c = search needs
-
-write-be-requires-2 : tie.Need-write-be-requires-2
-write-be-requires-2 c κs = search needs
-
-same-length : tie.Need-same-length
-same-length c = search needs
 
 returns-3 : tie.Need-returns-3
 returns-3 c =
@@ -95,19 +71,5 @@ returns-3 c =
 pub write-startup-spec : {M : Type 1} → statement M
 write-startup-spec =
     tie.close
-    (tie.spec
-    inputs-len-requires
-    enum-known-sum
-    enum-told
-    returns
-    add-n
-    add-n-2
-    add-n-3
-    returns-2
-    write-be-requires
-    write-i32-requires
-    place-strings-requires
-    add-write-be
-    write-be-requires-2
-    same-length
-    returns-3)
+    (tie.spec (search needs) (search needs) (search needs) returns add-n add-n-2 add-n-3 returns-2 (search needs) (search needs)
+    place-strings-requires (search needs) (search needs) (search needs) returns-3)

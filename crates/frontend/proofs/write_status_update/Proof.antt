@@ -24,17 +24,11 @@ returns c =
     let l = length-status (a .position .0) (a .client-time) (a .reply) in
     no-room 0 (statusUpdate (a .position .0) (a .client-time) (a .reply)) (a .out .now) (omega arith) (omega (arith, l, length-framed 100 (statusBody (a .position .0) (a .client-time) (a .reply))))
 
-place-header-requires : tie.Need-place-header-requires
-place-header-requires c κs = search needs
-
 place-status-requires : tie.Need-place-status-requires
 place-status-requires c κs =
     let h = c .before .before .before .place-header in
     let p = placed-fits _ 0 (header 100 34) (omega (arith, length-header 100 34)) (h .ensures) in
     omega (arith, p .0, length-header 100 34, h .kept .0, c .before .before .before .before .before .if1 .left)
-
-same-length : tie.Need-same-length
-same-length c = search needs
 
 returns-2 : tie.Need-returns-2
 unfolding statusUpdate copyData
@@ -53,4 +47,5 @@ returns-2 c =
 
 pub write-status-update-spec : {M : Type 1} → statement M
 write-status-update-spec =
-    tie.close (tie.spec returns place-header-requires place-status-requires same-length returns-2)
+    tie.close
+    (tie.spec returns (search needs) place-status-requires (search needs) returns-2)
