@@ -1,5 +1,5 @@
 -- What the fields of a body say where the body is long enough.
-use mathlib.Core.Path.{_≡_, refl, sym, ap}
+use mathlib.Core.Path.{_≡_, refl, ap}
 use mathlib.Core.List.{List, [], _∷_}
 use mathlib.Core.Bool.{not}
 use mathlib.Core.Option.{some, none}

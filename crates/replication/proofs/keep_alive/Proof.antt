@@ -13,40 +13,13 @@ use Rattle.replication.proofs.keep_alive.Tie as tie
 returns : tie.Need-returns
 returns c = keep-alive-short (c .before .before .args .body .now) (omega arith)
 
-read-u64-requires : tie.Need-read-u64-requires
-read-u64-requires c κs = search needs
-
-enum-known-end : tie.Need-enum-known-end
-enum-known-end c = search needs
-
-enum-told : tie.Need-enum-told
-enum-told c = search needs
-
 returns-2 : tie.Need-returns-2
 returns-2 c =
     absurd (not-cut 8 (c .before .before .before .before .before .args .body .now) 0 (omega arith) (sym (ap u64Of (c .enum-told .given .1)) ∙ c .before .before .read-u64 .ensures))
 
-read-i64-requires : tie.Need-read-i64-requires
-read-i64-requires c κs = search needs
-
-enum-known-server-time : tie.Need-enum-known-server-time
-enum-known-server-time c = search needs
-
-enum-told-2 : tie.Need-enum-told-2
-enum-told-2 c = search needs
-
 returns-3 : tie.Need-returns-3
 returns-3 c =
     absurd (time-not-cut 8 (c .before .before .before .before .before .before .before .before .before .args .body .now) 8 (omega arith) (sym (ap i64Of (c .enum-told2 .given .1)) ∙ c .before .before .read-i64 .ensures))
-
-read-u8-requires : tie.Need-read-u8-requires
-read-u8-requires c κs = search needs
-
-enum-known-reply : tie.Need-enum-known-reply
-enum-known-reply c = search needs
-
-enum-told-3 : tie.Need-enum-told-3
-enum-told-3 c = search needs
 
 returns-4 : tie.Need-returns-4
 returns-4 c =
@@ -69,18 +42,5 @@ returns-5 c =
 pub keep-alive-spec : {M : Type 1} → statement M
 keep-alive-spec =
     tie.close
-    (tie.spec
-    returns
-    read-u64-requires
-    enum-known-end
-    enum-told
-    returns-2
-    read-i64-requires
-    enum-known-server-time
-    enum-told-2
-    returns-3
-    read-u8-requires
-    enum-known-reply
-    enum-told-3
-    returns-4
-    returns-5)
+    (tie.spec returns (search needs) (search needs) (search needs) returns-2 (search needs) (search needs) (search needs) returns-3
+    (search needs) (search needs) (search needs) returns-4 returns-5)

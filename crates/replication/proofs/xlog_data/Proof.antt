@@ -13,47 +13,17 @@ use Rattle.replication.proofs.xlog_data.Tie as tie
 returns : tie.Need-returns
 returns c = xlog-short (c .before .before .args .body .now) (omega arith)
 
-read-u64-requires : tie.Need-read-u64-requires
-read-u64-requires c κs = search needs
-
-enum-known-start : tie.Need-enum-known-start
-enum-known-start c = search needs
-
-enum-told : tie.Need-enum-told
-enum-told c = search needs
-
 returns-2 : tie.Need-returns-2
 returns-2 c =
     absurd (not-cut 8 (c .before .before .before .before .before .args .body .now) 0 (omega arith) (sym (ap u64Of (c .enum-told .given .1)) ∙ c .before .before .read-u64 .ensures))
-
-read-u64-requires-2 : tie.Need-read-u64-requires-2
-read-u64-requires-2 c κs = search needs
-
-enum-known-end : tie.Need-enum-known-end
-enum-known-end c = search needs
-
-enum-told-2 : tie.Need-enum-told-2
-enum-told-2 c = search needs
 
 returns-3 : tie.Need-returns-3
 returns-3 c =
     absurd (not-cut 8 (c .before .before .before .before .before .before .before .before .before .args .body .now) 8 (omega arith) (sym (ap u64Of (c .enum-told2 .given .1)) ∙ c .before .before .read-u642 .ensures))
 
-read-i64-requires : tie.Need-read-i64-requires
-read-i64-requires c κs = search needs
-
-enum-known-server-time : tie.Need-enum-known-server-time
-enum-known-server-time c = search needs
-
-enum-told-3 : tie.Need-enum-told-3
-enum-told-3 c = search needs
-
 returns-4 : tie.Need-returns-4
 returns-4 c =
     absurd (time-not-cut 8 (c .before .before .before .before .before .before .before .before .before .before .before .before .before .args .body .now) 16 (omega arith) (sym (ap i64Of (c .enum-told3 .given .1)) ∙ c .before .before .read-i64 .ensures))
-
-sub-t16 : tie.Need-sub-t16
-sub-t16 c = search needs
 
 returns-5 : tie.Need-returns-5
 returns-5 c =
@@ -72,19 +42,5 @@ returns-5 c =
 pub xlog-data-spec : {M : Type 1} → statement M
 xlog-data-spec =
     tie.close
-    (tie.spec
-    returns
-    read-u64-requires
-    enum-known-start
-    enum-told
-    returns-2
-    read-u64-requires-2
-    enum-known-end
-    enum-told-2
-    returns-3
-    read-i64-requires
-    enum-known-server-time
-    enum-told-3
-    returns-4
-    sub-t16
-    returns-5)
+    (tie.spec returns (search needs) (search needs) (search needs) returns-2 (search needs) (search needs) (search needs) returns-3
+    (search needs) (search needs) (search needs) returns-4 (search needs) returns-5)
