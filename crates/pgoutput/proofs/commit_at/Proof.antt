@@ -78,4 +78,5 @@ pub commit-at-spec : {M : Type 1} → statement M
 commit-at-spec =
     tie.close
     (tie.spec (search needs) (search needs) (search needs) returns add-u64-at (search needs) (search needs) (search needs) returns-2
-    add-u64-at-2 (search needs) (search needs) (search needs) returns-3 add-i64-at (search needs) (search needs) (search needs) returns-4 returns-5)
+    add-u64-at-2 (search needs) (search needs) (search needs) returns-3 add-i64-at (search needs) (search needs) (search needs) returns-4
+    returns-5)

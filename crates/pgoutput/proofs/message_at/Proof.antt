@@ -6,7 +6,7 @@ use Rattle.pgoutput.proofs.Laws.{message-values, prefix-within}
 use Rattle.wire.specs.Find.{indexOf}
 use Rattle.wire.specs.declared.find.Found.the-variants.{At}
 use Prim.Native.Nat.{_<_, _+_}
-use mathlib.Core.Path.{_≡_, sym, ap, _∙_}
+use mathlib.Core.Path.{_≡_, sym, _∙_}
 use native.Mathlib.Omega.{arith}
 use lib.ListN.{length, drop}
 use borrow.Author.Tests.{le-leb, lt-leb, lt-ltb}

@@ -7,23 +7,11 @@ use Rattle.pgoutput.proofs.parse_pgoutput_boundary.Tie as tie
 returns : tie.Need-returns
 returns c = no-data (c .before .before .args .bytes .now) (c .if1 .taken)
 
-shared-slice-read-letter : tie.Need-shared-slice-read-letter
-shared-slice-read-letter c = search needs
-
-begin-at-requires : tie.Need-begin-at-requires
-begin-at-requires c κs = search needs
-
 returns-2 : tie.Need-returns-2
 returns-2 c = by-b _ (c .before .before .before .before .before .args .bytes .now) (c .before .before .before .if1 .left) (c .before .if2 .taken) (c .begin-at .ensures)
 
-commit-at-requires : tie.Need-commit-at-requires
-commit-at-requires c κs = search needs
-
 returns-3 : tie.Need-returns-3
 returns-3 c = by-c _ (c .before .before .before .before .before .before .args .bytes .now) (c .before .before .before .before .if1 .left) (c .before .before .if2 .left) (c .before .if3 .taken) (c .commit-at .ensures)
-
-message-at-requires : tie.Need-message-at-requires
-message-at-requires c κs = search needs
 
 returns-4 : tie.Need-returns-4
 returns-4 c = by-m _ (c .before .before .before .before .before .before .before .args .bytes .now) (c .before .before .before .before .before .if1 .left) (c .before .before .before .if2 .left) (c .before .before .if3 .left) (c .before .if4 .taken) (c .message-at .ensures)
@@ -34,13 +22,4 @@ returns-5 c = by-other (c .before .before .before .before .before .before .args 
 pub parse-pgoutput-boundary-spec : {M : Type 1} → statement M
 parse-pgoutput-boundary-spec =
     tie.close
-    (tie.spec
-    returns
-    shared-slice-read-letter
-    begin-at-requires
-    returns-2
-    commit-at-requires
-    returns-3
-    message-at-requires
-    returns-4
-    returns-5)
+    (tie.spec returns (search needs) (search needs) returns-2 (search needs) returns-3 (search needs) returns-4 returns-5)
