@@ -6,15 +6,6 @@ use borrow.Author.Needs.{needs}
 use Rattle.query.proofs.row.column.Statement.{statement}
 use Rattle.query.proofs.row.column.Tie as tie
 
-walk-row-requires : tie.Need-walk-row-requires
-walk-row-requires c κs = search needs
-
-enum-known-c : tie.Need-enum-known-c
-enum-known-c c = search needs
-
-enum-told : tie.Need-enum-told
-enum-told c = search needs
-
 returns : tie.Need-returns
 returns c =
     let r = c .before .before .before in
@@ -28,4 +19,4 @@ returns-2 c =
     ap oneBy (rw (c .enum-told .given .1) at (r .walk-row .ensures)) ∙ one-picked (rowOf (a .payload .now)) (a .i)
 
 pub column-spec : {M : Type 1} → statement M
-column-spec = tie.close (tie.spec walk-row-requires enum-known-c enum-told returns returns-2)
+column-spec = tie.close (tie.spec (search needs) (search needs) (search needs) returns returns-2)

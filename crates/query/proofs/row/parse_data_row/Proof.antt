@@ -6,15 +6,6 @@ use borrow.Author.Needs.{needs}
 use Rattle.query.proofs.row.parse_data_row.Statement.{statement}
 use Rattle.query.proofs.row.parse_data_row.Tie as tie
 
-walk-row-requires : tie.Need-walk-row-requires
-walk-row-requires c κs = search needs
-
-enum-known-n : tie.Need-enum-known-n
-enum-known-n c = search needs
-
-enum-told : tie.Need-enum-told
-enum-told c = search needs
-
 returns : tie.Need-returns
 returns c =
     let r = c .before .before .before in
@@ -28,5 +19,4 @@ returns-2 c =
     ap countBy (rw (c .enum-told .given .1) at (r .walk-row .ensures)) ∙ count-picked (rowOf (a .payload .now)) 0
 
 pub parse-data-row-spec : {M : Type 1} → statement M
-parse-data-row-spec =
-    tie.close (tie.spec walk-row-requires enum-known-n enum-told returns returns-2)
+parse-data-row-spec = tie.close (tie.spec (search needs) (search needs) (search needs) returns returns-2)

@@ -22,15 +22,6 @@ loop-holds c =
     let z : a .n - 0 ≡ a .n = omega arith in
     (omega arith, rw z (walk-start (a .i) (columnsFrom (a .n) (a .payload .now) 2)))
 
-column-at-requires : tie.Need-column-at-requires Inv-loop μ-loop
-column-at-requires c κs = search needs
-
-enum-known-one : tie.Need-enum-known-one Inv-loop μ-loop
-enum-known-one c = search needs
-
-enum-told : tie.Need-enum-told Inv-loop μ-loop
-enum-told c = search needs
-
 returns : tie.Need-returns Inv-loop μ-loop
 returns c =
     let r = c .before .before in
@@ -38,15 +29,6 @@ returns c =
     let a = l .before .before .args in
     let e : none ≡ columnAt (a .payload .now) (l .loop .at) = rw (c .enum-told .given .1) at (r .column-at .ensures) in
     sym (walk-cut (a .n) (l .loop .k) (a .i) (a .payload .now) (l .loop .at) (l .loop .c) (omega arith) e) ∙ l .loop .inv .1
-
-kept-requires : tie.Need-kept-requires Inv-loop μ-loop
-kept-requires c κs = search needs
-
-add-k : tie.Need-add-k Inv-loop μ-loop
-add-k c = omega arith
-
-loop-less : tie.Need-loop-less Inv-loop μ-loop
-loop-less c = omega arith
 
 loop-again : tie.Need-loop-again Inv-loop μ-loop
 loop-again c =
@@ -67,16 +49,5 @@ returns-2 c =
 pub walk-spec : {M : Type 1} → statement M
 walk-spec =
     tie.close
-    (tie.spec
-    Inv-loop
-    μ-loop
-    loop-holds
-    column-at-requires
-    enum-known-one
-    enum-told
-    returns
-    kept-requires
-    add-k
-    loop-less
-    loop-again
-    returns-2)
+    (tie.spec Inv-loop μ-loop loop-holds (search needs) (search needs) (search needs) returns (search needs) (search needs) (search needs)
+    loop-again returns-2)

@@ -6,8 +6,5 @@ use Rattle.query.proofs.simple.SimpleQuery.end.Tie as tie
 returns : tie.Need-returns
 returns c = simp (c .if1 .taken)
 
-returns-2 : tie.Need-returns-2
-returns-2 c = search needs
-
 pub end-spec : {M : Type 1} → statement M
-end-spec = tie.close (tie.spec returns returns-2)
+end-spec = tie.close (tie.spec returns (λ c. search needs))

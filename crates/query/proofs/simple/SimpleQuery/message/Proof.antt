@@ -6,24 +6,9 @@ use borrow.Author.Needs.{needs}
 use Rattle.query.proofs.simple.SimpleQuery.message.Statement.{statement}
 use Rattle.query.proofs.simple.SimpleQuery.message.Tie as tie
 
-with-row-requires : tie.Need-with-row-requires
-with-row-requires c κs = search needs
-
-copy-requires : tie.Need-copy-requires
-copy-requires c κs = search needs
-
-end-requires : tie.Need-end-requires
-end-requires c κs = search needs
-
-new-requires : tie.Need-new-requires
-new-requires c κs = search needs
-
 returns : tie.Need-returns
 unfolding messageOf
 returns c = rw (c .before .match .keys1) (rw (← c .with-row .ensures))
-
-same-length : tie.Need-same-length
-same-length c = search needs
 
 returns-2 : tie.Need-returns-2
 unfolding messageOf
@@ -40,13 +25,4 @@ returns-4 c = simp (ne-eqb _ _ (c .match .rest .1), ne-eqb _ _ (c .match .rest .
 pub message-spec : {M : Type 1} → statement M
 message-spec =
     tie.close
-    (tie.spec
-    with-row-requires
-    copy-requires
-    end-requires
-    new-requires
-    returns
-    same-length
-    returns-2
-    returns-3
-    returns-4)
+    (tie.spec (search needs) (search needs) (search needs) (search needs) returns (search needs) returns-2 returns-3 returns-4)

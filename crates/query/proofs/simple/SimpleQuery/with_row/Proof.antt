@@ -5,18 +5,6 @@ use borrow.Author.Needs.{needs}
 use Rattle.query.proofs.simple.SimpleQuery.with_row.Statement.{statement}
 use Rattle.query.proofs.simple.SimpleQuery.with_row.Tie as tie
 
-parse-data-row-requires : tie.Need-parse-data-row-requires
-parse-data-row-requires c κs = search needs
-
-enum-known-n : tie.Need-enum-known-n
-enum-known-n c = search needs
-
-enum-known-r : tie.Need-enum-known-r
-enum-known-r c = search needs
-
-new-requires : tie.Need-new-requires
-new-requires c κs = search needs
-
 returns : tie.Need-returns
 returns c =
     let r = c .before .before .before in
@@ -32,4 +20,4 @@ returns-2 c =
 pub with-row-spec : {M : Type 1} → statement M
 with-row-spec =
     tie.close
-    (tie.spec parse-data-row-requires enum-known-n enum-known-r new-requires returns returns-2)
+    (tie.spec (search needs) (search needs) (search needs) (search needs) returns returns-2)
