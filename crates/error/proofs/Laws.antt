@@ -35,11 +35,18 @@ pub wrote-placed : (inputs : ℕ) (text out : List ℕ) {q : List ℕ} {n r : �
     → ((0, n), q) ≡ writing inputs text out
 wrote-placed inputs text out {q} {n} h e k p = wrote inputs text out q n h e k (placed-fits out 0 text (omega arith) p .1)
 
+-- .. and of which the place behind it is answered
+pub wrote-to : (inputs : ℕ) (text out : List ℕ) {q : List ℕ} {r : ℕ} → inputs ≤ 1048576 → length text ≤ length out → (r, q) ≡ placed out 0 text
+    → ((0, r), q) ≡ writing inputs text out
+wrote-to inputs text out {q} {r} h k p =
+    let w = placed-fits out 0 text (omega arith) p in
+    wrote inputs text out q r h (omega arith) (omega arith) (w .1)
+
 -- ---- a length within a room
 
-pub fits : (room n : ℕ) → n ≤ room → Fits n ≡ counted room n
+pub fits : (room n k : ℕ) → k ≡ n → k ≤ room → Fits k ≡ counted room n
 unfolding counted
-fits room n h = simp (le-leb _ _ h)
+fits room n k e h = rw (← e) (simp (le-leb _ _ h))
 
 pub over : (room n : ℕ) → room < n → Over ≡ counted room n
 unfolding counted

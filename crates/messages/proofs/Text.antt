@@ -1,5 +1,5 @@
 -- The text of an error: its length, and the text by what is given.
-use mathlib.Core.Path.{_≡_, refl}
+use mathlib.Core.Path.{_≡_, refl, _∙_}
 use mathlib.Core.Bool.{Bool}
 use mathlib.Core.List.{List}
 use Prim.Native.Nat.{ℕ, _+_, _≤_}
@@ -25,13 +25,12 @@ pub unknown-lossy : lossyOf unknown ≡ unknown
 unfolding lossyOf partsOf shownAll rowOf table matched
 unknown-lossy = refl
 
--- inputs within the limit make no difference
-pub within : (n m : ℕ) (text out : List ℕ) → n ≤ 1048576 → m ≤ 1048576 → writing n text out ≡ writing m text out
-unfolding writing
-within n m text out h k = simp (le-ltb _ _ h, le-ltb _ _ k)
+pub coded-same : {a b c d : List ℕ} → a ≡ c → b ≡ d → coded (lossyOf a) (lossyOf b) ≡ coded (lossyOf c) (lossyOf d)
+coded-same e f = rw (e, f)
 
--- the text, by what is given
-pub text-by : (fields : List Field) (payload : List ℕ) (m c : Bool) → getD fields 2 absent .given ≡ m → getD fields 1 absent .given ≡ c
-    → errorText fields payload ≡ textBy m c (named payload (getD fields 2 absent)) (named payload (getD fields 1 absent))
-unfolding errorText
-text-by fields payload m c p q = rw (p, q)
+-- a text that a writer wrote, its inputs within the limit, is the error's text, by what is given
+pub answered : (fields : List Field) (payload out : List ℕ) (m c : Bool) (n : ℕ) {x : (ℕ × ℕ) × List ℕ} {text : List ℕ} → n ≤ 1048576 → length payload ≤ 1048576
+    → getD fields 2 absent .given ≡ m → getD fields 1 absent .given ≡ c → text ≡ textBy m c (named payload (getD fields 2 absent)) (named payload (getD fields 1 absent))
+    → x ≡ writing n text out → x ≡ writing (length payload) (errorText fields payload) out
+unfolding writing errorText
+answered fields payload out m c n h k p q t e = rw (p, q, ← t) (e ∙ simp (le-ltb _ _ h, le-ltb _ _ k))

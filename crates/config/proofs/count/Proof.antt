@@ -62,8 +62,7 @@ returns-3 c =
     let l = c .before in
     let a = l .before .args in
     let t = ap length (listed-end (a .names .now) (l .loop .i) (omega arith)) in
-    let e : l .loop .need ≡ length (optionValue (a .names .now)) = omega arith in
-    rw e (fits (a .room) (length (optionValue (a .names .now))) (omega arith))
+    fits (a .room) (length (optionValue (a .names .now))) (l .loop .need) (omega arith) (omega arith)
 
 pub count-spec : {M : Type 1} → statement M
 count-spec =

@@ -38,8 +38,7 @@ returns-2 c =
     let l = c .before in
     let a = l .before .before .args in
     let t = ap length (doubled-end (a .s .now) (l .loop .i) (omega arith)) in
-    let e : l .loop .need ≡ length (doubled (a .s .now)) = omega arith in
-    rw e (fits (a .room) (length (doubled (a .s .now))) (omega arith))
+    fits (a .room) (length (doubled (a .s .now))) (l .loop .need) (omega arith) (omega arith)
 
 pub count-name-spec : {M : Type 1} → statement M
 count-name-spec =

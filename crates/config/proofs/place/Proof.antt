@@ -1,5 +1,4 @@
 -- Where the value is counted into what is left of the output, it is filled in there.
-use Rattle.config.specs.OptionValue.{optionValue}
 use Rattle.wire.proofs.Laws.{unplaced}
 use Rattle.error.proofs.Laws.{counted-fits, counted-over}
 use mathlib.Core.Path.{sym, _∙_}
@@ -9,15 +8,12 @@ use Rattle.config.proofs.place.Statement.{statement}
 use Rattle.config.proofs.place.Tie as tie
 
 returns : tie.Need-returns
-returns c =
-    let a = c .before .before .args in
-    unplaced (a .out .now) (a .to) (optionValue (a .names .now)) (omega arith)
+returns c = unplaced _ _ _ (omega arith)
 
 returns-2 : tie.Need-returns-2
 returns-2 c =
-    let a = c .before .before .before .before .before .args in
     let f = counted-over _ _ (sym (c .before .before .count .ensures) ∙ c .enum-told2 .given .1) in
-    unplaced (a .out .now) (a .to) (optionValue (a .names .now)) (omega arith)
+    unplaced _ _ _ (omega arith)
 
 fill-requires : tie.Need-fill-requires
 fill-requires c κs =

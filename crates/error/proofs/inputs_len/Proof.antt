@@ -37,8 +37,7 @@ returns-2 c =
     let l = c .before in
     let a = l .before .args in
     let t = total-end (a .names .now) (l .loop .i) (omega arith) in
-    let e : l .loop .sum ≡ total (a .names .now) = omega arith in
-    rw e (fits (a .room) (total (a .names .now)) (omega arith))
+    fits (a .room) (total (a .names .now)) (l .loop .sum) (omega arith) (omega arith)
 
 pub inputs-len-spec : {M : Type 1} → statement M
 inputs-len-spec =

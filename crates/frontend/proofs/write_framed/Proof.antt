@@ -12,12 +12,12 @@ use Rattle.frontend.proofs.write_framed.Statement.{statement}
 use Rattle.frontend.proofs.write_framed.Tie as tie
 
 returns : tie.Need-returns
-returns c = let a = c .before .before .before .args in too-long (length (a .payload .now)) (framed (a .tag) (a .payload .now)) (a .out .now) (c .if1 .taken)
+returns c = too-long _ _ _ (c .if1 .taken)
 
 returns-2 : tie.Need-returns-2
 returns-2 c =
     let a = c .before .before .before .before .args in
-    no-room (length (a .payload .now)) (framed (a .tag) (a .payload .now)) (a .out .now) (omega arith) (omega (arith, length-framed (a .tag) (a .payload .now)))
+    no-room _ _ _ (omega arith) (omega (arith, length-framed (a .tag) (a .payload .now)))
 
 returns-3 : tie.Need-returns-3
 returns-3 c =

@@ -13,12 +13,10 @@ use Rattle.frontend.proofs.write_query.Statement.{statement}
 use Rattle.frontend.proofs.write_query.Tie as tie
 
 returns : tie.Need-returns
-returns c = let a = c .before .before .before .args in too-long (length (a .text .now)) (query (a .text .now)) (a .out .now) (c .if1 .taken)
+returns c = too-long _ _ _ (c .if1 .taken)
 
 returns-2 : tie.Need-returns-2
-returns-2 c =
-    let a = c .before .before .before .before .args in
-    no-room (length (a .text .now)) (query (a .text .now)) (a .out .now) (omega arith) (omega (arith, length-query (a .text .now)))
+returns-2 c = no-room _ _ _ (omega arith) (omega (arith, length-query (c .before .before .before .before .args .text .now)))
 
 returns-3 : tie.Need-returns-3
 returns-3 c =

@@ -2,71 +2,75 @@
 use mir.Syntax.{w32}
 use mir.ValLaws.{toZ-ofZ}
 use Rattle.frontend.proofs.Laws.{startup-front, length-startup}
-use Rattle.wire.proofs.Pieces.{filling-room, filling-next, filling-last}
+use Rattle.wire.specs.Bytes.{beBytes}
+use Rattle.wire.proofs.Pieces.{Filling, filling-room, filling-next, filling-last}
 use Rattle.error.specs.Inputs.{total}
 use Rattle.error.proofs.Laws.{too-long, no-room, wrote-placed, counted-fits, counted-over}
 use Rattle.frontend.specs.Frontend.{startup}
 use Rattle.frontend.specs.Code.{strings}
-use Prim.Native.Nat.{_≤_, _+_}
-use mathlib.Core.Path.{sym, _∙_}
+use Prim.Native.Nat.{_≤_, _+_, _%_}
+use mathlib.Core.Path.{_≡_, sym, _∙_}
+use mathlib.Core.List.{_++_}
 use native.Mathlib.Omega.{arith}
 use lib.ListN.{length}
 use borrow.Author.Needs.{needs}
 use Rattle.frontend.proofs.write_startup.Statement.{statement}
 use Rattle.frontend.proofs.write_startup.Tie as tie
 
+-- the texts were counted
+counted : (c : tie.After-known-told) → let n = c .before .sum .given .0 .0 in (total (c .before .before .before .before .before .args .texts .now) ≡ n) × (n ≤ 1048576)
+counted c = counted-fits _ _ _ (sym (c .before .before .before .inputs-len .ensures) ∙ c .before .sum .given .1)
+
+-- .. and have room
+abbrev start : tie.Else1 → tie.Start
+start c = c .before .before .before .before .before .before
+
+room : (c : tie.Else1) → let a = start c .args in 0 + length (startup (a .version) (a .texts .now)) ≤ length (a .out .now)
+room c = let n = counted (c .before) in omega (arith, length-startup (start c .args .version) (start c .args .texts .now))
+
+-- the length and the version are written
+front : (c : tie.After-write-i32) → let s = start (c .before .before .before .before .before .before) in let t = s .args .texts .now in
+    Filling (s .args .out .now) 0 (startup (s .args .version) t) (c .write-i32 .last .0) (c .write-i32 .result) (strings t ++ beBytes (length t % 2 + 1) 0)
+front c =
+    let u = c .before .before .before .before .before .before in
+    let s = start u in
+    startup-front (s .args .version) (s .args .texts .now) (s .args .out .now) (room u)
+    (rw (← counted (u .before) .0) at (c .before .before .before .before .write-be .ensures))
+    (rw (toZ-ofZ w32 (s .args .version) (s .fits .version)) at (c .write-i32 .ensures))
+
 returns : tie.Need-returns
-returns c =
-    let a = c .before .before .before .before .args in
-    let f = counted-over _ _ (sym (c .before .before .inputs-len .ensures) ∙ c .enum-told .given .1) in
-    too-long (total (a .texts .now)) (startup (a .version) (a .texts .now)) (a .out .now) f
+returns c = too-long _ _ _ (counted-over _ _ (sym (c .before .before .inputs-len .ensures) ∙ c .enum-told .given .1))
 
 add-n : tie.Need-add-n
-add-n c = let f = counted-fits _ _ _ (sym (c .before .before .before .inputs-len .ensures) ∙ c .before .sum .given .1) in omega arith
+add-n c = omega (arith, counted c .1)
 
 add-n-2 : tie.Need-add-n-2
-add-n-2 c = let f = counted-fits _ _ _ (sym (c .before .before .before .inputs-len .ensures) ∙ c .before .sum .given .1) in omega arith
+add-n-2 c = omega (arith, counted c .1)
 
 add-n-3 : tie.Need-add-n-3
-add-n-3 c = let f = counted-fits _ _ _ (sym (c .before .before .before .inputs-len .ensures) ∙ c .before .sum .given .1) in omega arith
+add-n-3 c = omega (arith, counted c .1)
 
 returns-2 : tie.Need-returns-2
 returns-2 c =
     let a = c .before .before .before .before .before .before .args in
-    let f = counted-fits _ _ _ (sym (c .before .before .before .before .inputs-len .ensures) ∙ c .before .before .sum .given .1) in
-    no-room (total (a .texts .now)) (startup (a .version) (a .texts .now)) (a .out .now) (omega arith) (omega (arith, length-startup (a .version) (a .texts .now)))
+    let n = counted (c .before) in
+    no-room _ _ _ (omega arith) (omega (arith, length-startup (a .version) (a .texts .now)))
 
 place-strings-requires : tie.Need-place-strings-requires
 place-strings-requires c κs =
     let i = c .before .before .before in
-    let b = i .before .before .before .before in
-    let u = b .before .before in
-    let x = u .before .before .before .before in
-    let s = x .before .before in
-    let a = s .args in
-    let t = a .texts .now in
-    let f = counted-fits _ _ _ (sym (x .inputs-len .ensures) ∙ u .before .before .sum .given .1) in
-    let l = length-startup (a .version) t in
-    let h : 0 + length (startup (a .version) t) ≤ length (a .out .now) = omega (arith, u .if1 .left) in
-    let w = startup-front (a .version) t (a .out .now) h (rw (← f .0) at (b .write-be .ensures)) (rw (toZ-ofZ w32 (a .version) (s .fits .version)) at (i .write-i32 .ensures)) in
-    filling-room h (strings t) _ w
+    let u = i .before .before .before .before .before .before in
+    filling-room (room u) (strings (start u .args .texts .now)) _ (front i)
 
 returns-3 : tie.Need-returns-3
 returns-3 c =
     let p = c .before .before .before .before .before .before in
     let i = p .before .before .before .before in
-    let b = i .before .before .before .before in
-    let u = b .before .before in
-    let x = u .before .before .before .before in
-    let s = x .before .before in
-    let a = s .args in
-    let t = a .texts .now in
-    let f = counted-fits _ _ _ (sym (x .inputs-len .ensures) ∙ u .before .before .sum .given .1) in
-    let l = length-startup (a .version) t in
-    let h : 0 + length (startup (a .version) t) ≤ length (a .out .now) = omega (arith, u .if1 .left) in
-    let w = startup-front (a .version) t (a .out .now) h (rw (← f .0) at (b .write-be .ensures)) (rw (toZ-ofZ w32 (a .version) (s .fits .version)) at (i .write-i32 .ensures)) in
-    let w′ = filling-last h (filling-next h (strings t) w (p .place-strings .ensures)) (c .before .before .write-be2 .ensures) in
-    rw (← f .0) (wrote-placed (total t) (startup (a .version) t) (a .out .now) (omega arith) l (omega arith) w′)
+    let u = i .before .before .before .before .before .before in
+    let a = start u .args in
+    let n = counted (u .before) in
+    let w = filling-last (room u) (filling-next (room u) (strings (a .texts .now)) (front i) (p .place-strings .ensures)) (c .before .before .write-be2 .ensures) in
+    rw (← n .0) (wrote-placed _ (startup (a .version) (a .texts .now)) _ (omega arith) (length-startup (a .version) (a .texts .now)) (omega (arith, u .if1 .left)) w)
 
 pub write-startup-spec : {M : Type 1} → statement M
 write-startup-spec =

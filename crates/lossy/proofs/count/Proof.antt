@@ -48,9 +48,8 @@ returns-2 : tie.Need-returns-2 Inv-loop μ-loop
 returns-2 c =
     let l = c .before in
     let a = l .before .before .args in
-    let e : length (lossyOf (drop (l .loop .i) (a .text .now))) ≡ 0 = ap length (lossy-end (a .text .now) (l .loop .i) (omega arith)) in
-    let e : l .loop .need ≡ length (lossyOf (a .text .now)) = omega arith in
-    rw e (fits (a .room) (length (lossyOf (a .text .now))) (omega arith))
+    let e = ap length (lossy-end (a .text .now) (l .loop .i) (omega arith)) in
+    fits (a .room) (length (lossyOf (a .text .now))) (l .loop .need) (omega arith) (omega arith)
 
 pub count-spec : {M : Type 1} → statement M
 count-spec =

@@ -2,8 +2,8 @@
 use Rattle.wire.proofs.Laws.{unplaced, placed-at}
 use Rattle.error.proofs.Laws.{counted-fits, counted-over}
 use Rattle.lossy.specs.Lossy.{lossyOf}
-use Prim.Native.Nat.{_<_, _-_}
-use mathlib.Core.Path.{sym, _∙_}
+use Prim.Native.Nat.{_≤_, _-_}
+use mathlib.Core.Path.{_≡_, sym, _∙_}
 use native.Mathlib.Omega.{arith}
 use lib.ListN.{length}
 use borrow.Author.Needs.{needs}
@@ -15,31 +15,22 @@ returns c = unplaced _ _ _ (omega arith)
 
 returns-2 : tie.Need-returns-2
 returns-2 c =
-    let l = c .before .before in
-    let a = l .before .before .before .before .args in
-    let f : length (a .out .now) - a .to < length (lossyOf (a .text .now)) = counted-over (length (a .out .now) - a .to) (length (lossyOf (a .text .now))) (sym (l .count .ensures) ∙ c .enum-told .given .1) in
-    unplaced (a .out .now) (a .to) (lossyOf (a .text .now)) (omega arith)
+    let h = counted-over _ _ (sym (c .before .before .count .ensures) ∙ c .enum-told .given .1) in
+    unplaced _ _ _ (omega arith)
+
+-- the text was counted
+counted : (c : tie.After-n) → let a = c .before .before .before .before .before .before .args in let n = c .n .given .0 .0 in
+    (length (lossyOf (a .text .now)) ≡ n) × (n ≤ length (a .out .now) - a .to)
+counted c = counted-fits _ _ _ (sym (c .before .before .count .ensures) ∙ c .n .given .1)
 
 fill-requires : tie.Need-fill-requires
-fill-requires c κs =
-    let l = c .before .before .before .before in
-    let a = l .before .before .before .before .args in
-    let f = counted-fits (length (a .out .now) - a .to) (length (lossyOf (a .text .now))) (c .before .before .n .given .0 .0) (sym (l .count .ensures) ∙ c .before .before .n .given .1) in
-    omega arith
+fill-requires c κs = let h = counted (c .before .before) in omega arith
 
 add-result : tie.Need-add-result
-add-result c =
-    let l = c .before .before .before .before .before .before .before in
-    let a = l .before .before .before .before .args in
-    let f = counted-fits (length (a .out .now) - a .to) (length (lossyOf (a .text .now))) (c .before .before .before .before .before .n .given .0 .0) (sym (l .count .ensures) ∙ c .before .before .before .before .before .n .given .1) in
-    omega arith
+add-result c = omega (arith, counted (c .before .before .before .before .before) .1)
 
 returns-3 : tie.Need-returns-3
-returns-3 c =
-    let l = c .before .before .before .before .before .before .before in
-    let a = l .before .before .before .before .args in
-    let f = counted-fits (length (a .out .now) - a .to) (length (lossyOf (a .text .now))) (c .before .before .before .before .before .n .given .0 .0) (sym (l .count .ensures) ∙ c .before .before .before .before .before .n .given .1) in
-    placed-at (a .out .now) (a .to) (c .before .before .before .before .before .n .given .0 .0) (lossyOf (a .text .now)) _ (f .0) (omega arith) (c .before .before .fill .ensures)
+returns-3 c = let h = counted (c .before .before .before .before .before) in placed-at _ _ _ _ _ (h .0) (omega arith) (c .before .before .fill .ensures)
 
 pub place-spec : {M : Type 1} → statement M
 place-spec =

@@ -2,7 +2,7 @@
 use mathlib.Core.Bool.{true, false}
 use mathlib.Core.Path.{_≡_, sym, _∙_}
 use mathlib.Core.List.{List}
-use Prim.Native.Nat.{ℕ, _≤_, _<_, _+_, _-_}
+use Prim.Native.Nat.{ℕ, _+_, _≤_, _<_}
 use native.Mathlib.Omega.{arith}
 use lib.Dec.{leb}
 use lib.ListN.{length}
@@ -16,48 +16,38 @@ use Rattle.messages.proofs.has_room.Statement.{statement}
 use Rattle.messages.proofs.has_room.Tie as tie
 
 over : (a b : List ℕ) (room : ℕ) → room < length a + 12 + length b → false ≡ leb (length (coded a b)) room
-over a b room h = let e : length (coded a b) ≡ length a + 12 + length b = length-coded a b in sym (lt-leb (length (coded a b)) room (omega arith))
+over a b room h = sym (lt-leb (length (coded a b)) room (rw length-coded h))
 
 under : (a b : List ℕ) (room : ℕ) → length a + 12 + length b ≤ room → true ≡ leb (length (coded a b)) room
-under a b room h = let e : length (coded a b) ≡ length a + 12 + length b = length-coded a b in sym (le-leb (length (coded a b)) room (omega arith))
+under a b room h = sym (le-leb (length (coded a b)) room (rw length-coded h))
 
--- the length of the text
-counted : (c : tie.After-known-told) → (length (lossyOf (c .before .before .before .before .before .before .args .text .now)) ≡ c .before .n .given .0 .0) × (c .before .n .given .0 .0 ≤ c .before .before .before .before .before .before .args .room)
-counted c = let k = c .before .before .before in counted-fits (k .before .before .before .args .room) (length (lossyOf (k .before .before .before .args .text .now))) (c .before .n .given .0 .0) (sym (k .count .ensures) ∙ c .before .n .given .1)
+-- the text was counted
+counted : (c : tie.After-known-told) → let a = c .before .before .before .before .before .before .args in let n = c .before .n .given .0 .0 in
+    (length (lossyOf (a .text .now)) ≡ n) × (n ≤ a .room)
+counted c = counted-fits _ _ _ (sym (c .before .before .before .count .ensures) ∙ c .before .n .given .1)
 
 returns : tie.Need-returns
 returns c =
-    let k = c .before .before in
-    let a = k .before .before .before .args in
-    let h = counted-over (a .room) (length (lossyOf (a .text .now))) (sym (k .count .ensures) ∙ c .enum-told .given .1) in
-    over (lossyOf (a .text .now)) (lossyOf (a .code .now)) (a .room) (omega arith)
+    let h = counted-over _ _ (sym (c .before .before .count .ensures) ∙ c .enum-told .given .1) in
+    over _ _ _ (omega arith)
 
 sub-left : tie.Need-sub-left
 sub-left c = counted c .1
 
 returns-2 : tie.Need-returns-2
-returns-2 c =
-    let a = c .before .before .before .before .before .before .before .args in
-    let n = counted (c .before) in
-    over (lossyOf (a .text .now)) (lossyOf (a .code .now)) (a .room) (omega arith)
+returns-2 c = let n = counted (c .before) in over _ _ _ (omega arith)
 
 returns-3 : tie.Need-returns-3
 returns-3 c =
-    let k = c .before .before in
-    let t = k .before .before in
-    let a = t .before .before .before .before .before .before .args in
-    let n = counted t in
-    let m = counted-fits (a .room - t .before .n .given .0 .0 - 12) (length (lossyOf (a .code .now))) (c .enum-told2 .given .0 .0) (sym (k .count2 .ensures) ∙ c .enum-told2 .given .1) in
-    under (lossyOf (a .text .now)) (lossyOf (a .code .now)) (a .room) (omega arith)
+    let n = counted (c .before .before .before .before) in
+    let m = counted-fits _ _ _ (sym (c .before .before .count2 .ensures) ∙ c .enum-told2 .given .1) in
+    under _ _ _ (omega arith)
 
 returns-4 : tie.Need-returns-4
 returns-4 c =
-    let k = c .before .before in
-    let t = k .before .before in
-    let a = t .before .before .before .before .before .before .args in
-    let n = counted t in
-    let h = counted-over (a .room - t .before .n .given .0 .0 - 12) (length (lossyOf (a .code .now))) (sym (k .count2 .ensures) ∙ c .enum-told3 .given .1) in
-    over (lossyOf (a .text .now)) (lossyOf (a .code .now)) (a .room) (omega arith)
+    let n = counted (c .before .before .before .before) in
+    let h = counted-over _ _ (sym (c .before .before .count2 .ensures) ∙ c .enum-told3 .given .1) in
+    over _ _ _ (omega arith)
 
 pub has-room-spec : {M : Type 1} → statement M
 has-room-spec =

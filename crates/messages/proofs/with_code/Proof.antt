@@ -9,10 +9,9 @@ use lib.ListN.{length}
 use borrow.Author.Tests.{leb-true, leb-false, not-true, not-false}
 use borrow.Author.Needs.{needs}
 use Rattle.wire.specs.Bytes.{placed}
-use Rattle.wire.proofs.Laws.{placed-fits}
 use Rattle.wire.proofs.Pieces.{filling-start, filling-next, filling-last}
 use Rattle.error.specs.Writer.{writing}
-use Rattle.error.proofs.Laws.{no-room, wrote-placed}
+use Rattle.error.proofs.Laws.{no-room, wrote-to}
 use Rattle.lossy.specs.Lossy.{lossyOf}
 use Rattle.messages.specs.ErrorText.{coded, opened, closed}
 use Rattle.messages.proofs.with_code.Statement.{statement}
@@ -24,9 +23,7 @@ four-pieces : (d m k : List ℕ) {q1 q2 q3 q4 : List ℕ} {r1 r2 r3 r4 : ℕ} �
 unfolding coded
 four-pieces d m k f e1 e2 e3 e4 =
     let h : 0 + length (coded m k) ≤ length d = omega arith in
-    let w = filling-last h (filling-next h k (filling-next h opened (filling-next h m (filling-start refl) e1) e2) e3) e4 in
-    let n = placed-fits d 0 (coded m k) h w .0 in
-    wrote-placed 0 (coded m k) d (omega arith) (omega arith) (omega arith) w
+    wrote-to 0 (coded m k) d (omega arith) f (filling-last h (filling-next h k (filling-next h opened (filling-next h m (filling-start refl) e1) e2) e3) e4)
 
 returns : tie.Need-returns
 returns c =
