@@ -12,6 +12,10 @@ use Rattle.wire.proofs.Laws.{by-test}
 use Rattle.stream.specs.Cut.{cutOf}
 use Rattle.claims.specs.Plain.{Told, wholeOnes, spanOf, behindByte, acceptedOnes, isRefusedEarly, takenOf}
 
+-- a message: its tag and payload
+abbrev pub Msg : Type 0
+Msg = ℕ × List ℕ
+
 -- ---- lists of steps
 
 pub taken-more : (ts : List Told) (x : Told) → takenOf (ts ++ (x ∷ [])) ≡ takenOf ts + x .taken
@@ -62,17 +66,17 @@ accepted-more (t ∷ ts) x = kept (isRefusedEarly (t .refusal)) (isRefusedEarly 
 -- ---- the account: the whole messages so far, and the accepted steps behind the one that took the last byte of the last
 
 module _ (limit : ℕ) (bytes : List ℕ) where
-  abbrev pub whole-at : ℕ → List (ℕ × List ℕ)
+  abbrev pub whole-at : ℕ → List Msg
   whole-at t = wholeOnes (cutOf limit (take t bytes) .items)
 
-  pub record Account (t : ℕ) (ts : List Told) (ms : List (ℕ × List ℕ)) (ws : List Told) : Type 0 where
+  pub record Account (t : ℕ) (ts : List Told) (ms : List Msg) (ws : List Told) : Type 0 where
     pub sum : takenOf ts ≡ t
     pub whole : whole-at t ≡ ms
     pub span : spanOf ms ≤ t
     pub since : 0 < spanOf ms → acceptedOnes (behindByte (spanOf ms) ts) ≡ ws
 
   -- a step behind which there are no more whole messages
-  pub same-ones : (t : ℕ) (ts : List Told) (ms : List (ℕ × List ℕ)) (ws : List Told) (x : Told) → Account t ts ms ws
+  pub same-ones : (t : ℕ) (ts : List Told) (ms : List Msg) (ws : List Told) (x : Told) → Account t ts ms ws
       → whole-at (t + x .taken) ≡ ms → Account (t + x .taken) (ts ++ (x ∷ [])) ms (grown x ws)
   same-ones t ts ms ws x a e =
       let s : takenOf ts ≡ t = a .sum in
@@ -88,7 +92,7 @@ module _ (limit : ℕ) (bytes : List ℕ) where
       }
 
   -- a step that takes the last byte of one more
-  pub one-more : (t : ℕ) (ts : List Told) (ms ns : List (ℕ × List ℕ)) (ws : List Told) (x : Told) → Account t ts ms ws
+  pub one-more : (t : ℕ) (ts : List Told) (ms ns : List Msg) (ws : List Told) (x : Told) → Account t ts ms ws
       → whole-at (t + x .taken) ≡ ns → spanOf ns ≡ t + x .taken → 0 < x .taken → Account (t + x .taken) (ts ++ (x ∷ [])) ns []
   unfolding acceptedOnes
   one-more t ts ms ns ws x a e l p =

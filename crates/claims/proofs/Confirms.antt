@@ -1,5 +1,6 @@
--- Each status confirms the largest position: a step keeps the position, and what it writes is by it.
-use Prim.Native.Nat.{ℕ, _+_, _<_, _≤_, max}
+-- Each status confirms the largest position: a step keeps the position, whatever it is lent, and what it writes is by it. Condition3 takes the
+-- theorem. This walks the step's definition a second time beside Rows, whose rows hold only of calls that hand their buffers on.
+use Prim.Native.Nat.{ℕ, _<_, _≤_, max}
 use native.Mathlib.Omega.{arith}
 use borrow.Author.Tests.{ltb-true, ltb-false}
 use mathlib.Core.Bool.{Bool, true, false}
@@ -15,7 +16,7 @@ use Rattle.framing.specs.Read as R
 use Rattle.framing.specs.Tag.{isError, isCopyBothResponse, isCopyData}
 use Rattle.frontend.specs.Frontend.{statusUpdate}
 use Rattle.lsn.specs.declared.Lsn.{Lsn}
-use Rattle.metrics.specs.Metrics.{more, withEvent, withReply, withEnd}
+use Rattle.metrics.specs.Metrics.{withEvent, withReply, withEnd}
 use Rattle.moment.specs.Moment.{sinceOf}
 use Rattle.pgoutput.specs.Boundary.{boundaryOf}
 use Rattle.pgoutput.specs.Boundary as B
@@ -30,208 +31,184 @@ use Rattle.worker.specs.declared.Queue.{Queue}
 use Rattle.worker.specs.declared.Queue.the-variants.{Free, Full, Closed}
 use Rattle.worker.specs.declared.Input.{Input}
 use Rattle.worker.specs.declared.Event.{Event}
-use Rattle.worker.specs.declared.Event.the-variants.{Nothing, KeepAlive, Begin, Commit, Message, XLogData, StoppedAt}
+use Rattle.worker.specs.declared.Event.the-variants.{Nothing, KeepAlive, StoppedAt}
 use Rattle.worker.specs.declared.Run.{Run}
-use Rattle.worker.specs.Run.{lsn, wholeOf, freshRun, withState, withReader, withDrained, withWhole, withMetrics, accepted}
-use Rattle.worker.specs.Step.{Lent, Outcome, back, badMoment, behindEvent, boundaryBy, copyDataBy, doneWith, drainOf, endedWith, firstBy, handing, handlingOf, handsOn, having, idleOf, intervalPassed, isEnded, isReadable, isStoppedAt, keepAliveOf, moved, nextOf, offeringOf, offers, offersAt, openingBy, openingOf, reaches, readBy, readingBy, readingOf, refusedWith, stallEnded, stalledBy, stalledOf, stalls, stateOf, statusDue, statusOf, stepOf, takesPending, turnOf, waitingBy, waitingOf, waitingRead, waits}
+use Rattle.worker.specs.Run.{lsn, freshRun, withReader, withDrained, withMetrics, accepted}
+use Rattle.worker.specs.Rows.{both, unless}
+use Rattle.worker.specs.Step.{Lent, Outcome, back, badMoment, behindEvent, boundaryBy, copyDataBy, doneWith, drainOf, firstBy, handing, handlingOf, having, idleOf, intervalPassed, isEnded, isReadable, isStoppedAt, keepAliveOf, nextOf, offeringOf, offers, openingBy, openingOf, readBy, readingBy, readingOf, refusedWith, stalledBy, stalledOf, stalls, stallEnded, stateOf, statusDue, statusOf, stepOf, takesPending, turnOf, waitingBy, waitingOf, waitingRead}
 use Rattle.worker.specs.Opening.{reportOf}
 use Rattle.claims.specs.Confirms.{AnyCall, step, report, Writes, nothing, done, status, Confirmed, Confirms-largest}
-
--- the run keeps the position, and what was written is by it
-record Keeps (p : Lsn) (i : Input) (l : Lent) (o : Outcome) : Type 0 where
-  kept : o .run .progress .applied ≡ p
-  writes : Writes (p .0) i l o
-
--- one of two outcomes
-either : {p : Lsn} {i : Input} {l : Lent} (b : Bool) {x y : Outcome} → Keeps p i l x → Keeps p i l y → Keeps p i l (pick b x y)
-either true hx hy = hx
-either false hx hy = hy
 
 one-of : {A : Type 0} (f : A → Lsn) (b : Bool) (x y : A) (p : Lsn) → f x ≡ p → f y ≡ p → f (pick b x y) ≡ p
 one-of f true x y p hx hy = hx
 one-of f false x y p hx hy = hy
 
--- bytes taken and a payload buffer change neither
-having-writes : (n : ℕ) (i : Input) (l : Lent) (k : ℕ) (b : List ℕ) (o : Outcome) → Writes n i l o → Writes n i l (having k b o)
-having-writes n i l k b o (nothing a c) = nothing a c
-having-writes n i l k b o (done a c) = done a c
-having-writes n i l k b o (status reply a c) = status reply a c
+module _ (i : Input) (l : Lent) where
+  -- the run keeps the position, and what was written is by it
+  record Keeps (p : Lsn) (o : Outcome) : Type 0 where
+    kept : o .run .progress .applied ≡ p
+    writes : Writes (p .0) i l o
 
-module _ (p : Lsn) (i : Input) (l : Lent) where
-  handing-keeps : (e : Event) (r : Run) → r .progress .applied ≡ p → Keeps p i l (handing e r l)
-  handing-keeps e r h = record { kept = h; writes = nothing refl refl }
+  -- .. the position of a run, which no change of another part touches
+  abbrev K : Run → Outcome → Type 0
+  K r o = Keeps (r .progress .applied) o
 
-  moved-keeps : (r : Run) → r .progress .applied ≡ p → Keeps p i l (moved r l)
-  moved-keeps r h = handing-keeps Nothing r h
+  either : {p : Lsn} (b : Bool) {x y : Outcome} → Keeps p x → Keeps p y → Keeps p (pick b x y)
+  either true hx hy = hx
+  either false hx hy = hy
 
-  ended-keeps : (n : ℕ) (r : Run) → r .progress .applied ≡ p → Keeps p i l (endedWith n r l)
-  ended-keeps n r h = record { kept = h; writes = nothing refl refl }
+  -- ---- the ends of a step
 
-  done-keeps : (e : Event) (r : Run) → r .progress .applied ≡ p → Keeps p i l (doneWith e r l)
-  done-keeps e r h = record { kept = h; writes = done refl refl }
+  handing-keeps : (e : Event) (r : Run) → K r (handing e r l)
+  handing-keeps e r = record { kept = refl; writes = nothing refl refl }
 
-  having-keeps : (k : ℕ) (b : List ℕ) (o : Outcome) → Keeps p i l o → Keeps p i l (having k b o)
-  having-keeps k b o h = record { kept = h .kept; writes = having-writes (p .0) i l k b o (h .writes) }
+  refused-keeps : (n : ℕ) (r : Run) → K r (refusedWith n r l)
+  refused-keeps n r = record { kept = refl; writes = nothing refl refl }
 
-  status-keeps : (reply : Bool) (to : State) (r : Run) → r .progress .applied ≡ p → Keeps p i l (statusOf reply to r i l)
+  done-keeps : (e : Event) (r : Run) → K r (doneWith e r l)
+  done-keeps e r = record { kept = refl; writes = done refl refl }
+
+  -- bytes taken and a payload buffer change neither
+  having-keeps : {p : Lsn} (k : ℕ) (b : List ℕ) (o : Outcome) → Keeps p o → Keeps p (having k b o)
+  having-keeps {p} k b o h = record { kept = h .kept; writes = by (h .writes) }
+    where
+      by : Writes (p .0) i l o → Writes (p .0) i l (having k b o)
+      by (nothing a c) = nothing a c
+      by (done a c) = done a c
+      by (status reply a c) = status reply a c
+
+  status-keeps : (reply : Bool) (to : State) (r : Run) → K r (statusOf reply to r i l)
   unfolding statusOf reportedOf
-  status-keeps reply to r h =
+  status-keeps reply to r =
       record {
-        kept = one-of (λ (x : ProgressCell). x .applied) (takesPending r) (reportedOf (r .progress) (r .progress .applied) (r .clock .last) .cell) (r .progress) p h h;
-        writes = status reply refl (rw h);
+        kept = one-of (λ (x : ProgressCell). x .applied) (takesPending r) (reportedOf (r .progress) (r .progress .applied) (r .clock .last) .cell) (r .progress) _ refl refl;
+        writes = status reply refl refl;
       }
 
   -- ---- each state
 
-  opening-by : (a : R.Said) (r : Run) → r .progress .applied ≡ p → Keeps p i l (openingBy a r l)
-  opening-by R.more r h = moved-keeps r h
-  opening-by (R.whole tag n) r h =
-      either (isCopyBothResponse tag) (moved-keeps (withState Turn r) h)
-      (either (isError tag) (ended-keeps 19 (withWhole (wholeOf tag n false) r) h)
-      (moved-keeps r h))
-  opening-by (R.refused n) r h = ended-keeps n r h
+  opening-by : (a : R.Said) (r : Run) → K r (openingBy a r l)
+  opening-by R.more r = handing-keeps _ _
+  opening-by (R.whole tag n) r = either (isCopyBothResponse tag) (handing-keeps _ _) (either (isError tag) (refused-keeps _ _) (handing-keeps _ _))
+  opening-by (R.refused n) r = refused-keeps _ _
 
-  opening-keeps : (r : Run) → r .progress .applied ≡ p → Keeps p i l (openingOf r i l)
+  opening-keeps : (r : Run) → K r (openingOf r i l)
   unfolding openingOf
-  opening-keeps r h =
-      let x : Result = readBy r i l in
-      having-keeps (x .2) (x .3) (openingBy (x .0) (withReader (x .1) r) l) (opening-by (x .0) (withReader (x .1) r) h)
+  opening-keeps r = let x : Result = readBy r i l in having-keeps (x .2) (x .3) _ (opening-by (x .0) (withReader (x .1) r))
 
-  turn-keeps : (r : Run) → r .progress .applied ≡ p → Keeps p i l (turnOf r i l)
+  turn-keeps : (r : Run) → K r (turnOf r i l)
   unfolding turnOf
-  turn-keeps r h =
-      either (statusDue r) (status-keeps false Drain (withDrained 0 r) h) (moved-keeps (withState Drain (withDrained 0 r)) h)
+  turn-keeps r = either (statusDue r) (status-keeps false Drain (withDrained 0 r)) (handing-keeps _ _)
 
-  drain-keeps : (r : Run) → r .progress .applied ≡ p → Keeps p i l (drainOf r i l)
+  drain-keeps : (r : Run) → K r (drainOf r i l)
   unfolding drainOf lookedOf
-  drain-keeps r h =
-      either (pick (ltb (r .drained) 256) (leb 5 (length (l .unread))) false) (moved-keeps (withState Reading r) h)
-      (either (eqb (r .drained) 0) (moved-keeps (waits r) h)
-      (either (i .stop) (done-keeps Nothing r h)
-      (moved-keeps (withState Turn r) h)))
+  drain-keeps r =
+      either (both (ltb (r .drained) 256) (leb 5 (length (l .unread)))) (handing-keeps _ _)
+      (either (eqb (r .drained) 0) (handing-keeps _ _)
+      (either (i .stop) (done-keeps Nothing r) (handing-keeps _ _)))
 
-  reading-by : (a : R.Said) (r : Run) → r .progress .applied ≡ p → Keeps p i l (readingBy a r l)
-  reading-by R.more r h = moved-keeps r h
-  reading-by (R.whole tag n) r h = moved-keeps (withState Handling (withWhole (wholeOf tag n false) (withDrained (more (r .drained) 1) r))) h
-  reading-by (R.refused n) r h = ended-keeps n r h
+  reading-by : (a : R.Said) (r : Run) → K r (readingBy a r l)
+  reading-by R.more r = handing-keeps _ _
+  reading-by (R.whole tag n) r = handing-keeps _ _
+  reading-by (R.refused n) r = refused-keeps _ _
 
-  reading-keeps : (r : Run) → r .progress .applied ≡ p → Keeps p i l (readingOf r i l)
+  reading-keeps : (r : Run) → K r (readingOf r i l)
   unfolding readingOf
-  reading-keeps r h =
-      let x : Result = readBy r i l in
-      having-keeps (x .2) (x .3) (readingBy (x .0) (withReader (x .1) r) l) (reading-by (x .0) (withReader (x .1) r) h)
+  reading-keeps r = let x : Result = readBy r i l in having-keeps (x .2) (x .3) _ (reading-by (x .0) (withReader (x .1) r))
 
-  idle-keeps : (r : Run) → r .progress .applied ≡ p → Keeps p i l (idleOf r i l)
-  idle-keeps r h =
-      either (leb (r .settings .«idle_wakeup_interval») (sinceOf (r .clock .last) (r .clock .«wait_began»)))
-      (status-keeps false Turn r h) (moved-keeps r h)
+  idle-keeps : (r : Run) → K r (idleOf r i l)
+  idle-keeps r =
+      either (leb (r .settings .«idle_wakeup_interval») (sinceOf (r .clock .last) (r .clock .«wait_began»))) (status-keeps false Turn r) (handing-keeps _ _)
 
-  waiting-by : (a : R.Said) (r : Run) → r .progress .applied ≡ p → Keeps p i l (waitingBy a r i l)
-  waiting-by R.more r h = idle-keeps r h
-  waiting-by (R.whole tag n) r h = moved-keeps (withState Handling (withWhole (wholeOf tag n true) r)) h
-  waiting-by (R.refused n) r h = ended-keeps n r h
+  waiting-by : (a : R.Said) (r : Run) → K r (waitingBy a r i l)
+  waiting-by R.more r = idle-keeps r
+  waiting-by (R.whole tag n) r = handing-keeps _ _
+  waiting-by (R.refused n) r = refused-keeps _ _
 
-  waiting-read : (r : Run) → r .progress .applied ≡ p → Keeps p i l (waitingRead r i l)
-  waiting-read r h =
-      let x : Result = readBy r i l in
-      having-keeps (x .2) (x .3) (waitingBy (x .0) (withReader (x .1) r) i l) (waiting-by (x .0) (withReader (x .1) r) h)
+  waiting-read : (r : Run) → K r (waitingRead r i l)
+  waiting-read r = let x : Result = readBy r i l in having-keeps (x .2) (x .3) _ (waiting-by (x .0) (withReader (x .1) r))
 
-  waiting-keeps : (r : Run) → r .progress .applied ≡ p → Keeps p i l (waitingOf r i l)
+  waiting-keeps : (r : Run) → K r (waitingOf r i l)
   unfolding waitingOf
-  waiting-keeps r h =
-      either (i .stop) (done-keeps Nothing r h)
-      (either (pick (r .pending) (intervalPassed r) false) (status-keeps false Turn r h)
-      (either (pick (r .pending) false (r .progress .signalled)) (moved-keeps (withState Turn r) h)
-      (either (isReadable i l) (waiting-read r h)
-      (idle-keeps r h))))
+  waiting-keeps r =
+      either (i .stop) (done-keeps Nothing r)
+      (either (both (r .pending) (intervalPassed r)) (status-keeps false Turn r)
+      (either (unless (r .pending) (r .progress .signalled)) (handing-keeps _ _)
+      (either (isReadable i l) (waiting-read r) (idle-keeps r))))
 
-  offers-keeps : (e : Event) (q : Lsn) (r : Run) → r .progress .applied ≡ p → Keeps p i l (offersAt e q r l)
-  offers-keeps e q r h = moved-keeps (offers e (reaches r q) q r) h
+  boundary-by : (a : B.Said) (start end : ℕ) (time : ℤ) (from len : ℕ) (r : Run) → K r (boundaryBy a start end time from len r l)
+  boundary-by (B.begin final t xid) start end time from len r = handing-keeps _ _
+  boundary-by (B.commit position e t) start end time from len r = handing-keeps _ _
+  boundary-by (B.message flag position pf pl cf cl) start end time from len r = handing-keeps _ _
+  boundary-by B.no-boundary start end time from len r = handing-keeps _ _
+  boundary-by (B.refused n) start end time from len r = refused-keeps _ _
 
-  boundary-by : (a : B.Said) (start end : ℕ) (time : ℤ) (from len : ℕ) (r : Run) → r .progress .applied ≡ p → Keeps p i l (boundaryBy a start end time from len r l)
-  boundary-by (B.begin final t xid) start end time from len r h = offers-keeps (Begin (lsn final) t xid) (lsn final) r h
-  boundary-by (B.commit position e t) start end time from len r h = offers-keeps (Commit (lsn position) (lsn e) t) (lsn e) r h
-  boundary-by (B.message flag position pf pl cf cl) start end time from len r h =
-      offers-keeps (Message flag (lsn position) (from + pf) pl (from + cf) cl) (lsn end) r h
-  boundary-by B.no-boundary start end time from len r h = offers-keeps (XLogData (lsn start) (lsn end) time from len) (lsn end) r h
-  boundary-by (B.refused n) start end time from len r h = ended-keeps n r h
-
-  keep-alive : (end : ℕ) (time : ℤ) (reply : Bool) (r : Run) → r .progress .applied ≡ p → Keeps p i l (keepAliveOf end time reply r i l)
-  keep-alive end time reply r h =
+  keep-alive : (end : ℕ) (time : ℤ) (reply : Bool) (r : Run) → K r (keepAliveOf end time reply r i l)
+  keep-alive end time reply r =
       let offered : Run = offers (KeepAlive (lsn end) time reply) false (lsn 0) r in
-      either reply (status-keeps true Offering (withMetrics (withReply (offered .metrics)) offered) h) (moved-keeps offered h)
+      either reply (status-keeps true Offering (withMetrics (withReply (offered .metrics)) offered)) (handing-keeps _ _)
 
-  copy-data-by : (a : C.Said) (r : Run) → r .progress .applied ≡ p → Keeps p i l (copyDataBy a r i l)
-  copy-data-by (C.k end time reply) r h = keep-alive end time reply (withMetrics (withEnd (r .metrics) (lsn end)) r) h
-  copy-data-by (C.w start end time from len) r h =
-      boundary-by (boundaryOf (at (l .payload) from len)) start end time from len (withMetrics (withEnd (r .metrics) (lsn end)) r) h
-  copy-data-by (C.refused n) r h = ended-keeps n r h
+  copy-data-by : (a : C.Said) (r : Run) → K r (copyDataBy a r i l)
+  copy-data-by (C.k end time reply) r = keep-alive end time reply (withMetrics (withEnd (r .metrics) (lsn end)) r)
+  copy-data-by (C.w start end time from len) r =
+      boundary-by (boundaryOf (at (l .payload) from len)) start end time from len (withMetrics (withEnd (r .metrics) (lsn end)) r)
+  copy-data-by (C.refused n) r = refused-keeps _ _
 
-  handling-keeps : (r : Run) → r .progress .applied ≡ p → Keeps p i l (handlingOf r i l)
+  handling-keeps : (r : Run) → K r (handlingOf r i l)
   unfolding handlingOf
-  handling-keeps r h =
-      either (isError (r .whole .tag)) (ended-keeps 19 r h)
-      (either (isCopyData (r .whole .tag)) (copy-data-by (copyDataOf (take (r .whole .len) (l .payload))) r h)
-      (moved-keeps (back r) h))
+  handling-keeps r =
+      either (isError (r .whole .tag)) (refused-keeps _ _)
+      (either (isCopyData (r .whole .tag)) (copy-data-by (copyDataOf (take (r .whole .len) (l .payload))) r) (handing-keeps _ _))
 
-  behind-event : (r : Run) → r .progress .applied ≡ p → behindEvent r .progress .applied ≡ p
-  behind-event r h = one-of (λ (x : Run). x .progress .applied) (r .offer .stops) (offers (StoppedAt (r .offer .reached)) false (lsn 0) r) (back r) p h h
+  behind-event : (r : Run) → behindEvent r .progress .applied ≡ r .progress .applied
+  behind-event r = one-of (λ (x : Run). x .progress .applied) (r .offer .stops) (offers (StoppedAt (r .offer .reached)) false (lsn 0) r) (back r) _ refl refl
 
-  next-keeps : (e : Event) (r : Run) → r .progress .applied ≡ p → Keeps p i l (nextOf e r l)
-  next-keeps e r h =
-      either (isStoppedAt (r .offer .event)) (done-keeps e r h) (handing-keeps e (behindEvent r) (behind-event r h))
+  next-keeps : (e : Event) (r : Run) → K r (nextOf e r l)
+  next-keeps e r = either (isStoppedAt (r .offer .event)) (done-keeps e r) (rw (behind-event r) at (handing-keeps e (behindEvent r)))
 
-  hands-on : (r : Run) → r .progress .applied ≡ p → Keeps p i l (handsOn r l)
-  hands-on r h = next-keeps (r .offer .event) (withMetrics (withEvent (r .metrics)) r) h
+  stalled-by : (q : Queue) (r : Run) → K r (stalledBy q r i l)
+  stalled-by Free r = next-keeps _ (withMetrics (withEvent (stallEnded r .metrics)) r)
+  stalled-by Closed r = next-keeps _ (stallEnded r)
+  stalled-by Full r = either (intervalPassed r) (status-keeps false Offering r) (handing-keeps _ _)
 
-  stalled-by : (q : Queue) (r : Run) → r .progress .applied ≡ p → Keeps p i l (stalledBy q r i l)
-  stalled-by Free r h = hands-on (stallEnded r) h
-  stalled-by Closed r h = next-keeps Nothing (stallEnded r) h
-  stalled-by Full r h = either (intervalPassed r) (status-keeps false Offering r h) (moved-keeps r h)
-
-  stalled-keeps : (r : Run) → r .progress .applied ≡ p → Keeps p i l (stalledOf r i l)
+  stalled-keeps : (r : Run) → K r (stalledOf r i l)
   unfolding stalledOf
-  stalled-keeps r h = either (i .stop) (done-keeps Nothing r h) (stalled-by (i .queue) r h)
+  stalled-keeps r = either (i .stop) (done-keeps Nothing r) (stalled-by (i .queue) r)
 
-  first-by : (q : Queue) (r : Run) → r .progress .applied ≡ p → Keeps p i l (firstBy q r i l)
-  first-by Free r h = hands-on r h
-  first-by Closed r h = next-keeps Nothing r h
-  first-by Full r h = stalled-keeps (stalls r) h
+  first-by : (q : Queue) (r : Run) → K r (firstBy q r i l)
+  first-by Free r = next-keeps _ (withMetrics (withEvent (r .metrics)) r)
+  first-by Closed r = next-keeps _ r
+  first-by Full r = stalled-keeps (stalls r)
 
-  offering-keeps : (r : Run) → r .progress .applied ≡ p → Keeps p i l (offeringOf r i l)
+  offering-keeps : (r : Run) → K r (offeringOf r i l)
   unfolding offeringOf
-  offering-keeps r h = either (r .offer .stalled) (stalled-keeps r h) (first-by (i .queue) r h)
+  offering-keeps r = either (r .offer .stalled) (stalled-keeps r) (first-by (i .queue) r)
 
-  state-keeps : (s : State) (r : Run) → r .progress .applied ≡ p → Keeps p i l (stateOf s r i l)
+  state-keeps : (s : State) (r : Run) → K r (stateOf s r i l)
   unfolding stateOf
-  state-keeps Opening r h = opening-keeps r h
-  state-keeps Turn r h = turn-keeps r h
-  state-keeps Drain r h = drain-keeps r h
-  state-keeps Reading r h = reading-keeps r h
-  state-keeps Waiting r h = waiting-keeps r h
-  state-keeps Handling r h = handling-keeps r h
-  state-keeps Offering r h = offering-keeps r h
-  state-keeps Ended r h = record { kept = h; writes = nothing refl refl }
+  state-keeps Opening r = opening-keeps r
+  state-keeps Turn r = turn-keeps r
+  state-keeps Drain r = drain-keeps r
+  state-keeps Reading r = reading-keeps r
+  state-keeps Waiting r = waiting-keeps r
+  state-keeps Handling r = handling-keeps r
+  state-keeps Offering r = offering-keeps r
+  state-keeps Ended r = refused-keeps 2 r
 
-  -- ---- a step, and any list of calls
-
-  -- refused with 2 to 5
-  refused-keeps : (n : ℕ) (r : Run) → r .progress .applied ≡ p → Keeps p i l (refusedWith n r l)
-  refused-keeps n r h = record { kept = h; writes = nothing refl refl }
-
-  step-keeps : (r : Run) → r .progress .applied ≡ p → Keeps p i l (stepOf r i l)
+  step-keeps : (r : Run) → K r (stepOf r i l)
   unfolding stepOf
-  step-keeps r h =
-      either (isEnded (r .state)) (refused-keeps 2 r h)
-      (either (ltb (length (l .payload)) (limitOf (r .settings .«max_message_size»))) (refused-keeps 3 r h)
-      (either (ltb (length (l .out)) 39) (refused-keeps 4 r h)
-      (either (badMoment r (i .moment)) (refused-keeps 5 r h)
-      (state-keeps (r .state) (accepted (i .moment) r) h))))
+  step-keeps r =
+      either (isEnded (r .state)) (refused-keeps 2 r)
+      (either (ltb (length (l .payload)) (limitOf (r .settings .«max_message_size»))) (refused-keeps 3 r)
+      (either (ltb (length (l .out)) 39) (refused-keeps 4 r)
+      (either (badMoment r (i .moment)) (refused-keeps 5 r) (state-keeps (r .state) (accepted (i .moment) r)))))
 
-writes-at : (n m : ℕ) (i : Input) (l : Lent) (o : Outcome) → n ≡ m → Writes n i l o → Writes m i l o
-writes-at n m i l o h (nothing a c) = nothing a c
-writes-at n m i l o h (done a c) = done a c
-writes-at n m i l o h (status reply a c) = status reply a (c ∙ ap (λ (x : ℕ). put (l .out) 0 (statusUpdate x (i .«client_time») reply)) h)
+-- ---- any list of calls
+
+writes-at : {n m : ℕ} {i : Input} {l : Lent} {o : Outcome} → n ≡ m → Writes n i l o → Writes m i l o
+writes-at {i = i} {l = l} h (nothing a c) = nothing a c
+writes-at {i = i} {l = l} h (done a c) = done a c
+writes-at {i = i} {l = l} h (status reply a c) = status reply a (c ∙ ap (λ (x : ℕ). put (l .out) 0 (statusUpdate x (i .«client_time») reply)) h)
 
 -- a report leaves the larger of the two
 raise-largest : (c : ProgressCell) (q : Lsn) (m : Moment) → raiseOf c q m .cell .applied .0 ≡ max (c .applied .0) (q .0)
@@ -243,17 +220,14 @@ raise-largest c q m =
     (λ t. let k : a < b = ltb-true a b t in let e : max a b ≡ b = omega arith in rw (t, e))
     (λ t. let k : b ≤ a = ltb-false a b t in let e : max a b ≡ a = omega arith in rw (t, e))
 
-reported-largest : (largest : ℕ) (r : Run) → r .progress .applied .0 ≡ largest → (q : Lsn) (m : Moment) → reportOf r q m .progress .applied .0 ≡ max largest (q .0)
-unfolding reportOf
-reported-largest largest r h q m = raise-largest (r .progress) q m ∙ ap (λ (x : ℕ). max x (q .0)) h
-
 confirmed-from : (largest : ℕ) (r : Run) → r .progress .applied .0 ≡ largest → (cs : List AnyCall) → Confirmed largest r cs
+unfolding reportOf
 confirmed-from largest r h [] = tt
 confirmed-from largest r h (step i l ∷ cs) =
-    let k : Keeps (r .progress .applied) i l (stepOf r i l) = step-keeps (r .progress .applied) i l r refl in
-    (writes-at (r .progress .applied .0) largest i l (stepOf r i l) h (k .writes), confirmed-from largest (stepOf r i l .run) (ap (λ (x : Lsn). x .0) (k .kept) ∙ h) cs)
+    let k = step-keeps i l r in
+    (writes-at h (k .writes), confirmed-from largest (stepOf r i l .run) (ap (λ (x : Lsn). x .0) (k .kept) ∙ h) cs)
 confirmed-from largest r h (report q m ∷ cs) =
-    confirmed-from (max largest (q .0)) (reportOf r q m) (reported-largest largest r h q m) cs
+    confirmed-from (max largest (q .0)) (reportOf r q m) (raise-largest (r .progress) q m ∙ ap (λ (x : ℕ). max x (q .0)) h) cs
 
 pub confirms-largest : Confirms-largest
 unfolding freshRun

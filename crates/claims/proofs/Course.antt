@@ -1,4 +1,6 @@
--- The course of the plain reading: where its messages are behind it, and what the last of them has to hand on.
+-- The course of the plain reading: what the messages so far give, which of their events are handed on, by the run's state, and what one step
+-- more makes of that. It knows neither the reader nor the server bytes, with which Standing joins it. Rows says which of these
+-- laws each row of the step takes; HandsOn reads the conclusion off.
 use mathlib.Core.Path.{_≡_, refl, sym, ap, _∙_}
 use mathlib.Core.Bool.{Bool, true, false}
 use mathlib.Core.List.{List, [], _∷_, _++_, append-assoc, append-nil}
@@ -8,15 +10,19 @@ use native.Mathlib.Omega.{arith}
 use lib.ListN.{length, take, drop, take-append-drop, length-append}
 use lib.Seq.{drop-nil, drop-append-seam, take-append-le, take-length}
 use Rattle.wire.specs.Bytes.{pick}
+use Rattle.wire.proofs.Laws.{impossible}
 use Rattle.framing.specs.Tag.{isError, isCopyBothResponse}
-use Rattle.claims.specs.Happened.{Happened}
-use Rattle.claims.specs.Plain.{Told, Gives, messageGives, behindOpening, given, eventsOf, offered}
+use Rattle.worker.specs.declared.Offer.{Offer}
+use Rattle.worker.specs.declared.Event.the-variants.{StoppedAt}
+use Rattle.worker.specs.declared.Queue.the-variants.{Free, Full}
+use Rattle.worker.specs.Run.{lsn, offer}
+use Rattle.worker.specs.Step.{isStoppedAt}
+use Rattle.claims.specs.Happened.{Happened, happenedBy}
+use Rattle.claims.specs.Happened as H
+use Rattle.claims.specs.Plain.{Told, Gives, gives, messageGives, behindOpening, given, eventsOf, offered, isCutOff, isRefusedEarly}
 use Rattle.claims.specs.Begins.{Begins}
+use Rattle.claims.proofs.Account.{Msg, grown}
 use Rattle.claims.proofs.Begins.{events-of}
-
--- a message: its tag and payload
-abbrev pub Msg : Type 0
-Msg = ℕ × List ℕ
 
 -- all but the last
 abbrev pub front : List Msg → List Msg
@@ -26,19 +32,30 @@ pub front-of : (ms : List Msg) (m : Msg) → front (ms ++ (m ∷ [])) ≡ ms
 front-of ms m =
     let l : length (ms ++ (m ∷ [])) ≡ length ms + 1 = length-append ms (m ∷ []) in
     let e : length (ms ++ (m ∷ [])) - 1 ≡ length ms = omega arith in
-    ap (λ (k : ℕ). take k (ms ++ (m ∷ []))) e ∙ (take-append-le (length ms) ms (m ∷ []) (omega arith) ∙ take-length ms)
+    rw e (take-append-le (length ms) ms (m ∷ []) (omega arith) ∙ take-length ms)
 
 pub nothing-offered : (full : Bool) (us : List Told) → offered [] full us ≡ []
 unfolding offered
 nothing-offered full [] = refl
 nothing-offered full (u ∷ us) = refl
 
+pub none-later : (es : List Happened) (full : Bool) → offered es full [] ≡ []
+unfolding offered
+none-later [] full = refl
+none-later (e ∷ es) full = refl
+
 -- by a test, nothing or nothing
-pub none-either : (b : Bool) → _≡_ {A = List Happened} (pick b [] []) []
+none-either : (b : Bool) → _≡_ {A = List Happened} (pick b [] []) []
 none-either true = refl
 none-either false = refl
 
+-- StoppedAt follows the offered event, or nothing
+abbrev pub following : Offer → List Happened
+following o = pick (o .stops) (H.stoppedAt (o .reached .0) ∷ []) []
+
 module _ (stop : Option ℕ) (opening : Bool) where
+  -- ---- what messages give
+
   abbrev pub all-of : List Msg → List Happened
   all-of ms = eventsOf stop opening ms
 
@@ -53,7 +70,7 @@ module _ (stop : Option ℕ) (opening : Bool) where
   abbrev pub read-off : List Msg → List Told → List Happened
   read-off ms ws = all-of (front ms) ++ offered (last-of ms) false (drop 1 ws)
 
-  pub split : (ms : List Msg) → all-of (front ms) ++ last-of ms ≡ all-of ms
+  split : (ms : List Msg) → all-of (front ms) ++ last-of ms ≡ all-of ms
   split ms =
       let b : Begins (all-of (front ms)) (all-of ms) =
       events-of stop opening (front ms) ms (record { rest = drop (length ms - 1) ms; joined = take-append-drop (length ms - 1) ms }) in
@@ -63,71 +80,256 @@ module _ (stop : Option ℕ) (opening : Bool) where
   pub none-last : (ms : List Msg) → all-of ms ≡ [] → last-of ms ≡ []
   none-last ms e = ap (drop (length (all-of (front ms)))) e ∙ drop-nil (length (all-of (front ms)))
 
-  pub last-is : (ms : List Msg) (m : Msg) (last : List Happened) → all-of (ms ++ (m ∷ [])) ≡ all-of ms ++ last → last-of (ms ++ (m ∷ [])) ≡ last
-  last-is ms m last e =
-      ap (λ (l : List Msg). drop (length (all-of l)) (all-of (ms ++ (m ∷ [])))) (front-of ms m)
-      ∙ (ap (drop (length (all-of ms))) e ∙ drop-append-seam (all-of ms) last)
+  last-is : (ms : List Msg) (m : Msg) (last : List Happened) → all-of (ms ++ (m ∷ [])) ≡ all-of ms ++ last → last-of (ms ++ (m ∷ [])) ≡ last
+  last-is ms m last e = rw (front-of ms m, e) (drop-append-seam (all-of ms) last)
 
   -- the reading goes on behind these messages
   abbrev pub Goes : List Msg → Type 0
   Goes ms = (ns : List Msg) → all-of (ms ++ ns) ≡ all-of ms ++ given stop ns
 
   -- one message more
-  pub and-one : (ms : List Msg) (m : Msg) → Goes ms → all-of (ms ++ (m ∷ [])) ≡ all-of ms ++ gives-of m .events
+  and-one : (ms : List Msg) (m : Msg) → Goes ms → all-of (ms ++ (m ∷ [])) ≡ all-of ms ++ gives-of m .events
   unfolding given
-  and-one ms m g =
-      g (m ∷ [])
-      ∙ ap (λ (l : List Happened). all-of ms ++ l)
-      (ap (λ (l : List Happened). gives-of m .events ++ l) (none-either (gives-of m .ends)) ∙ append-nil (gives-of m .events))
+  and-one ms m g = g (m ∷ []) ∙ rw (none-either (gives-of m .ends), append-nil (gives-of m .events))
 
-  pub goes-behind : (ms : List Msg) (m : Msg) → Goes ms → gives-of m .ends ≡ false → Goes (ms ++ (m ∷ []))
+  goes-behind : (ms : List Msg) (m : Msg) → Goes ms → gives-of m .ends ≡ false → Goes (ms ++ (m ∷ []))
   unfolding given
   goes-behind ms m g e ns =
-      let b : all-of (ms ++ (m ∷ ns)) ≡ all-of ms ++ (gives-of m .events ++ given stop ns) =
-      g (m ∷ ns) ∙ ap (λ (l : List Happened). all-of ms ++ (gives-of m .events ++ l)) (simp e) in
-      ap all-of (append-assoc ms (m ∷ []) ns)
-      ∙ (b ∙ (sym (append-assoc (all-of ms) (gives-of m .events) (given stop ns)) ∙ ap (λ (l : List Happened). l ++ given stop ns) (sym (and-one ms m g))))
+      let b : all-of (ms ++ (m ∷ ns)) ≡ all-of ms ++ (gives-of m .events ++ given stop ns) = g (m ∷ ns) ∙ simp e in
+      rw (append-assoc ms (m ∷ []) ns, b, and-one ms m g, append-assoc (all-of ms) (gives-of m .events) (given stop ns))
 
   -- all that the last message has to hand on is handed on, whatever steps follow
   abbrev pub Settled : List Msg → List Told → Type 0
   Settled ms ws = (us : List Told) → offered (last-of ms) false (drop 1 (ws ++ us)) ≡ last-of ms
 
-  pub none-settled : (ms : List Msg) (ws : List Told) → last-of ms ≡ [] → Settled ms ws
+  none-settled : (ms : List Msg) (ws : List Told) → last-of ms ≡ [] → Settled ms ws
   none-settled ms ws e us = rw e (nothing-offered false (drop 1 (ws ++ us)))
 
-  pub settled-all : (ms : List Msg) (ws : List Told) → Settled ms ws → all-of ms ≡ read-off ms ws
+  settled-all : (ms : List Msg) (ws : List Told) → Settled ms ws → all-of ms ≡ read-off ms ws
   settled-all ms ws h =
-      let e : offered (last-of ms) false (drop 1 ws) ≡ last-of ms = ap (λ (l : List Told). offered (last-of ms) false (drop 1 l)) (sym (append-nil ws)) ∙ h [] in
+      let e : offered (last-of ms) false (drop 1 ws) ≡ last-of ms = rw append-nil at (h []) in
       sym (ap (λ (l : List Happened). all-of (front ms) ++ l) e ∙ split ms)
 
--- ---- before the CopyBothResponse
-
-module _ (stop : Option ℕ) where
-  -- it has not come among these
-  abbrev pub Unopened : List Msg → Type 0
-  Unopened ms = (ns : List Msg) → eventsOf stop true (ms ++ ns) ≡ eventsOf stop true ns
-
-  pub none-opened : (ms : List Msg) → Unopened ms → eventsOf stop true ms ≡ []
-  unfolding given behindOpening
-  none-opened ms h = ap (eventsOf stop true) (sym (append-nil ms)) ∙ h []
-
-  pub skipped : (ms : List Msg) (m : Msg) → Unopened ms → isCopyBothResponse (m .0) ≡ false → isError (m .0) ≡ false → Unopened (ms ++ (m ∷ []))
-  unfolding behindOpening
-  skipped ms m h a b ns = ap (eventsOf stop true) (append-assoc ms (m ∷ []) ns) ∙ (h (m ∷ ns) ∙ simp (a, b))
-
-  pub opened : (ms : List Msg) (m : Msg) → Unopened ms → isCopyBothResponse (m .0) ≡ true
-      → (eventsOf stop true (ms ++ (m ∷ [])) ≡ []) × Goes stop true (ms ++ (m ∷ []))
-  unfolding behindOpening given
-  opened ms m h a =
-      let e : eventsOf stop true (ms ++ (m ∷ [])) ≡ [] = h (m ∷ []) ∙ simp a in (e, λ ns. behind-it e ns)
+  settled-grown : (ms : List Msg) (ws : List Told) (x : Told) → Settled ms ws → Settled ms (grown x ws)
+  settled-grown ms ws x h = by (isRefusedEarly (x .refusal))
     where
-      behind-it : eventsOf stop true (ms ++ (m ∷ [])) ≡ [] → Goes stop true (ms ++ (m ∷ []))
-      behind-it e ns =
-          let b : eventsOf stop true (m ∷ ns) ≡ given stop ns = simp a in
-          ap (eventsOf stop true) (append-assoc ms (m ∷ []) ns)
-          ∙ (h (m ∷ ns) ∙ (b ∙ ap (λ (l : List Happened). l ++ given stop ns) (sym e)))
+      by : (b : Bool) → Settled ms (pick b ws (ws ++ (x ∷ [])))
+      by true us = h us
+      by false us = rw (append-assoc ws (x ∷ []) us) (h (x ∷ us))
 
-  pub refused-opening : (ms : List Msg) (m : Msg) → Unopened ms → isCopyBothResponse (m .0) ≡ false → isError (m .0) ≡ true
-      → eventsOf stop true (ms ++ (m ∷ [])) ≡ []
-  unfolding behindOpening given
-  refused-opening ms m h a b = h (m ∷ []) ∙ simp (a, b)
+  -- ---- where the events stand, by state
+
+  -- no CopyBothResponse among these messages
+  abbrev pub Unopened : List Msg → Type 0
+  Unopened ms = (ns : List Msg) → all-of (ms ++ ns) ≡ all-of ns
+
+  -- Opening: nothing is handed on yet
+  pub record Before (ms : List Msg) (ws : List Told) (es : List Happened) : Type 0 where
+    pub begun : opening ≡ true
+    pub none : es ≡ []
+    pub yet : Unopened ms
+
+  -- Turn, Drain, Reading, Waiting: the events of all messages are handed on
+  pub record Going (ms : List Msg) (ws : List Told) (es : List Happened) : Type 0 where
+    pub all : es ≡ all-of ms
+    pub goes : Goes ms
+    pub settled : Settled ms ws
+
+  -- Handling: .. of all messages before the one that is to be handled
+  pub record Held (ms : List Msg) (es : List Happened) : Type 0 where
+    pub all : es ≡ all-of ms
+    pub goes : Goes ms
+
+  -- Offering: some of the last message's events are gone, the next is offered, its parts in the payload buffer p
+  pub record Offers (o : Offer) (p : List ℕ) (ms : List Msg) (ws : List Told) (es : List Happened) : Type 0 where
+    pub gone : List Happened
+    pub e : Happened
+    pub event : happenedBy (o .event) p ≡ e ∷ []
+    pub last : last-of ms ≡ gone ++ (e ∷ following o)
+    pub handed : es ≡ all-of (front ms) ++ gone
+    pub law : (us : List Told) → offered (gone ++ (e ∷ following o)) false (drop 1 (ws ++ us)) ≡ gone ++ offered (e ∷ following o) (o .stalled) us
+    pub goes : o .stops ≡ false → isStoppedAt (o .event) ≡ false → Goes ms
+
+  -- Ended: what was handed on is what the plain reading reads off
+  abbrev pub Over : List Msg → List Told → List Happened → Type 0
+  Over ms ws es = es ≡ read-off ms ws
+
+  -- ---- what was handed on so far is what is read off
+
+  -- where nothing is given
+  none-over : (ms : List Msg) (ws : List Told) (es : List Happened) → es ≡ [] → all-of ms ≡ [] → Over ms ws es
+  none-over ms ws es h e = h ∙ (sym e ∙ settled-all ms ws (none-settled ms ws (none-last ms e)))
+
+  module _ {ms : List Msg} {ws : List Told} {es : List Happened} where
+    pub before-reads : Before ms ws es → Over ms ws es
+    unfolding given behindOpening
+    before-reads b = none-over ms ws es (b .none) (rw append-nil at (b .yet []) ∙ rw (b .begun))
+
+    pub going-reads : Going ms ws es → Over ms ws es
+    going-reads g = g .all ∙ settled-all ms ws (g .settled)
+
+    pub offers-reads : {o : Offer} {p : List ℕ} → Offers o p ms ws es → Over ms ws es
+    offers-reads {o} h =
+        let k : offered (last-of ms) false (drop 1 ws) ≡ h .gone =
+        rw (h .last) (rw append-nil at (h .law []) ∙ rw (none-later (h .e ∷ following o) (o .stalled), append-nil (h .gone))) in
+        rw k (h .handed)
+
+  pub held-reads : {ms : List Msg} {es : List Happened} (m : Msg) → Held ms es → Over (ms ++ (m ∷ [])) [] es
+  held-reads {ms} m h = rw (none-later (last-of (ms ++ (m ∷ []))) false, append-nil (all-of (front (ms ++ (m ∷ [])))), front-of ms m) (h .all)
+
+  -- ---- one step more, no message more
+
+  module _ {ms : List Msg} {ws : List Told} {es : List Happened} (x : Told) where
+    pub before-on : Before ms ws es → Before ms (grown x ws) (es ++ [])
+    before-on b = record { begun = b .begun; none = append-nil es ∙ b .none; yet = b .yet }
+
+    pub before-over : Before ms ws es → Over ms (grown x ws) (es ++ [])
+    before-over b = before-reads (before-on b)
+
+    pub going-on : Going ms ws es → Going ms (grown x ws) (es ++ [])
+    going-on g = record { all = append-nil es ∙ g .all; goes = g .goes; settled = settled-grown ms ws x (g .settled) }
+
+    pub going-over : Going ms ws es → Over ms (grown x ws) (es ++ [])
+    going-over g = going-reads (going-on g)
+
+  -- ---- a step that makes a message whole
+
+  module _ {ms : List Msg} {ws : List Told} {es : List Happened} where
+    pub going-held : Going ms ws es → Held ms (es ++ [])
+    going-held g = record { all = append-nil es ∙ g .all; goes = g .goes }
+
+    module _ (m : Msg) (b : Before ms ws es) where
+      pub before-skips : isCopyBothResponse (m .0) ≡ false → isError (m .0) ≡ false → Before (ms ++ (m ∷ [])) [] (es ++ [])
+      unfolding behindOpening
+      before-skips c d =
+          record {
+            begun = b .begun;
+            none = append-nil es ∙ b .none;
+            yet = λ ns. rw (append-assoc ms (m ∷ []) ns) (b .yet (m ∷ ns) ∙ simp (b .begun, c, d));
+          }
+
+      pub before-error : isCopyBothResponse (m .0) ≡ false → isError (m .0) ≡ true → Over (ms ++ (m ∷ [])) [] (es ++ [])
+      unfolding behindOpening given
+      before-error c d = none-over (ms ++ (m ∷ [])) [] (es ++ []) (append-nil es ∙ b .none) (b .yet (m ∷ []) ∙ simp (b .begun, c, d))
+
+      pub before-goes : isCopyBothResponse (m .0) ≡ true → Going (ms ++ (m ∷ [])) [] (es ++ [])
+      unfolding behindOpening given
+      before-goes c =
+          let a : all-of (ms ++ (m ∷ [])) ≡ [] = b .yet (m ∷ []) ∙ simp (b .begun, c) in
+          record {
+            all = append-nil es ∙ (b .none ∙ sym a);
+            goes = λ ns. rw (a, append-assoc ms (m ∷ []) ns) (b .yet (m ∷ ns) ∙ simp (b .begun, c));
+            settled = none-settled (ms ++ (m ∷ [])) [] (none-last (ms ++ (m ∷ [])) a);
+          }
+
+  -- ---- a step that handles a message
+
+  module _ (m : Msg) (x : Told) {ms : List Msg} {es : List Happened} (h : Held ms es) where
+    abbrev ns : List Msg
+    ns = ms ++ (m ∷ [])
+
+    handled-none : gives-of m .events ≡ [] → (es ++ [] ≡ all-of ns) × ((ws : List Told) → Settled ns ws)
+    handled-none e =
+        let a : all-of ns ≡ all-of ms ++ [] = and-one ms m (h .goes) ∙ rw e in
+        (ap (λ (l : List Happened). l ++ []) (h .all) ∙ sym a, λ ws. none-settled ns ws (last-is ms m [] a))
+
+    pub handled-over : gives-of m .events ≡ [] → Over ns (grown x []) (es ++ [])
+    handled-over e = let k = handled-none e in k .0 ∙ settled-all ns (grown x []) (k .1 (grown x []))
+
+    pub handled-back : gives-of m ≡ gives [] false → Going ns (grown x []) (es ++ [])
+    handled-back e =
+        let k = handled-none (ap (λ (y : Gives). y .events) e) in
+        record { all = k .0; goes = goes-behind ms m (h .goes) (ap (λ (y : Gives). y .ends) e); settled = k .1 (grown x []) }
+
+    -- an event is offered, and what follows it
+    pub handled-offer : (o : Offer) (p : List ℕ) (e : Happened) → o .stalled ≡ false → happenedBy (o .event) p ≡ e ∷ []
+        → gives-of m ≡ gives (e ∷ following o) (o .stops) → Offers o p ns (x ∷ []) (es ++ [])
+    handled-offer o p e f ev g =
+        record {
+          gone = [];
+          e = e;
+          event = ev;
+          last = last-is ms m (e ∷ following o) (and-one ms m (h .goes) ∙ ap (λ (y : Gives). all-of ms ++ y .events) g);
+          handed = rw front-of (ap (λ (l : List Happened). l ++ []) (h .all));
+          law = λ us. rw f refl;
+          goes = λ c d. goes-behind ms m (h .goes) (ap (λ (y : Gives). y .ends) g ∙ c);
+        }
+
+  -- ---- a step that offers an event
+
+  module _ (x : Told) {o : Offer} {p : List ℕ} {ms : List Msg} {ws : List Told} {es : List Happened} (h : Offers o p ms ws es) where
+    -- what is still to be handed on
+    abbrev left : List Happened
+    left = h .e ∷ following o
+
+    -- the law, one step on
+    next-law : (us : List Told) → offered (h .gone ++ left) false (drop 1 ((ws ++ (x ∷ [])) ++ us)) ≡ h .gone ++ offered left (o .stalled) (x ∷ us)
+    next-law us = rw (append-assoc ws (x ∷ []) us) (h .law (x ∷ us))
+
+    -- the run ends now; fs of what was left was handed on by then
+    offers-over : (fs : List Happened) → offered left (o .stalled) (x ∷ []) ≡ fs → Over ms (ws ++ (x ∷ [])) (es ++ fs)
+    offers-over fs e =
+        let a : offered (last-of ms) false (drop 1 (ws ++ (x ∷ []))) ≡ h .gone ++ fs = rw (h .last) (h .law (x ∷ []) ∙ rw e) in
+        rw (a, h .handed, append-assoc (all-of (front ms)) (h .gone) fs)
+
+    -- a stop request cuts it off
+    pub cut-off : isCutOff x (o .stalled) ≡ true → Over ms (ws ++ (x ∷ [])) (es ++ [])
+    unfolding offered
+    cut-off c = offers-over [] (simp c)
+
+    -- the queue is full, and it waits
+    pub waits-on : isCutOff x (o .stalled) ≡ false → x .queue ≡ Full
+        → Offers (offer (o .event) true (o .stops) (o .reached)) p ms (ws ++ (x ∷ [])) (es ++ [])
+    unfolding offered
+    waits-on c q =
+        record {
+          gone = h .gone;
+          e = h .e;
+          event = h .event;
+          last = h .last;
+          handed = append-nil es ∙ h .handed;
+          law = λ us. next-law us ∙ ap (λ (l : List Happened). h .gone ++ l) (simp c (simp q));
+          goes = h .goes;
+        }
+
+    -- the queue takes it
+    module _ (c : isCutOff x (o .stalled) ≡ false) (q : x .queue ≡ Free) where
+      taken-law : (us : List Told) → offered left (o .stalled) (x ∷ us) ≡ h .e ∷ offered (following o) false us
+      unfolding offered
+      taken-law us = simp c (simp q)
+
+      pub hands-last : Over ms (ws ++ (x ∷ [])) (es ++ happenedBy (o .event) p)
+      hands-last = rw (h .event) (offers-over (h .e ∷ []) (taken-law [] ∙ rw (none-later (following o) false)))
+
+      handed-now : es ++ happenedBy (o .event) p ≡ all-of (front ms) ++ (h .gone ++ (h .e ∷ []))
+      handed-now = rw (h .event, h .handed) (append-assoc (all-of (front ms)) (h .gone) (h .e ∷ []))
+
+      -- StoppedAt follows
+      pub hands-then-stopped : o .stops ≡ true
+          → Offers (offer (StoppedAt (o .reached)) false false (lsn 0)) p ms (ws ++ (x ∷ [])) (es ++ happenedBy (o .event) p)
+      hands-then-stopped y =
+          let after : List Happened = H.stoppedAt (o .reached .0) ∷ [] in
+          let f : following o ≡ after = simp y in
+          let j : (l : List Happened) → h .gone ++ (h .e ∷ l) ≡ (h .gone ++ (h .e ∷ [])) ++ l = λ l. sym (append-assoc (h .gone) (h .e ∷ []) l) in
+          record {
+            gone = h .gone ++ (h .e ∷ []);
+            e = H.stoppedAt (o .reached .0);
+            event = refl;
+            last = h .last ∙ (ap (λ (l : List Happened). h .gone ++ (h .e ∷ l)) f ∙ j after);
+            handed = handed-now;
+            law = λ us.
+                rw (← j after, ← f)
+                (next-law us ∙ (ap (λ (l : List Happened). h .gone ++ l) (taken-law us) ∙ j (offered (following o) false us)));
+            goes = λ a b. let w : _≡_ {A = Bool} true false = b in impossible cc;
+          }
+
+      -- nothing follows
+      pub hands-and-goes : o .stops ≡ false → isStoppedAt (o .event) ≡ false → Going ms (ws ++ (x ∷ [])) (es ++ happenedBy (o .event) p)
+      hands-and-goes y k =
+          let f : following o ≡ [] = simp y in
+          let l : last-of ms ≡ h .gone ++ (h .e ∷ []) = h .last ∙ rw f in
+          record {
+            all = handed-now ∙ (rw (← l) (split ms));
+            goes = h .goes y k;
+            settled = λ us. rw (h .last) (next-law us ∙ rw (taken-law us, f, nothing-offered false us));
+          }

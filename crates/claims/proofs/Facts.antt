@@ -1,4 +1,5 @@
--- What a run remembers is what the calls tell.
+-- What a run remembers, until it ends, is what the calls tell: at first, behind a report, a refused step and a status, and by what else a step
+-- changes. Rows takes these for each row of the step, Kept for any list of calls.
 use mathlib.Core.Path.{_≡_, refl, ap, _∙_}
 use mathlib.Core.Bool.{Bool, true, false}
 use mathlib.Core.List.{List, [], _∷_}
@@ -22,6 +23,7 @@ use Rattle.claims.specs.Plain.{isRefusedEarly}
 use Rattle.claims.specs.Past.{Past, a-step, a-report, confirmedOf, lastAccepted, hasSent, sentAt, sentPosition, waitBegan, pendingOf, signalledOf, drainedOf, fullBefore, stoppedNext}
 
 pub record Facts : Type 0 where
+  pub settings : Settings
   pub last : Moment
   pub wait : Moment
   pub at : Moment
@@ -34,9 +36,10 @@ pub record Facts : Type 0 where
   pub stalled : Bool
   pub stopped : Bool
 
-abbrev pub facts : Moment → Moment → Moment → Lsn → Lsn → Bool → Bool → ℕ → Bool → Bool → Bool → Facts
-facts last wait at applied position signalled sent drained pending stalled stopped =
+abbrev facts : Settings → Moment → Moment → Moment → Lsn → Lsn → Bool → Bool → ℕ → Bool → Bool → Bool → Facts
+facts settings last wait at applied position signalled sent drained pending stalled stopped =
     record {
+      settings = settings;
       last = last;
       wait = wait;
       at = at;
@@ -53,17 +56,18 @@ facts last wait at applied position signalled sent drained pending stalled stopp
 -- as a run remembers them
 abbrev pub factsBy : Run → Facts
 factsBy r =
-    facts (r .clock .last) (r .clock .«wait_began») (r .status .at) (r .progress .applied) (r .status .position) (r .progress .signalled) (r .status .sent)
-    (r .drained) (r .pending) (r .offer .stalled) (isStoppedAt (r .offer .event))
+    facts (r .settings) (r .clock .last) (r .clock .«wait_began») (r .status .at) (r .progress .applied) (r .status .position) (r .progress .signalled)
+    (r .status .sent) (r .drained) (r .pending) (r .offer .stalled) (isStoppedAt (r .offer .event))
 
--- as the calls tell them
-abbrev pub factsOf : Lsn → List Past → Facts
-factsOf start h =
-    facts (lastAccepted h) (waitBegan h) (sentAt h) (confirmedOf start h) (sentPosition start h) (signalledOf start h) (hasSent h)
+-- as the calls tell them; who unfolds it unfolds what they tell
+unfoldable pub factsOf : Settings → Lsn → List Past → Facts
+unfolding lastAccepted waitBegan sentAt confirmedOf sentPosition signalledOf hasSent drainedOf pendingOf fullBefore stoppedNext
+factsOf s start h =
+    facts s (lastAccepted h) (waitBegan h) (sentAt h) (confirmedOf start h) (sentPosition start h) (signalledOf start h) (hasSent h)
     (drainedOf h) (pendingOf start h) (fullBefore h) (stoppedNext h)
 
-pub fresh-facts : (s : Settings) (state : State) (start : Lsn) → factsBy (freshRun s state start) ≡ factsOf start []
-unfolding freshRun lastAccepted waitBegan sentAt confirmedOf sentPosition signalledOf hasSent drainedOf pendingOf fullBefore stoppedNext
+pub fresh-facts : (s : Settings) (state : State) (start : Lsn) → factsBy (freshRun s state start) ≡ factsOf s start []
+unfolding freshRun factsOf
 fresh-facts s state start = refl
 
 -- ---- a report
@@ -71,7 +75,7 @@ fresh-facts s state start = refl
 -- the position rises with a signal, or nothing changes
 abbrev raised : Lsn → Facts → Facts
 raised p f =
-    facts (f .last) (f .wait) (f .at) (pick (isBelow (f .applied) p) p (f .applied)) (f .position) (pick (isBelow (f .applied) p) true (f .signalled)) (f .sent)
+    facts (f .settings) (f .last) (f .wait) (f .at) (pick (isBelow (f .applied) p) p (f .applied)) (f .position) (pick (isBelow (f .applied) p) true (f .signalled)) (f .sent)
     (f .drained) (f .pending) (f .stalled) (f .stopped)
 
 raise-cell : (c : ProgressCell) (p : Lsn) (m : Moment)
@@ -79,32 +83,32 @@ raise-cell : (c : ProgressCell) (p : Lsn) (m : Moment)
 unfolding raiseOf
 raise-cell c p m = by-test (isBelow (c .applied) p) (λ e. (simp e, simp e)) (λ e. (simp e, simp e))
 
-pub report-facts : (start : Lsn) (h : List Past) (r : Run) (p : Lsn) (m : Moment) → factsBy r ≡ factsOf start h → factsBy (reportOf r p m) ≡ factsOf start (a-report p ∷ h)
-unfolding reportOf lastAccepted waitBegan sentAt confirmedOf sentPosition signalledOf hasSent drainedOf pendingOf fullBefore stoppedNext
-report-facts start h r p m e =
+pub report-facts : (s : Settings) (start : Lsn) (h : List Past) (r : Run) (p : Lsn) (m : Moment) → factsBy r ≡ factsOf s start h
+    → factsBy (reportOf r p m) ≡ factsOf s start (a-report p ∷ h)
+unfolding reportOf factsOf
+report-facts s start h r p m e =
     let c = raise-cell (r .progress) p m in
-    let a : factsBy (reportOf r p m) ≡ raised p (factsBy r) =
-    ap (λ (x : Lsn). facts (r .clock .last) (r .clock .«wait_began») (r .status .at) x (r .status .position) (raiseOf (r .progress) p m .cell .signalled) (r .status .sent) (r .drained) (r .pending) (r .offer .stalled) (isStoppedAt (r .offer .event))) (c .0)
-    ∙ ap (λ (x : Bool). facts (r .clock .last) (r .clock .«wait_began») (r .status .at) (pick (isBelow (r .progress .applied) p) p (r .progress .applied)) (r .status .position) x (r .status .sent) (r .drained) (r .pending) (r .offer .stalled) (isStoppedAt (r .offer .event))) (c .1) in
+    let a : factsBy (reportOf r p m) ≡ raised p (factsBy r) = rw (c .0, c .1) in
     a ∙ ap (raised p) e
 
 -- ---- a step refused with 2 to 5
 
-pub early-facts : (start : Lsn) (h : List Past) (i : Input) (state : State) (n : ℕ) → isRefusedEarly n ≡ true → factsOf start (a-step i state state n 0 ∷ h) ≡ factsOf start h
-unfolding lastAccepted waitBegan sentAt confirmedOf sentPosition signalledOf hasSent drainedOf pendingOf fullBefore stoppedNext
-early-facts start h i Opening n e = simp e
-early-facts start h i Turn n e = simp e
-early-facts start h i Drain n e = simp e
-early-facts start h i Reading n e = simp e
-early-facts start h i Waiting n e = simp e
-early-facts start h i Handling n e = simp e
-early-facts start h i Offering n e = simp e
-early-facts start h i Ended n e = simp e
+pub early-facts : (s : Settings) (start : Lsn) (h : List Past) (i : Input) (state : State) (n : ℕ) → isRefusedEarly n ≡ true
+    → factsOf s start (a-step i state state n 0 ∷ h) ≡ factsOf s start h
+unfolding factsOf
+early-facts s start h i Opening n e = simp e
+early-facts s start h i Turn n e = simp e
+early-facts s start h i Drain n e = simp e
+early-facts s start h i Reading n e = simp e
+early-facts s start h i Waiting n e = simp e
+early-facts s start h i Handling n e = simp e
+early-facts s start h i Offering n e = simp e
+early-facts s start h i Ended n e = simp e
 
 -- ---- a status
 
 -- the position is kept, and the signal
-pub status-cell : (b : Bool) (c : ProgressCell) (p : Lsn) (m : Moment)
+status-cell : (b : Bool) (c : ProgressCell) (p : Lsn) (m : Moment)
     → (pick b (reportedOf c p m .cell) c .applied ≡ c .applied) × (pick b (reportedOf c p m .cell) c .signalled ≡ c .signalled)
 unfolding reportedOf
 status-cell true c p m = (refl, refl)
@@ -113,33 +117,31 @@ status-cell false c p m = (refl, refl)
 -- a status was sent now
 abbrev pub with-status : Moment → Facts → Facts
 with-status m f =
-    facts m (f .wait) m (f .applied) (f .applied) (f .signalled) true (f .drained) (f .pending) (f .stalled) (f .stopped)
+    facts (f .settings) m (f .wait) m (f .applied) (f .applied) (f .signalled) true (f .drained) (f .pending) (f .stalled) (f .stopped)
 
 pub confirmed-facts : (r : Run) (m : Moment) → factsBy (confirmed (accepted m r)) ≡ with-status m (factsBy r)
 confirmed-facts r m =
-    let b : Bool = takesPending (accepted m r) in
-    let c = status-cell b (r .progress) (r .progress .applied) m in
-    ap (λ (x : Lsn). facts m (r .clock .«wait_began») m x (r .progress .applied) (pick b (reportedOf (r .progress) (r .progress .applied) m .cell) (r .progress) .signalled) true (r .drained) (r .pending) (r .offer .stalled) (isStoppedAt (r .offer .event))) (c .0)
-    ∙ ap (λ (x : Bool). facts m (r .clock .«wait_began») m (r .progress .applied) (r .progress .applied) x true (r .drained) (r .pending) (r .offer .stalled) (isStoppedAt (r .offer .event))) (c .1)
+    let c = status-cell (takesPending (accepted m r)) (r .progress) (r .progress .applied) m in
+    rw (c .0, c .1)
 
 -- ---- what else a step changes
 
 -- a step was accepted
 abbrev pub at-moment : Moment → Facts → Facts
 at-moment m f =
-    facts m (f .wait) (f .at) (f .applied) (f .position) (f .signalled) (f .sent) (f .drained) (f .pending) (f .stalled) (f .stopped)
+    facts (f .settings) m (f .wait) (f .at) (f .applied) (f .position) (f .signalled) (f .sent) (f .drained) (f .pending) (f .stalled) (f .stopped)
 
 -- so many are drained
 abbrev pub with-drained : ℕ → Facts → Facts
 with-drained d f =
-    facts (f .last) (f .wait) (f .at) (f .applied) (f .position) (f .signalled) (f .sent) d (f .pending) (f .stalled) (f .stopped)
+    facts (f .settings) (f .last) (f .wait) (f .at) (f .applied) (f .position) (f .signalled) (f .sent) d (f .pending) (f .stalled) (f .stopped)
 
 -- the wait begins
 abbrev pub with-wait : Moment → Facts → Facts
 with-wait m f =
-    facts m m (f .at) (f .applied) (f .position) false (f .sent) (f .drained) (pick (f .sent) (isBelow (f .position) (f .applied)) true) (f .stalled) (f .stopped)
+    facts (f .settings) m m (f .at) (f .applied) (f .position) false (f .sent) (f .drained) (pick (f .sent) (isBelow (f .position) (f .applied)) true) (f .stalled) (f .stopped)
 
 -- an event is offered, at its first try or not, StoppedAt or not
 abbrev pub with-offer : Bool → Bool → Facts → Facts
 with-offer stalled stopped f =
-    facts (f .last) (f .wait) (f .at) (f .applied) (f .position) (f .signalled) (f .sent) (f .drained) (f .pending) stalled stopped
+    facts (f .settings) (f .last) (f .wait) (f .at) (f .applied) (f .position) (f .signalled) (f .sent) (f .drained) (f .pending) stalled stopped

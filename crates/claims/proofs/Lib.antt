@@ -4,10 +4,8 @@ pub mod Account
 pub mod Course
 pub mod Spans
 pub mod Standing
-pub mod Moves
-pub mod Offers
-pub mod HandsOn
 pub mod Facts
-pub mod Table
-pub mod TableOffers
+pub mod Rows
+pub mod Kept
+pub mod HandsOn
 pub mod Condition3
