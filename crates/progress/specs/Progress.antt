@@ -1,6 +1,5 @@
 -- Progress: the position that a status would confirm, the signal and the pending moment. Document 01, "Progress": each call is one whole
 -- operation. A pending moment of 0 stands for none.
-use Prim.Native.Nat.{ℕ}
 use mathlib.Core.Bool.{Bool, true, false, not}
 use lib.Dec.{eqb}
 use Rattle.wire.specs.Bytes.{pick}

@@ -5,12 +5,6 @@ use borrow.Author.Needs.{needs}
 use Rattle.progress.proofs.ProgressCell.raise.Statement.{statement}
 use Rattle.progress.proofs.ProgressCell.raise.Tie as tie
 
-is-below-requires : tie.Need-is-below-requires
-is-below-requires c κs = search needs
-
-stored-requires : tie.Need-stored-requires
-stored-requires c κs = search needs
-
 returns : tie.Need-returns
 unfolding raiseOf
 returns c = simp (sym (c .before .before .before .is-below .ensures) ∙ c .before .before .if1 .taken) (rw (c .before .stored .ensures))
@@ -20,4 +14,4 @@ unfolding raiseOf
 returns-2 c = simp (sym (c .before .is-below .ensures) ∙ c .if1 .left)
 
 pub raise-spec : {M : Type 1} → statement M
-raise-spec = tie.close (tie.spec is-below-requires stored-requires returns returns-2)
+raise-spec = tie.close (tie.spec (search needs) (search needs) returns returns-2)

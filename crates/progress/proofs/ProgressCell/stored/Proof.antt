@@ -4,9 +4,6 @@ use borrow.Author.Needs.{needs}
 use Rattle.progress.proofs.ProgressCell.stored.Statement.{statement}
 use Rattle.progress.proofs.ProgressCell.stored.Tie as tie
 
-is-none-requires : tie.Need-is-none-requires
-is-none-requires c κs = search needs
-
 returns : tie.Need-returns
 returns c = simp (c .before .before .if1 .taken, sym (c .before .is-none .ensures) ∙ c .if2 .taken)
 
@@ -17,4 +14,4 @@ returns-3 : tie.Need-returns-3
 returns-3 c = simp (c .if1 .left)
 
 pub stored-spec : {M : Type 1} → statement M
-stored-spec = tie.close (tie.spec is-none-requires returns returns-2 returns-3)
+stored-spec = tie.close (tie.spec (search needs) returns returns-2 returns-3)

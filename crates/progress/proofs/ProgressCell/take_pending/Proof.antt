@@ -5,9 +5,6 @@ use borrow.Author.Needs.{needs}
 use Rattle.progress.proofs.ProgressCell.take_pending.Statement.{statement}
 use Rattle.progress.proofs.ProgressCell.take_pending.Tie as tie
 
-is-below-requires : tie.Need-is-below-requires
-is-below-requires c κs = search needs
-
 returns : tie.Need-returns
 unfolding reportedOf
 returns c = rw (sym (c .before .is-below .ensures) ∙ c .if1 .taken)
@@ -17,4 +14,4 @@ unfolding reportedOf
 returns-2 c = rw (sym (c .before .is-below .ensures) ∙ c .if1 .left)
 
 pub take-pending-spec : {M : Type 1} → statement M
-take-pending-spec = tie.close (tie.spec is-below-requires returns returns-2)
+take-pending-spec = tie.close (tie.spec (search needs) returns returns-2)

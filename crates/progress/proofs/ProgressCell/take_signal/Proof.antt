@@ -1,7 +1,6 @@
-use Rattle.progress.specs.Progress.{lookedOf}
 -- One field set.
+use Rattle.progress.specs.Progress.{lookedOf}
 use mathlib.Core.Path.{refl}
-use lib.ListN.{set}
 use Rattle.progress.proofs.ProgressCell.take_signal.Statement.{statement}
 use Rattle.progress.proofs.ProgressCell.take_signal.Tie as tie
 
