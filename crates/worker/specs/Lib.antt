@@ -3,4 +3,3 @@ pub mod Run
 pub mod Step
 pub mod Opening
 pub mod Answer
-pub mod Request

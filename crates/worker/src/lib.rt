@@ -6,7 +6,6 @@ mod ends;
 mod handle;
 mod offered;
 mod receive;
-mod request;
 mod rounds;
 pub mod session;
 mod status;

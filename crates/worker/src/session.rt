@@ -16,7 +16,6 @@ use crate::Verdict;
 use crate::Whole;
 use crate::changes::offer;
 use crate::changes::with_progress;
-use crate::request::start_replication;
 use crate::steps::is_ended;
 use error::Refusal;
 use error::Written;
@@ -26,6 +25,7 @@ use lsn::Lsn;
 use metrics::Metrics;
 use moment::Moment;
 use progress::ProgressCell;
+use request::start_replication;
 
 // A run before its first step.
 fn fresh_run(settings: Settings, state: State, start: Lsn) -> Run
@@ -92,7 +92,7 @@ pub fn open(
             written: Written::Refused(Refusal::IntervalTooLong),
         };
     }
-    let written = start_replication(settings, slot, publications, position, out);
+    let written = start_replication(settings.binary, slot, publications, position, out);
     Opened { run, written }
 }
 

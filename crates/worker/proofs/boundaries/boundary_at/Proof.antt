@@ -15,28 +15,10 @@ returns c =
     let h : length (c .before .before .args .payload .now) ≤ c .before .before .args .from = omega arith in
     rw (drop-of-length-le (c .before .before .args .payload .now) h, take-nil (c .before .before .args .len))
 
-sub-boundary-in : tie.Need-sub-boundary-in
-sub-boundary-in c = search needs
-
-part-boundary-in-start : tie.Need-part-boundary-in-start
-part-boundary-in-start c = search needs
-
-part-boundary-in-end : tie.Need-part-boundary-in-end
-part-boundary-in-end c = search needs
-
-boundary-in-requires : tie.Need-boundary-in-requires
-boundary-in-requires c κs = search needs
-
 returns-2 : tie.Need-returns-2
-returns-2 c = c .boundary-in .ensures ∙ rw (tail-whole (c .before .before .before .before .args .payload .now) (c .before .before .before .before .args .from))
+returns-2 c =
+    let start = c .before .before .before .before in
+    c .boundary-in .ensures ∙ rw (tail-whole (start .args .payload .now) (start .args .from))
 
 pub boundary-at-spec : {M : Type 1} → statement M
-boundary-at-spec =
-    tie.close
-    (tie.spec
-    returns
-    sub-boundary-in
-    part-boundary-in-start
-    part-boundary-in-end
-    boundary-in-requires
-    returns-2)
+boundary-at-spec = tie.close (tie.spec returns (search needs) (search needs) (search needs) (search needs) returns-2)

@@ -6,23 +6,11 @@ use borrow.Author.Needs.{needs}
 use Rattle.worker.proofs.boundaries.boundary_in.Statement.{statement}
 use Rattle.worker.proofs.boundaries.boundary_in.Tie as tie
 
-least-requires : tie.Need-least-requires
-least-requires c κs = search needs
-
 slice-aggregate-parse-pgoutput-boundary : tie.Need-slice-aggregate-parse-pgoutput-boundary
 slice-aggregate-parse-pgoutput-boundary c = simp length-take (omega arith)
-
-parse-pgoutput-boundary-requires : tie.Need-parse-pgoutput-boundary-requires
-parse-pgoutput-boundary-requires c κs = search needs
 
 returns : tie.Need-returns
 returns c = c .parse-pgoutput-boundary .ensures ∙ rw (c .before .before .least .ensures, take-least)
 
 pub boundary-in-spec : {M : Type 1} → statement M
-boundary-in-spec =
-    tie.close
-    (tie.spec
-    least-requires
-    slice-aggregate-parse-pgoutput-boundary
-    parse-pgoutput-boundary-requires
-    returns)
+boundary-in-spec = tie.close (tie.spec (search needs) slice-aggregate-parse-pgoutput-boundary (search needs) returns)

@@ -1,4 +1,4 @@
--- Signed fields are read back as they were since they fit; prefix and content lie within the payload.
+-- Signed fields are read back as they were since they fit.
 use mathlib.Core.Path.{sym, _∙_}
 use lib.ListN.{drop, length-take, length-drop}
 use native.Mathlib.Omega.{arith}
@@ -10,24 +10,7 @@ use borrow.Author.Needs.{needs}
 use Rattle.worker.proofs.boundaries.xlog_data.Statement.{statement}
 use Rattle.worker.proofs.boundaries.xlog_data.Tie as tie
 
-boundary-at-requires : tie.Need-boundary-at-requires
-boundary-at-requires c κs = search needs
-
-enum-known-final-lsn : tie.Need-enum-known-final-lsn
-enum-known-final-lsn c = search needs
-
-begin-requires : tie.Need-begin-requires
-begin-requires c κs = search needs
-
-enum-known-lsn : tie.Need-enum-known-lsn
-enum-known-lsn c = search needs
-
-commit-requires : tie.Need-commit-requires
-commit-requires c κs = search needs
-
-enum-known-transactional : tie.Need-enum-known-transactional
-enum-known-transactional c = search needs
-
+-- prefix and content lie within the payload, so that their places fit
 add-prefix : tie.Need-add-prefix
 add-prefix c =
     let a = c .before .before .before .before .before .args in
@@ -40,59 +23,43 @@ add-content c =
     let m = parts-within _ _ _ _ _ _ _ (sym (rw (c .before .transactional .given .1) at (c .before .before .before .boundary-at .ensures))) in
     omega (arith, length-take (a .len) (drop (a .from) (a .payload .now)), length-drop (a .from) (a .payload .now))
 
-offers-at-requires : tie.Need-offers-at-requires
-offers-at-requires c κs = search needs
-
-enum-told : tie.Need-enum-told
-enum-told c = search needs
-
-other-requires : tie.Need-other-requires
-other-requires c κs = search needs
-
-enum-known-refusal : tie.Need-enum-known-refusal
-enum-known-refusal c = search needs
-
-ended-requires : tie.Need-ended-requires
-ended-requires c κs = search needs
-
 returns : tie.Need-returns
 returns c = λ u o.
-    c .begin .ensures (lent u _ o) ∙ rw (← c .before .before .before .before .boundary-at .ensures, c .before .before .final-lsn .given .1, toZ-ofZ w64 (c .before .before .final-lsn .given .0 .1 .0) (record { sfits = c .before .known-told .given .1 .0 .1 }))
+    c .begin .ensures (lent u _ o) ∙ rw (
+      ← c .before .before .before .before .boundary-at .ensures,
+      c .before .before .final-lsn .given .1,
+      toZ-ofZ w64 (c .before .before .final-lsn .given .0 .1 .0) (record { sfits = c .before .known-told .given .1 .0 .1 }),
+    )
 
 returns-2 : tie.Need-returns-2
 returns-2 c = λ u o.
-    c .commit .ensures (lent u _ o) ∙ rw (← c .before .before .before .before .boundary-at .ensures, c .before .before .lsn .given .1, toZ-ofZ w64 (c .before .before .lsn .given .0 .1 .1 .0) (record { sfits = c .before .known-told2 .given .1 .1 .0 .1 }))
+    c .commit .ensures (lent u _ o) ∙ rw (
+      ← c .before .before .before .before .boundary-at .ensures,
+      c .before .before .lsn .given .1,
+      toZ-ofZ w64 (c .before .before .lsn .given .0 .1 .1 .0) (record { sfits = c .before .known-told2 .given .1 .1 .0 .1 }),
+    )
 
 returns-3 : tie.Need-returns-3
-returns-3 c = λ u o. c .offers-at .ensures (lent u _ o) ∙ rw (← c .before .before .before .before .boundary-at .ensures, c .before .before .transactional .given .1)
+returns-3 c = λ u o.
+    c .offers-at .ensures (lent u _ o) ∙ rw (← c .before .before .before .before .boundary-at .ensures, c .before .before .transactional .given .1)
 
 returns-4 : tie.Need-returns-4
 returns-4 c = λ u o.
+    let start = c .before .before .before .before .before in
     c .other .ensures (lent u _ o)
-    ∙ rw (← c .before .before .before .boundary-at .ensures, c .before .enum-told .given .1, toZ-ofZ w64 (c .before .before .before .before .before .args .server-time) (c .before .before .before .before .before .fits .server-time))
+    ∙ rw (
+      ← c .before .before .before .boundary-at .ensures,
+      c .before .enum-told .given .1,
+      toZ-ofZ w64 (start .args .server-time) (start .fits .server-time),
+    )
 
 returns-5 : tie.Need-returns-5
-returns-5 c = λ u o. rw (← c .before .before .before .before .boundary-at .ensures, c .before .before .refusal .given .1) (c .ended .ensures (lent u _ o))
+returns-5 c = λ u o.
+    rw (← c .before .before .before .before .boundary-at .ensures, c .before .before .refusal .given .1) (c .ended .ensures (lent u _ o))
 
 pub xlog-data-spec : {M : Type 1} → statement M
 xlog-data-spec =
     tie.close
-    (tie.spec
-    boundary-at-requires
-    enum-known-final-lsn
-    begin-requires
-    enum-known-lsn
-    commit-requires
-    enum-known-transactional
-    add-prefix
-    add-content
-    offers-at-requires
-    enum-told
-    other-requires
-    enum-known-refusal
-    ended-requires
-    returns
-    returns-2
-    returns-3
-    returns-4
-    returns-5)
+    (tie.spec (search needs) (search needs) (search needs) (search needs) (search needs) (search needs) add-prefix
+    add-content (search needs) (search needs) (search needs) (search needs) (search needs) returns returns-2 returns-3
+    returns-4 returns-5)

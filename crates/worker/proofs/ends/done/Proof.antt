@@ -3,15 +3,6 @@ use borrow.Author.Needs.{needs}
 use Rattle.worker.proofs.ends.done.Statement.{statement}
 use Rattle.worker.proofs.ends.done.Tie as tie
 
-write-copy-done-requires : tie.Need-write-copy-done-requires
-write-copy-done-requires c κs = search needs
-
-with-state-requires : tie.Need-with-state-requires
-with-state-requires c κs = search needs
-
-same-length : tie.Need-same-length
-same-length c = search needs
-
 returns : tie.Need-returns
 returns c = λ u p.
     let w = c .before .before .before .write-copy-done in
@@ -19,4 +10,4 @@ returns c = λ u p.
     rw (c .with-state .ensures, done-written _ _ _ (a .pre) (w .ensures))
 
 pub done-spec : {M : Type 1} → statement M
-done-spec = tie.close (tie.spec write-copy-done-requires with-state-requires same-length returns)
+done-spec = tie.close (tie.spec (search needs) (search needs) (search needs) returns)

@@ -6,19 +6,11 @@ use borrow.Author.Needs.{needs}
 use Rattle.worker.proofs.handle.copy_data_in.Statement.{statement}
 use Rattle.worker.proofs.handle.copy_data_in.Tie as tie
 
-least-requires : tie.Need-least-requires
-least-requires c κs = search needs
-
 slice-aggregate-parse-copy-data : tie.Need-slice-aggregate-parse-copy-data
 slice-aggregate-parse-copy-data c = simp length-take (omega arith)
-
-parse-copy-data-requires : tie.Need-parse-copy-data-requires
-parse-copy-data-requires c κs = search needs
 
 returns : tie.Need-returns
 returns c = c .parse-copy-data .ensures ∙ rw (c .before .before .least .ensures, take-least)
 
 pub copy-data-in-spec : {M : Type 1} → statement M
-copy-data-in-spec =
-    tie.close
-    (tie.spec least-requires slice-aggregate-parse-copy-data parse-copy-data-requires returns)
+copy-data-in-spec = tie.close (tie.spec (search needs) slice-aggregate-parse-copy-data (search needs) returns)

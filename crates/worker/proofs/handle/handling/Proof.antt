@@ -4,56 +4,38 @@ use borrow.Author.Needs.{needs}
 use Rattle.worker.proofs.handle.handling.Statement.{statement}
 use Rattle.worker.proofs.handle.handling.Tie as tie
 
-is-error-requires : tie.Need-is-error-requires
-is-error-requires c κs = search needs
-
-ended-requires : tie.Need-ended-requires
-ended-requires c κs = search needs
-
 returns : tie.Need-returns
 unfolding handlingOf
 returns c = λ u. rw (← c .before .before .is-error .ensures, c .before .if1 .taken) (c .ended .ensures (lent u _ _))
 
-is-copy-data-requires : tie.Need-is-copy-data-requires
-is-copy-data-requires c κs = search needs
-
-copy-data-in-requires : tie.Need-copy-data-in-requires
-copy-data-in-requires c κs = search needs
-
-copy-data-requires : tie.Need-copy-data-requires
-copy-data-requires c κs = search needs
-
-same-length : tie.Need-same-length
-same-length c = search needs
-
 returns-2 : tie.Need-returns-2
 unfolding handlingOf
 returns-2 c = λ u.
-    rw (← c .before .before .before .before .before .before .before .before .is-error .ensures, c .before .before .before .before .before .before .before .if1 .left, ← c .before .before .before .before .before .before .is-copy-data .ensures, c .before .before .before .before .before .if2 .taken, ← c .before .before .before .before .copy-data-in .ensures) (c .before .before .copy-data .ensures u)
-
-back-requires : tie.Need-back-requires
-back-requires c κs = search needs
-
-moved-requires : tie.Need-moved-requires
-moved-requires c κs = search needs
+    let at-copy-data-in = c .before .before .before .before in
+    let at-if1 = at-copy-data-in .before .before .before in
+    rw (
+      ← at-if1 .before .is-error .ensures,
+      at-if1 .if1 .left,
+      ← at-copy-data-in .before .before .is-copy-data .ensures,
+      at-copy-data-in .before .if2 .taken,
+      ← at-copy-data-in .copy-data-in .ensures,
+    ) (c .before .before .copy-data .ensures u)
 
 returns-3 : tie.Need-returns-3
 unfolding handlingOf
 returns-3 c = λ u.
-    rw (← c .before .before .before .before .before .is-error .ensures, c .before .before .before .before .if1 .left, ← c .before .before .before .is-copy-data .ensures, c .before .before .if2 .left, ← c .before .back .ensures) (c .moved .ensures (lent u _ _))
+    let at-if2 = c .before .before in
+    let at-if1 = at-if2 .before .before in
+    rw (
+      ← at-if1 .before .is-error .ensures,
+      at-if1 .if1 .left,
+      ← at-if2 .before .is-copy-data .ensures,
+      at-if2 .if2 .left,
+      ← c .before .back .ensures,
+    ) (c .moved .ensures (lent u _ _))
 
 pub handling-spec : {M : Type 1} → statement M
 handling-spec =
     tie.close
-    (tie.spec
-    is-error-requires
-    ended-requires
-    returns
-    is-copy-data-requires
-    copy-data-in-requires
-    copy-data-requires
-    same-length
-    returns-2
-    back-requires
-    moved-requires
-    returns-3)
+    (tie.spec (search needs) (search needs) returns (search needs) (search needs) (search needs) (search needs)
+    returns-2 (search needs) (search needs) returns-3)

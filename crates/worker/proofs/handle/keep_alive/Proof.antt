@@ -6,39 +6,25 @@ use borrow.Author.Needs.{needs}
 use Rattle.worker.proofs.handle.keep_alive.Statement.{statement}
 use Rattle.worker.proofs.handle.keep_alive.Tie as tie
 
-offers-requires : tie.Need-offers-requires
-offers-requires c κs = search needs
-
-with-reply-requires : tie.Need-with-reply-requires
-with-reply-requires c κs = search needs
-
-send-feedback-requires : tie.Need-send-feedback-requires
-send-feedback-requires c κs = search needs
-
-same-length : tie.Need-same-length
-same-length c = search needs
-
 returns : tie.Need-returns
 returns c = λ u p.
+    let at-with-reply = c .before .before .before .before in
+    let start = at-with-reply .before .before .before .before in
     c .before .before .send-feedback .ensures u p
-    ∙ rw (c .before .before .before .before .with-reply .ensures, c .before .before .before .before .before .before .offers .ensures, toZ-ofZ w64 (c .before .before .before .before .before .before .before .before .args .server-time) (c .before .before .before .before .before .before .before .before .fits .server-time), c .before .before .before .before .before .if1 .taken)
-
-moved-requires : tie.Need-moved-requires
-moved-requires c κs = search needs
+    ∙ rw (
+      at-with-reply .with-reply .ensures,
+      at-with-reply .before .before .offers .ensures,
+      toZ-ofZ w64 (start .args .server-time) (start .fits .server-time),
+      at-with-reply .before .if1 .taken,
+    )
 
 returns-2 : tie.Need-returns-2
 returns-2 c = λ u p.
+    let start = c .before .before .before .before in
     c .moved .ensures (lent u p _)
-    ∙ rw (c .before .before .offers .ensures, toZ-ofZ w64 (c .before .before .before .before .args .server-time) (c .before .before .before .before .fits .server-time), c .before .if1 .left)
+    ∙ rw (c .before .before .offers .ensures, toZ-ofZ w64 (start .args .server-time) (start .fits .server-time), c .before .if1 .left)
 
 pub keep-alive-spec : {M : Type 1} → statement M
 keep-alive-spec =
     tie.close
-    (tie.spec
-    offers-requires
-    with-reply-requires
-    send-feedback-requires
-    same-length
-    returns
-    moved-requires
-    returns-2)
+    (tie.spec (search needs) (search needs) (search needs) (search needs) returns (search needs) returns-2)

@@ -2,17 +2,11 @@ use borrow.Author.Needs.{needs}
 use Rattle.worker.proofs.offered.back.Statement.{statement}
 use Rattle.worker.proofs.offered.back.Tie as tie
 
-with-state-requires : tie.Need-with-state-requires
-with-state-requires c κs = search needs
-
 returns : tie.Need-returns
 returns c = rw (c .with-state .ensures, c .before .if1 .taken)
-
-with-state-requires-2 : tie.Need-with-state-requires-2
-with-state-requires-2 c κs = search needs
 
 returns-2 : tie.Need-returns-2
 returns-2 c = rw (c .with-state2 .ensures, c .before .if1 .left)
 
 pub back-spec : {M : Type 1} → statement M
-back-spec = tie.close (tie.spec with-state-requires returns with-state-requires-2 returns-2)
+back-spec = tie.close (tie.spec (search needs) returns (search needs) returns-2)

@@ -2,24 +2,6 @@ use borrow.Author.Needs.{needs}
 use Rattle.worker.proofs.receive.opening_by.Statement.{statement}
 use Rattle.worker.proofs.receive.opening_by.Tie as tie
 
-enum-told : tie.Need-enum-told
-enum-told c = search needs
-
-moved-requires : tie.Need-moved-requires
-moved-requires c κs = search needs
-
-enum-known-answer : tie.Need-enum-known-answer
-enum-known-answer c = search needs
-
-greeted-requires : tie.Need-greeted-requires
-greeted-requires c κs = search needs
-
-enum-known-answer-2 : tie.Need-enum-known-answer-2
-enum-known-answer-2 c = search needs
-
-ended-requires : tie.Need-ended-requires
-ended-requires c κs = search needs
-
 returns : tie.Need-returns
 returns c = λ l. rw (c .before .enum-told .given .1) (c .moved .ensures l)
 
@@ -32,13 +14,5 @@ returns-3 c = λ l. rw (c .before .before .answer2 .given .1) (c .ended .ensures
 pub opening-by-spec : {M : Type 1} → statement M
 opening-by-spec =
     tie.close
-    (tie.spec
-    enum-told
-    moved-requires
-    enum-known-answer
-    greeted-requires
-    enum-known-answer-2
-    ended-requires
-    returns
-    returns-2
-    returns-3)
+    (tie.spec (search needs) (search needs) (search needs) (search needs) (search needs) (search needs) returns
+    returns-2 returns-3)

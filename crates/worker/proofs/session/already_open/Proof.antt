@@ -3,12 +3,6 @@ use borrow.Author.Needs.{needs}
 use Rattle.worker.proofs.session.already_open.Statement.{statement}
 use Rattle.worker.proofs.session.already_open.Tie as tie
 
-fresh-run-requires : tie.Need-fresh-run-requires
-fresh-run-requires c κs = search needs
-
-bad-interval-requires : tie.Need-bad-interval-requires
-bad-interval-requires c κs = search needs
-
 returns : tie.Need-returns
 unfolding alreadyOpenOf
 returns c = rw (c .before .before .fresh-run .ensures, ← c .before .bad-interval .ensures, c .if1 .taken)
@@ -18,4 +12,4 @@ unfolding alreadyOpenOf
 returns-2 c = rw (c .before .before .fresh-run .ensures, ← c .before .bad-interval .ensures, c .if1 .left)
 
 pub already-open-spec : {M : Type 1} → statement M
-already-open-spec = tie.close (tie.spec fresh-run-requires bad-interval-requires returns returns-2)
+already-open-spec = tie.close (tie.spec (search needs) (search needs) returns returns-2)

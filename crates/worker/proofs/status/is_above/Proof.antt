@@ -2,14 +2,8 @@ use borrow.Author.Needs.{needs}
 use Rattle.worker.proofs.status.is_above.Statement.{statement}
 use Rattle.worker.proofs.status.is_above.Tie as tie
 
-is-below-requires : tie.Need-is-below-requires
-is-below-requires c κs = search needs
-
 returns : tie.Need-returns
 returns c = rw (c .is-below .ensures) (simp (c .before .before .if1 .taken))
 
-returns-2 : tie.Need-returns-2
-returns-2 c = search needs
-
 pub is-above-spec : {M : Type 1} → statement M
-is-above-spec = tie.close (tie.spec is-below-requires returns returns-2)
+is-above-spec = tie.close (tie.spec (search needs) returns (λ c. search needs))

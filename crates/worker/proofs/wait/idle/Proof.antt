@@ -3,31 +3,13 @@ use borrow.Author.Needs.{needs}
 use Rattle.worker.proofs.wait.idle.Statement.{statement}
 use Rattle.worker.proofs.wait.idle.Tie as tie
 
-idle-passed-requires : tie.Need-idle-passed-requires
-idle-passed-requires c κs = search needs
-
-send-feedback-requires : tie.Need-send-feedback-requires
-send-feedback-requires c κs = search needs
-
-same-length : tie.Need-same-length
-same-length c = search needs
-
 returns : tie.Need-returns
-returns c = λ u p. rw (← c .before .before .before .before .before .idle-passed .ensures, c .before .before .before .before .if1 .taken) (c .before .before .send-feedback .ensures u p)
-
-moved-requires : tie.Need-moved-requires
-moved-requires c κs = search needs
+returns c = λ u p.
+    let at-if1 = c .before .before .before .before in
+    rw (← at-if1 .before .idle-passed .ensures, at-if1 .if1 .taken) (c .before .before .send-feedback .ensures u p)
 
 returns-2 : tie.Need-returns-2
 returns-2 c = λ u p. rw (← c .before .before .idle-passed .ensures, c .before .if1 .left) (c .moved .ensures (lent u p _))
 
 pub idle-spec : {M : Type 1} → statement M
-idle-spec =
-    tie.close
-    (tie.spec
-    idle-passed-requires
-    send-feedback-requires
-    same-length
-    returns
-    moved-requires
-    returns-2)
+idle-spec = tie.close (tie.spec (search needs) (search needs) (search needs) returns (search needs) returns-2)

@@ -1,6 +1,6 @@
-use Rattle.worker.specs.Request.{endText}
-use Rattle.worker.proofs.request.end_len.Statement.{statement}
-use Rattle.worker.proofs.request.end_len.Tie as tie
+use Rattle.request.specs.Request.{endText}
+use Rattle.request.proofs.end_len.Statement.{statement}
+use Rattle.request.proofs.end_len.Tie as tie
 
 returns : tie.Need-returns
 unfolding endText
