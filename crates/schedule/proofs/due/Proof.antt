@@ -14,19 +14,13 @@ returns-2 : tie.Need-returns-2
 unfolding dueOf
 returns-2 c = simp (ne-eqb _ _ (c .before .before .if1 .left)) (omega arith)
 
-sub-if3 : tie.Need-sub-if3
-sub-if3 c = search needs
-
 returns-3 : tie.Need-returns-3
 unfolding dueOf
 returns-3 c = simp (ne-eqb _ _ (c .before .before .before .before .if1 .left)) (omega arith)
-
-add-result : tie.Need-add-result
-add-result c = search needs
 
 returns-4 : tie.Need-returns-4
 unfolding dueOf
 returns-4 c = simp (ne-eqb _ _ (c .before .before .before .before .before .if1 .left)) (omega arith)
 
 pub due-spec : {M : Type 1} → statement M
-due-spec = tie.close (tie.spec returns returns-2 sub-if3 returns-3 add-result returns-4)
+due-spec = tie.close (tie.spec returns returns-2 (search needs) returns-3 (search needs) returns-4)

@@ -9,12 +9,9 @@ returns : tie.Need-returns
 unfolding isWhole
 returns c = simp (lt-ltb _ _ (c .if1 .taken))
 
-least-requires : tie.Need-least-requires
-least-requires c κs = search needs
-
 returns-2 : tie.Need-returns-2
 unfolding isWhole
 returns-2 c = rw (c .least .ensures) (simp (le-ltb _ _ (c .before .if1 .left)))
 
 pub is-whole-spec : {M : Type 1} → statement M
-is-whole-spec = tie.close (tie.spec returns least-requires returns-2)
+is-whole-spec = tie.close (tie.spec returns (search needs) returns-2)

@@ -4,21 +4,6 @@ use borrow.Author.Needs.{needs}
 use Rattle.schedule.proofs.offering.Statement.{statement}
 use Rattle.schedule.proofs.offering.Tie as tie
 
-enum-told : tie.Need-enum-told
-enum-told c = search needs
-
-enum-told-2 : tie.Need-enum-told-2
-enum-told-2 c = search needs
-
-enum-told-3 : tie.Need-enum-told-3
-enum-told-3 c = search needs
-
-due-requires : tie.Need-due-requires
-due-requires c κs = search needs
-
-by-clock-requires : tie.Need-by-clock-requires
-by-clock-requires c κs = search needs
-
 returns : tie.Need-returns
 unfolding offeringNext
 returns c = rw (c .enum-told .given .1)
@@ -34,12 +19,4 @@ returns-3 c = rw (c .by-clock .ensures, c .before .due .ensures, c .before .befo
 pub offering-spec : {M : Type 1} → statement M
 offering-spec =
     tie.close
-    (tie.spec
-    enum-told
-    enum-told-2
-    enum-told-3
-    due-requires
-    by-clock-requires
-    returns
-    returns-2
-    returns-3)
+    (tie.spec (search needs) (search needs) (search needs) (search needs) (search needs) returns returns-2 returns-3)

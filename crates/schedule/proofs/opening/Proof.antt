@@ -9,29 +9,42 @@ returns : tie.Need-returns
 unfolding openingNext
 returns c = simp (c .if1 .taken)
 
-is-whole-requires : tie.Need-is-whole-requires
-is-whole-requires c κs = search needs
-
-tag-of-requires : tie.Need-tag-of-requires
-tag-of-requires c κs = search needs
-
-is-copy-both-response-requires : tie.Need-is-copy-both-response-requires
-is-copy-both-response-requires c κs = search needs
-
 returns-2 : tie.Need-returns-2
 unfolding openingNext
-returns-2 c = rw (← c .before .before .tag-of .ensures) (simp (c .before .before .before .before .before .before .if1 .left, sym (c .before .before .before .before .before .is-whole .ensures) ∙ c .before .before .before .before .if2 .taken, sym (c .before .is-copy-both-response .ensures) ∙ c .if3 .taken))
-
-is-error-requires : tie.Need-is-error-requires
-is-error-requires c κs = search needs
+returns-2 c =
+    let at-if2 = c .before .before .before .before in
+    let at-if1 = at-if2 .before .before in
+    rw (← c .before .before .tag-of .ensures) (simp (
+      at-if1 .if1 .left,
+      sym (at-if2 .before .is-whole .ensures) ∙ at-if2 .if2 .taken,
+      sym (c .before .is-copy-both-response .ensures) ∙ c .if3 .taken,
+    ))
 
 returns-3 : tie.Need-returns-3
 unfolding openingNext
-returns-3 c = rw (← c .before .before .before .before .tag-of .ensures) (simp (c .before .before .before .before .before .before .before .before .if1 .left, sym (c .before .before .before .before .before .before .before .is-whole .ensures) ∙ c .before .before .before .before .before .before .if2 .taken, sym (c .before .before .before .is-copy-both-response .ensures) ∙ c .before .before .if3 .left, sym (c .before .is-error .ensures) ∙ c .if4 .taken))
+returns-3 c =
+    let at-if3 = c .before .before in
+    let at-if2 = at-if3 .before .before .before .before in
+    let at-if1 = at-if2 .before .before in
+    rw (← at-if3 .before .before .tag-of .ensures) (simp (
+      at-if1 .if1 .left,
+      sym (at-if2 .before .is-whole .ensures) ∙ at-if2 .if2 .taken,
+      sym (at-if3 .before .is-copy-both-response .ensures) ∙ at-if3 .if3 .left,
+      sym (c .before .is-error .ensures) ∙ c .if4 .taken,
+    ))
 
 returns-4 : tie.Need-returns-4
 unfolding openingNext
-returns-4 c = rw (← c .before .before .before .before .tag-of .ensures) (simp (c .before .before .before .before .before .before .before .before .if1 .left, sym (c .before .before .before .before .before .before .before .is-whole .ensures) ∙ c .before .before .before .before .before .before .if2 .taken, sym (c .before .before .before .is-copy-both-response .ensures) ∙ c .before .before .if3 .left, sym (c .before .is-error .ensures) ∙ c .if4 .left))
+returns-4 c =
+    let at-if3 = c .before .before in
+    let at-if2 = at-if3 .before .before .before .before in
+    let at-if1 = at-if2 .before .before in
+    rw (← at-if3 .before .before .tag-of .ensures) (simp (
+      at-if1 .if1 .left,
+      sym (at-if2 .before .is-whole .ensures) ∙ at-if2 .if2 .taken,
+      sym (at-if3 .before .is-copy-both-response .ensures) ∙ at-if3 .if3 .left,
+      sym (c .before .is-error .ensures) ∙ c .if4 .left,
+    ))
 
 returns-5 : tie.Need-returns-5
 unfolding openingNext
@@ -40,13 +53,5 @@ returns-5 c = simp (c .before .before .if1 .left, sym (c .before .is-whole .ensu
 pub opening-spec : {M : Type 1} → statement M
 opening-spec =
     tie.close
-    (tie.spec
-    returns
-    is-whole-requires
-    tag-of-requires
-    is-copy-both-response-requires
-    returns-2
-    is-error-requires
-    returns-3
-    returns-4
+    (tie.spec returns (search needs) (search needs) (search needs) returns-2 (search needs) returns-3 returns-4
     returns-5)

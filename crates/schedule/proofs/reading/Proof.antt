@@ -9,9 +9,6 @@ returns : tie.Need-returns
 unfolding readingNext
 returns c = simp (c .if1 .taken)
 
-is-whole-requires : tie.Need-is-whole-requires
-is-whole-requires c κs = search needs
-
 returns-2 : tie.Need-returns-2
 unfolding readingNext
 returns-2 c = simp (c .before .before .if1 .left, sym (c .before .is-whole .ensures) ∙ c .if2 .taken)
@@ -21,4 +18,4 @@ unfolding readingNext
 returns-3 c = simp (c .before .before .if1 .left, sym (c .before .is-whole .ensures) ∙ c .if2 .left)
 
 pub reading-spec : {M : Type 1} → statement M
-reading-spec = tie.close (tie.spec returns is-whole-requires returns-2 returns-3)
+reading-spec = tie.close (tie.spec returns (search needs) returns-2 returns-3)
