@@ -297,10 +297,7 @@ fn has_room(run: Run, moment: Moment, payload_len: usize, out_len: usize, len: u
         return false;
     }
     if moment.is_in_range() {
-        if moment.is_before(run.clock.last) {
-            return false;
-        }
-        return true;
+        return !moment.is_before(run.clock.last);
     }
     false
 }
@@ -309,10 +306,7 @@ fn stops(run: Run, reached: Lsn) -> bool
     ensures { λ r. ⌜ r ≡ reaches run reached ⌝ }
 {
     if run.settings.has_stop {
-        if reached.is_below(run.settings.stop_at_lsn) {
-            return false;
-        }
-        return true;
+        return !reached.is_below(run.settings.stop_at_lsn);
     }
     false
 }
@@ -336,10 +330,7 @@ pub fn applies(
     if is_free(queue) {
         if is_between(run) {
             if has_room(run, moment, payload_len, out_len, len) {
-                if stops(run, reached) {
-                    return false;
-                }
-                return true;
+                return !stops(run, reached);
             }
             return false;
         }

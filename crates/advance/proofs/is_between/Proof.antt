@@ -4,24 +4,28 @@ use borrow.Author.Needs.{needs}
 use Rattle.advance.proofs.is_between.Statement.{statement}
 use Rattle.advance.proofs.is_between.Tie as tie
 
-is-drain-requires : tie.Need-is-drain-requires
-is-drain-requires c κs = search needs
-
 returns : tie.Need-returns
 unfolding isBetween
-returns c = rw (← c .before .before .before .before .before .is-drain .ensures, c .before .before .before .before .if1 .taken, eq-eqb _ _ (c .before .if2 .taken), c .if3 .taken)
+returns c =
+    let at-if1 = c .before .before .before .before in
+    rw (← at-if1 .before .is-drain .ensures, at-if1 .if1 .taken, eq-eqb _ _ (c .before .if2 .taken), c .if3 .taken)
 
 returns-2 : tie.Need-returns-2
 unfolding isBetween
-returns-2 c = rw (← c .before .before .before .before .before .before .is-drain .ensures, c .before .before .before .before .before .if1 .taken, eq-eqb _ _ (c .before .before .if2 .taken), c .before .if3 .left)
+returns-2 c =
+    let at-if2 = c .before .before in
+    let at-if1 = at-if2 .before .before .before in
+    rw (← at-if1 .before .is-drain .ensures, at-if1 .if1 .taken, eq-eqb _ _ (at-if2 .if2 .taken), c .before .if3 .left)
 
 returns-3 : tie.Need-returns-3
 unfolding isBetween
-returns-3 c = rw (← c .before .before .before .before .is-drain .ensures, c .before .before .before .if1 .taken, ne-eqb _ _ (c .if2 .left))
+returns-3 c =
+    let at-if1 = c .before .before .before in
+    rw (← at-if1 .before .is-drain .ensures, at-if1 .if1 .taken, ne-eqb _ _ (c .if2 .left))
 
 returns-4 : tie.Need-returns-4
 unfolding isBetween
 returns-4 c = rw (← c .before .is-drain .ensures, c .if1 .left)
 
 pub is-between-spec : {M : Type 1} → statement M
-is-between-spec = tie.close (tie.spec is-drain-requires returns returns-2 returns-3 returns-4)
+is-between-spec = tie.close (tie.spec (search needs) returns returns-2 returns-3 returns-4)

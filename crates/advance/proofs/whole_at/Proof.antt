@@ -14,21 +14,6 @@ returns : tie.Need-returns
 unfolding wholeAt
 returns c = (rw (lt-ltb _ _ (c .if1 .taken)), omega arith)
 
-shared-slice-read-tag : tie.Need-shared-slice-read-tag
-shared-slice-read-tag c = search needs
-
-is-copy-data-requires : tie.Need-is-copy-data-requires
-is-copy-data-requires c κs = search needs
-
-read-u32-requires : tie.Need-read-u32-requires
-read-u32-requires c κs = search needs
-
-enum-known-n : tie.Need-enum-known-n
-enum-known-n c = search needs
-
-enum-told : tie.Need-enum-told
-enum-told c = search needs
-
 returns-2 : tie.Need-returns-2
 unfolding wholeAt
 returns-2 c =
@@ -37,19 +22,22 @@ returns-2 c =
     let z : _≡_ {A = ℕ} 0 1 = cc e in
     absurd (omega arith)
 
-cast-within : tie.Need-cast-within
-cast-within c = search needs
-
-within-requires : tie.Need-within-requires
-within-requires c κs = search needs
-
 returns-3 : tie.Need-returns-3
 unfolding wholeAt
 returns-3 c =
-    let u = c .before .before .before .before .before .before .before .before .before .before .args .unread .now in
-    let e : some (c .before .before .n .given .0 .0) ≡ some (be (at u 1 4)) = (rw (c .before .before .n .given .1) at (c .before .before .before .before .read-u32 .ensures)) ∙ field-whole 4 u 1 (omega arith) in
-    let v : c .before .before .n .given .0 .0 ≡ be (at u 1 4) = cc e in
-    (c .within .ensures .0 ∙ rw (v, le-ltb _ _ (c .before .before .before .before .before .before .before .before .if1 .left), ← c .before .before .before .before .before .before .is-copy-data .ensures, c .before .before .before .before .before .if2 .taken), c .within .ensures .1)
+    let at-read-u32 = c .before .before .before .before in
+    let at-if1 = at-read-u32 .before .before .before .before in
+    let u = at-if1 .before .before .args .unread .now in
+    let e : some (c .before .before .n .given .0 .0) ≡ some (be (at u 1 4)) = (rw (c .before .before .n .given .1) at (at-read-u32 .read-u32 .ensures)) ∙ field-whole 4 u 1 (omega arith) in
+    let v : c .before .before .n .given .0 .0 ≡ be (at u 1 4) = cc e in (
+      c .within .ensures .0 ∙ rw (
+        v,
+        le-ltb _ _ (at-if1 .if1 .left),
+        ← at-read-u32 .before .before .is-copy-data .ensures,
+        at-read-u32 .before .if2 .taken,
+      ),
+      c .within .ensures .1,
+    )
 
 returns-4 : tie.Need-returns-4
 unfolding wholeAt
@@ -58,15 +46,5 @@ returns-4 c = (rw (le-ltb _ _ (c .before .before .before .if1 .left), ← c .bef
 pub whole-at-spec : {M : Type 1} → statement M
 whole-at-spec =
     tie.close
-    (tie.spec
-    returns
-    shared-slice-read-tag
-    is-copy-data-requires
-    read-u32-requires
-    enum-known-n
-    enum-told
-    returns-2
-    cast-within
-    within-requires
-    returns-3
-    returns-4)
+    (tie.spec returns (search needs) (search needs) (search needs) (search needs) (search needs) returns-2
+    (search needs) (search needs) returns-3 returns-4)

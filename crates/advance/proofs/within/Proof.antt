@@ -13,19 +13,13 @@ returns-2 : tie.Need-returns-2
 unfolding within
 returns-2 c = (rw (le-ltb _ _ (c .before .if1 .left), le-leb _ _ (c .if2 .taken)), omega arith)
 
-add-if3 : tie.Need-add-if3
-add-if3 c = search needs
-
 returns-3 : tie.Need-returns-3
 unfolding within
 returns-3 c = (rw (le-ltb _ _ (c .before .before .if1 .left), lt-leb _ _ (c .before .if2 .left), lt-ltb _ _ (c .if3 .taken)), omega arith)
-
-sub-result : tie.Need-sub-result
-sub-result c = search needs
 
 returns-4 : tie.Need-returns-4
 unfolding within
 returns-4 c = (rw (le-ltb _ _ (c .before .before .if1 .left), lt-leb _ _ (c .before .if2 .left), le-ltb _ _ (c .if3 .left)), omega arith)
 
 pub within-spec : {M : Type 1} → statement M
-within-spec = tie.close (tie.spec returns returns-2 add-if3 returns-3 sub-result returns-4)
+within-spec = tie.close (tie.spec returns returns-2 (search needs) returns-3 (search needs) returns-4)
