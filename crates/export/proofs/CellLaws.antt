@@ -1,6 +1,6 @@
--- The words of a cell, where each call that makes one has answered it.
+-- What an exported call over a cell's words leaves, of what the calls in it answered.
 use mathlib.Core.Path.{_≡_, ap, _∙_}
-use mathlib.Core.List.{List, [], _∷_}
+use mathlib.Core.List.{List}
 use Prim.Native.Nat.{ℕ}
 use Rattle.lsn.specs.declared.Lsn.{Lsn}
 use Rattle.moment.specs.declared.Moment.{Moment}
@@ -9,16 +9,8 @@ use Rattle.progress.specs.declared.ProgressCell.{ProgressCell}
 use Rattle.progress.specs.declared.Raised.{Raised}
 use Rattle.progress.specs.declared.Reported.{Reported}
 use Rattle.progress.specs.Progress.{raiseOf, lookedOf, reportedOf, carriedOf}
-use Rattle.export.specs.Cells.{cellOf, raisedWords, lookedWords, reportedWords}
-use Rattle.export.specs.Words.{flagWord, progressWords}
-use Rattle.export.proofs.RoundTrip.{progress-back}
-
-pub cell-words-are : (c : ProgressCell) {f1 f2 : ℕ} → f1 ≡ flagWord (c .signalled) → f2 ≡ flagWord (c .timed)
-    → (_≡_ {A = List ℕ} (c .applied .0 ∷ f1 ∷ c .«pending_since» .0 ∷ f2 ∷ []) (progressWords c))
-    × (cellOf (c .applied .0 ∷ f1 ∷ c .«pending_since» .0 ∷ f2 ∷ []) ≡ c)
-cell-words-are c {f1} {f2} p q =
-    let words : _≡_ {A = List ℕ} (c .applied .0 ∷ f1 ∷ c .«pending_since» .0 ∷ f2 ∷ []) (progressWords c) = rw (p, q) in
-    (words, ap cellOf words ∙ progress-back c)
+use Rattle.words.specs.Cells.{cellOf, raisedWords, lookedWords, reportedWords}
+use Rattle.words.specs.Words.{flagWord, progressWords}
 
 -- the words that a cell leaves, for an equal cell
 pub made : {c z : ProgressCell} {ws : List ℕ} → c ≡ z → (ws ≡ progressWords c) × (cellOf ws ≡ c) → (ws ≡ progressWords z) × (cellOf ws ≡ z)

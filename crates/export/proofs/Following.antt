@@ -6,6 +6,7 @@ use Prim.Native.Nat.{ℕ, _+_, _-_, _≤_, _<_, _^_, min}
 use native.Mathlib.Omega.{arith}
 use lib.ListN.{length, getD, take, drop, length-take, length-drop}
 use lib.Dec.{eqb}
+use lib.IntN.{ℤ}
 use Rattle.wire.specs.Bytes.{pick, at, put, copied}
 use Rattle.wire.proofs.Laws.{tail-whole}
 use Rattle.framing.proofs.Laws.{copied-all}
@@ -21,8 +22,8 @@ use Rattle.advance.specs.declared.AtHand.{AtHand}
 use Rattle.advance.specs.Advance.{isNothing, tells, lentBehind, behind, twice, advanceOf}
 use Rattle.advance.specs.AtHand.{atHandOf, appliesOf, handedRun, handedOf}
 use Rattle.advance.proofs.FourSteps.{hands-on-at-once, applies-room}
-use Rattle.export.specs.Answers.{answerOf, tellsWords, takenWords, handedWords, steppedWords}
-use Rattle.export.specs.Words.{eventWords, runOf, wordsOf}
+use Rattle.words.specs.Answers.{inputOf, answerOf, tellsWords, takenWords, handedWords, steppedWords}
+use Rattle.words.specs.Words.{eventWords, runOf, wordsOf}
 
 nothing-by-kind : (e : Event) → eqb (getD (eventWords e) 0 0) 0 ≡ isNothing e
 nothing-by-kind Nothing = refl
@@ -35,6 +36,10 @@ nothing-by-kind (StoppedAt reached) = refl
 
 tells-by-words : (o : Outcome) (a : List ℕ) → a ≡ answerOf (o .refusal) (o .taken) (o .written) (o .waited) (o .event) → tellsWords a ≡ tells o
 tells-by-words o a e = rw e (ap (λ (b : Bool). pick (eqb (o .refusal) 0) (pick (eqb (o .written) 0) (not b) true) true) (nothing-by-kind (o .event)))
+
+-- a signed number that a call reads back as it was
+pub same-input : (m : ℕ) {t u : ℤ} (stop : Bool) (queue : ℕ) (ended : Bool) → t ≡ u → inputOf m t stop queue ended ≡ inputOf m u stop queue ended
+same-input m stop queue ended e = ap (λ (t : ℤ). inputOf m t stop queue ended) e
 
 -- what a call over words leaves: its words, answer, payload buffer and output, and the run that the words stand for
 abbrev Leaves : Outcome → List ℕ → List ℕ → List ℕ → List ℕ → Type 0

@@ -1,4 +1,1 @@
-pub mod Words
-pub mod Answers
-pub mod Cells
-pub mod Startup
+pub mod NextWords

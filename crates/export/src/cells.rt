@@ -4,35 +4,14 @@ ghost use mathlib.Core.Path.{_≡_};
 ghost use mathlib.Core.Bool.{false};
 ghost use Rattle.progress.specs.Progress.{cell as cellBy, noMoment, raiseOf, lookedOf, reportedOf, carriedOf};
 ghost use Rattle.worker.specs.Run.{lsn};
-ghost use Rattle.export.specs.Cells.{cellOf, raisedWords, lookedWords, reportedWords};
-ghost use Rattle.export.specs.Words.{moment as momentOf, progressWords};
-use crate::words::flag;
-use crate::words::flag_of;
+ghost use Rattle.words.specs.Cells.{cellOf, raisedWords, lookedWords, reportedWords};
+ghost use Rattle.words.specs.Words.{moment as momentOf, progressWords};
 use lsn::Lsn;
 use moment::Moment;
 use progress::ProgressCell;
-
-fn cell_of(w: [u64; 4]) -> ProgressCell
-    ensures { λ r. ⌜ r ≡ cellOf w ⌝ }
-{
-    ProgressCell {
-        applied: Lsn(w[0]),
-        signalled: flag_of(w[1]),
-        pending_since: Moment(w[2]),
-        timed: flag_of(w[3]),
-    }
-}
-
-fn cell_words(c: ProgressCell) -> [u64; 4]
-    ensures { λ r. ⌜ (r ≡ progressWords c) × (cellOf r ≡ c) ⌝ }
-{
-    [
-        c.applied.0,
-        flag(c.signalled),
-        c.pending_since.0,
-        flag(c.timed),
-    ]
-}
+use words::cell::cell_of;
+use words::cell::cell_words;
+use words::word::flag;
 
 // A new cell. With timing it keeps the moment of the first raise that no status has covered.
 #[no_mangle]

@@ -1,10 +1,8 @@
 // Functions for a host in Rust or C: a run is 48 lent words, bytes are lent slices. No words are refused: any are the words of some run.
 // `kept`: the words at exit stand for the run that the call leaves, so calls over words are calls over runs.
-mod answers;
 mod cells;
 mod several;
 mod startup;
-mod words;
 
 ghost use mathlib.Core.Path.{_≡_};
 ghost use lib.ListN.{length};
@@ -13,36 +11,37 @@ ghost use Rattle.lossy.specs.Lossy.{lossyOf};
 ghost use Rattle.lsn.specs.Position.{displayOf, positionOf};
 ghost use Rattle.messages.specs.ErrorText.{errorText};
 ghost use Rattle.messages.specs.Fields.{fieldsOf};
-ghost use Rattle.schedule.specs.NextStep.{nextStepOf};
+ghost use Rattle.schedule.specs.NextStep.{nextBy, nextStepOf};
 ghost use Rattle.advance.specs.Advance.{advanceOf};
 ghost use Rattle.worker.specs.Answer.{errorPartOf, lent};
 ghost use Rattle.worker.specs.Opening.{alreadyOpenOf, openOf, reportOf};
 ghost use Rattle.worker.specs.Run.{lsn};
 ghost use Rattle.worker.specs.Step.{stepOf};
-ghost use Rattle.export.specs.Answers.{queueOf, inputOf, steppedWords, openedWords, alreadyOpenWords, nextWords, errorWords};
-ghost use Rattle.export.specs.Words.{moment as momentOf, stateWord, settingsOf, metricsWords, lastStatusWords, runOf, wordsOf};
-use answers::answer_words;
-use answers::error_words;
-use answers::input_of;
-use answers::lossy_reply;
-use answers::next_words;
-use answers::parsed_reply;
-use answers::queue_of;
-use answers::verdict_word;
-use answers::written_reply;
+ghost use Rattle.export.specs.NextWords.{nextWords};
+ghost use Rattle.words.specs.Answers.{queueOf, inputOf, steppedWords, openedWords, alreadyOpenWords, errorWords};
+ghost use Rattle.words.specs.Words.{moment as momentOf, stateWord, settingsOf, metricsWords, lastStatusWords, runOf, wordsOf};
 use lsn::Lsn;
 use moment::Moment;
+use schedule::NextStep;
 use several::four_steps;
-use several::handed_words;
-use words::last_status_of;
-use words::last_status_words;
-use words::metrics_of;
-use words::metrics_words;
-use words::run_of;
-use words::settings_of;
-use words::state_of;
-use words::state_word;
-use words::words_of;
+use words::answers::answer_words;
+use words::answers::error_words;
+use words::answers::handed_words;
+use words::answers::input_of;
+use words::answers::lossy_reply;
+use words::answers::parsed_reply;
+use words::answers::queue_of;
+use words::answers::verdict_word;
+use words::answers::written_reply;
+use words::run::last_status_of;
+use words::run::last_status_words;
+use words::run::metrics_of;
+use words::run::metrics_words;
+use words::run::run_of;
+use words::run::settings_of;
+use words::run::state_of;
+use words::run::state_word;
+use words::run::words_of;
 
 // Writes the query that opens a stream. Refused, the run's words are as they were.
 #[no_mangle]
@@ -166,6 +165,17 @@ pub extern "C" fn rufflesquash_report(run: &mut [u64; 48], position: u64, moment
 {
     let before = run_of(*run);
     *run = words_of(worker::session::report(before, Lsn(position), Moment(moment)));
+}
+
+fn next_words(next: NextStep) -> [u64; 2]
+    ensures { λ r. ⌜ r ≡ nextWords (nextBy next) ⌝ }
+{
+    match next {
+        NextStep::AtOnce => [0, 0],
+        NextStep::From(m) => [1, m.0],
+        NextStep::OnInput => [2, 0],
+        NextStep::Never => [3, 0],
+    }
 }
 
 // When to step again while nothing new comes: 0 at once, 1 from a moment on, 2 when something comes, 3 never; and the moment.

@@ -4,43 +4,11 @@ ghost use Prim.Native.Nat.{min};
 ghost use Rattle.advance.specs.Advance.{twice, advanceOf};
 ghost use Rattle.worker.specs.Answer.{lent};
 ghost use Rattle.worker.specs.Step.{stepOf};
-ghost use Rattle.export.specs.Answers.{inputOf, tellsWords, takenWords, handedWords, steppedWords};
-ghost use Rattle.export.specs.Words.{runOf};
+ghost use Rattle.words.specs.Answers.{inputOf, steppedWords};
+ghost use Rattle.words.specs.Words.{runOf};
 use crate::rufflesquash_step;
-
-// Whether an answer has a refusal, bytes for the server, or an event.
-fn tells(answer: [u64; 12]) -> bool
-    ensures { λ r. ⌜ r ≡ tellsWords answer ⌝ }
-{
-    if answer[0] == 0 {
-        if answer[2] == 0 {
-            return answer[5] != 0;
-        }
-        return true;
-    }
-    true
-}
-
-// An answer before which so many bytes were taken.
-fn with_taken(before: u64, a: [u64; 12]) -> [u64; 12]
-    ensures { λ r. ⌜ r ≡ takenWords before a ⌝ }
-{
-    let taken = std::num::wrapping_add_u64(before, a[1]);
-    [
-        a[0],
-        taken,
-        a[2],
-        a[3],
-        a[4],
-        a[5],
-        a[6],
-        a[7],
-        a[8],
-        a[9],
-        a[10],
-        a[11],
-    ]
-}
+use words::answers::tells;
+use words::answers::with_taken;
 
 fn least(taken: u64, len: usize) -> usize
     ensures { λ r. ⌜ r ≡ min taken len ⌝ }
@@ -50,26 +18,6 @@ fn least(taken: u64, len: usize) -> usize
     } else {
         len
     }
-}
-
-// The answer where the event that a run offered is handed on.
-pub(crate) fn handed_words(w: [u64; 48], taken: u64) -> [u64; 12]
-    ensures { λ r. ⌜ r ≡ handedWords w taken ⌝ }
-{
-    [
-        0,
-        taken,
-        0,
-        0,
-        0,
-        w[31],
-        w[32],
-        w[33],
-        w[34],
-        w[35],
-        w[36],
-        w[37],
-    ]
 }
 
 // A second step where the first told nothing.

@@ -1,56 +1,11 @@
 // What a host reads before the stream: authentication requests, and the rows of a simple query.
 ghost use mathlib.Core.Path.{_≡_};
-ghost use Rattle.messages.specs.Auth.{authOutcome, authOf};
-ghost use Rattle.wire.specs.Field.{unsigned};
-ghost use Rattle.query.specs.Row.{rowOf, countOf, columnOf, rowOutcome};
-ghost use Rattle.export.specs.Startup.{authWords, columnWords};
-ghost use Rattle.export.specs.Words.{half};
-use crate::answers::Reply;
-use crate::words::time;
-use messages::AuthRequest;
-use query::Column;
-use query::row::Row;
-
-// Two's complement.
-fn code_word(code: i32) -> u64
-    ensures { λ r. ⌜ r ≡ unsigned half code ⌝ }
-{
-    time(code as i64)
-}
-
-fn auth_words(request: AuthRequest) -> [u64; 4]
-    ensures { λ r. ⌜ r ≡ authWords (authOutcome request) ⌝ }
-{
-    match request {
-        AuthRequest::Request { code, from, len } => [0, code_word(code), from as u64, len as u64],
-        AuthRequest::Refused(r) => [r.number() as u64, 0, 0, 0],
-    }
-}
-
-fn row_reply(row: Row) -> Reply
-    ensures { λ r. ⌜ (r .refusal, r .value) ≡ rowOutcome row ⌝ }
-{
-    match row {
-        Row::Columns(n) => Reply {
-            refusal: 0,
-            value: n as u64,
-        },
-        Row::Refused(r) => Reply {
-            refusal: r.number() as u64,
-            value: 0,
-        },
-    }
-}
-
-fn column_words(column: Column) -> [u64; 3]
-    ensures { λ r. ⌜ r ≡ columnWords column ⌝ }
-{
-    match column {
-        Column::Absent => [0, 0, 0],
-        Column::Null => [1, 0, 0],
-        Column::Part(from, len) => [2, from as u64, len as u64],
-    }
-}
+ghost use Rattle.messages.specs.Auth.{authOf};
+ghost use Rattle.query.specs.Row.{rowOf, countOf, columnOf};
+ghost use Rattle.words.specs.Startup.{authWords, columnWords};
+use words::startup::auth_words;
+use words::startup::column_words;
+use words::startup::row_reply;
 
 // An authentication request. The answer: the refusal's number, the code in two's complement, where the rest begins and its length.
 #[no_mangle]

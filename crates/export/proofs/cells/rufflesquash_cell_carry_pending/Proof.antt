@@ -3,18 +3,8 @@ use borrow.Author.Needs.{needs}
 use Rattle.export.proofs.cells.rufflesquash_cell_carry_pending.Statement.{statement}
 use Rattle.export.proofs.cells.rufflesquash_cell_carry_pending.Tie as tie
 
-cell-of-requires : tie.Need-cell-of-requires
-cell-of-requires c κs = search needs
-
-carry-pending-requires : tie.Need-carry-pending-requires
-carry-pending-requires c κs = search needs
-
-cell-words-requires : tie.Need-cell-words-requires
-cell-words-requires c κs = search needs
-
 returns : tie.Need-returns
 returns c = carried (c .before .before .cell-of .ensures) _ (c .before .carry-pending .ensures) (c .cell-words .ensures)
 
 pub rufflesquash-cell-carry-pending-spec : {M : Type 1} → statement M
-rufflesquash-cell-carry-pending-spec =
-    tie.close (tie.spec cell-of-requires carry-pending-requires cell-words-requires returns)
+rufflesquash-cell-carry-pending-spec = tie.close (tie.spec (search needs) (search needs) (search needs) returns)

@@ -3,14 +3,8 @@ use borrow.Author.Needs.{needs}
 use Rattle.export.proofs.cells.rufflesquash_cell_new.Statement.{statement}
 use Rattle.export.proofs.cells.rufflesquash_cell_new.Tie as tie
 
-new-requires : tie.Need-new-requires
-new-requires c κs = search needs
-
-cell-words-requires : tie.Need-cell-words-requires
-cell-words-requires c κs = search needs
-
 returns : tie.Need-returns
 returns c = made (c .before .new .ensures) (c .cell-words .ensures)
 
 pub rufflesquash-cell-new-spec : {M : Type 1} → statement M
-rufflesquash-cell-new-spec = tie.close (tie.spec new-requires cell-words-requires returns)
+rufflesquash-cell-new-spec = tie.close (tie.spec (search needs) (search needs) returns)

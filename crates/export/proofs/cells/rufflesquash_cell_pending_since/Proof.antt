@@ -2,15 +2,8 @@ use borrow.Author.Needs.{needs}
 use Rattle.export.proofs.cells.rufflesquash_cell_pending_since.Statement.{statement}
 use Rattle.export.proofs.cells.rufflesquash_cell_pending_since.Tie as tie
 
-cell-of-requires : tie.Need-cell-of-requires
-cell-of-requires c κs = search needs
-
-pending-since-requires : tie.Need-pending-since-requires
-pending-since-requires c κs = search needs
-
 returns : tie.Need-returns
 returns c = rw (c .pending-since .ensures, c .before .cell-of .ensures)
 
 pub rufflesquash-cell-pending-since-spec : {M : Type 1} → statement M
-rufflesquash-cell-pending-since-spec =
-    tie.close (tie.spec cell-of-requires pending-since-requires returns)
+rufflesquash-cell-pending-since-spec = tie.close (tie.spec (search needs) (search needs) returns)

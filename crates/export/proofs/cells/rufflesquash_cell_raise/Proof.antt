@@ -3,21 +3,8 @@ use borrow.Author.Needs.{needs}
 use Rattle.export.proofs.cells.rufflesquash_cell_raise.Statement.{statement}
 use Rattle.export.proofs.cells.rufflesquash_cell_raise.Tie as tie
 
-cell-of-requires : tie.Need-cell-of-requires
-cell-of-requires c κs = search needs
-
-raise-requires : tie.Need-raise-requires
-raise-requires c κs = search needs
-
-cell-words-requires : tie.Need-cell-words-requires
-cell-words-requires c κs = search needs
-
-flag-requires : tie.Need-flag-requires
-flag-requires c κs = search needs
-
 returns : tie.Need-returns
 returns c = raised (c .before .before .before .before .cell-of .ensures) _ _ (c .before .before .before .raise .result) (c .before .before .before .raise .ensures) (c .before .cell-words .ensures) (c .flag .ensures)
 
 pub rufflesquash-cell-raise-spec : {M : Type 1} → statement M
-rufflesquash-cell-raise-spec =
-    tie.close (tie.spec cell-of-requires raise-requires cell-words-requires flag-requires returns)
+rufflesquash-cell-raise-spec = tie.close (tie.spec (search needs) (search needs) (search needs) (search needs) returns)

@@ -3,18 +3,8 @@ use borrow.Author.Needs.{needs}
 use Rattle.export.proofs.cells.rufflesquash_cell_take_signal.Statement.{statement}
 use Rattle.export.proofs.cells.rufflesquash_cell_take_signal.Tie as tie
 
-cell-of-requires : tie.Need-cell-of-requires
-cell-of-requires c κs = search needs
-
-take-signal-requires : tie.Need-take-signal-requires
-take-signal-requires c κs = search needs
-
-cell-words-requires : tie.Need-cell-words-requires
-cell-words-requires c κs = search needs
-
 returns : tie.Need-returns
 returns c = looked (c .before .before .before .cell-of .ensures) (c .before .before .take-signal .result) (c .before .before .take-signal .ensures) (c .cell-words .ensures)
 
 pub rufflesquash-cell-take-signal-spec : {M : Type 1} → statement M
-rufflesquash-cell-take-signal-spec =
-    tie.close (tie.spec cell-of-requires take-signal-requires cell-words-requires returns)
+rufflesquash-cell-take-signal-spec = tie.close (tie.spec (search needs) (search needs) (search needs) returns)

@@ -1,87 +1,40 @@
 use native.Mathlib.Omega.{arith}
 use mir.Syntax.{w64}
 use mir.ValLaws.{toZ-ofZ}
-use mathlib.Core.Path.{_≡_, sym, ap, _∙_}
-use Rattle.export.specs.Answers.{inputOf}
-use mir.Val.{toZ, ofZ}
-use lib.IntN.{ℤ}
+use mathlib.Core.Path.{sym, _∙_}
 use Rattle.worker.specs.Step.{stepOf}
 use Rattle.advance.specs.Advance.{twice}
 use Rattle.advance.proofs.Taken.{step-taken, twice-taken}
-use Rattle.export.proofs.Following.{told, went-on}
+use Rattle.export.proofs.Following.{same-input, told, went-on}
 use borrow.Author.Needs.{needs}
 use Rattle.export.proofs.several.four_steps.Statement.{statement}
 use Rattle.export.proofs.several.four_steps.Tie as tie
 
-two-steps-requires : tie.Need-two-steps-requires
-two-steps-requires c κs = search needs
-
-tells-requires : tie.Need-tells-requires
-tells-requires c κs = search needs
-
-same-length : tie.Need-same-length
-same-length c = search needs
-
-same-length-2 : tie.Need-same-length-2
-same-length-2 c = search needs
-
 returns : tie.Need-returns
 returns c =
-    let a = c .before .before .before .before .before .before .before .before .before .before .before .before .before .before .before .args in
-    let e : inputOf (a .moment) (toZ w64 (ofZ w64 (a .client-time))) (a .stop) (a .queue) (a .ended) ≡ inputOf (a .moment) (a .client-time) (a .stop) (a .queue) (a .ended) =
-    ap (λ (x : ℤ). inputOf (a .moment) x (a .stop) (a .queue) (a .ended)) (toZ-ofZ w64 (a .client-time) (c .before .before .before .before .before .before .before .before .before .before .before .before .before .before .before .fits .client-time)) in
-    told (twice stepOf) (twice-taken stepOf step-taken) e (a .run .now) (a .unread .now) (a .payload .now) (a .out .now) (c .before .before .before .before .before .before .before .two-steps .ensures) (sym (c .before .tells .ensures) ∙ c .if1 .taken)
-
-array-read-taken : tie.Need-array-read-taken
-array-read-taken c = search needs
-
-least-requires : tie.Need-least-requires
-least-requires c κs = search needs
-
-sub-rest : tie.Need-sub-rest
-sub-rest c = search needs
-
-part-rest-start : tie.Need-part-rest-start
-part-rest-start c = search needs
-
-part-rest-end : tie.Need-part-rest-end
-part-rest-end c = search needs
-
-two-steps-requires-2 : tie.Need-two-steps-requires-2
-two-steps-requires-2 c κs = search needs
-
-with-taken-requires : tie.Need-with-taken-requires
-with-taken-requires c κs = search needs
-
-same-length-3 : tie.Need-same-length-3
-same-length-3 c = search needs
-
-same-length-4 : tie.Need-same-length-4
-same-length-4 c = search needs
+    let first = c .before .before .before .before .before .before .before in
+    let start = first .before .before .before .before .before .before .before .before in
+    let a = start .args in
+    told (twice stepOf) (twice-taken stepOf step-taken)
+    (same-input (a .moment) (a .stop) (a .queue) (a .ended) (toZ-ofZ w64 (a .client-time) (start .fits .client-time)))
+    (a .run .now) (a .unread .now) (a .payload .now) (a .out .now) (first .two-steps .ensures)
+    (sym (c .before .tells .ensures) ∙ c .if1 .taken)
 
 returns-2 : tie.Need-returns-2
 returns-2 c =
-    let a = c .before .before .before .before .before .before .before .before .before .before .before .before .before .before .before .before .before .before .before .before .before .before .before .before .before .before .before .before .args in
-    let e : inputOf (a .moment) (toZ w64 (ofZ w64 (a .client-time))) (a .stop) (a .queue) (a .ended) ≡ inputOf (a .moment) (a .client-time) (a .stop) (a .queue) (a .ended) =
-    ap (λ (x : ℤ). inputOf (a .moment) x (a .stop) (a .queue) (a .ended)) (toZ-ofZ w64 (a .client-time) (c .before .before .before .before .before .before .before .before .before .before .before .before .before .before .before .before .before .before .before .before .before .before .before .before .before .before .before .before .fits .client-time)) in
-    went-on (twice stepOf) (twice-taken stepOf step-taken) e (a .run .now) (a .unread .now) (a .payload .now) (a .out .now) (c .before .before .before .before .before .before .before .before .before .before .before .before .before .before .before .before .before .before .before .before .two-steps .ensures) (sym (c .before .before .before .before .before .before .before .before .before .before .before .before .before .before .tells .ensures) ∙ c .before .before .before .before .before .before .before .before .before .before .before .before .before .if1 .left) (c .before .before .before .before .before .before .before .before .before .before .before .before .least .result) (c .before .before .before .before .before .before .before .before .before .before .before .before .least .ensures) (omega (arith, c .before .before .before .before .before .before .before .before .before .before .before .before .before .before .before .before .before .before .before .before .before .before .before .before .before .before .before .before .good)) (c .before .before .before .before .before .before .two-steps2 .ensures) (c .with-taken .ensures)
+    let second = c .before .before .before .before .before .before in
+    let at-least = second .before .before .before .before .before .before in
+    let first = at-least .before .before .before .before .before .before .before .before in
+    let start = first .before .before .before .before .before .before .before .before in
+    let a = start .args in
+    went-on (twice stepOf) (twice-taken stepOf step-taken)
+    (same-input (a .moment) (a .stop) (a .queue) (a .ended) (toZ-ofZ w64 (a .client-time) (start .fits .client-time)))
+    (a .run .now) (a .unread .now) (a .payload .now) (a .out .now) (first .two-steps .ensures)
+    (sym (at-least .before .before .tells .ensures) ∙ at-least .before .if1 .left) (at-least .least .result) (at-least .least .ensures)
+    (omega (arith, start .good)) (second .two-steps2 .ensures) (c .with-taken .ensures)
 
 pub four-steps-spec : {M : Type 1} → statement M
 four-steps-spec =
     tie.close
-    (tie.spec
-    two-steps-requires
-    tells-requires
-    same-length
-    same-length-2
-    returns
-    array-read-taken
-    least-requires
-    sub-rest
-    part-rest-start
-    part-rest-end
-    two-steps-requires-2
-    with-taken-requires
-    same-length-3
-    same-length-4
-    returns-2)
+    (tie.spec (search needs) (search needs) (search needs) (search needs) returns (search needs) (search needs)
+    (search needs) (search needs) (search needs) (search needs) (search needs) (search needs) (search needs) returns-2)

@@ -1,0 +1,45 @@
+use borrow.Author.Tests.{eq-eqb, ne-eqb}
+use Rattle.words.specs.Words.{eventOf}
+use mir.Syntax.{w64}
+use mir.ValLaws.{toZ-ofZ}
+use borrow.Author.Needs.{needs}
+use Rattle.words.proofs.event.event_of.Statement.{statement}
+use Rattle.words.proofs.event.event_of.Tie as tie
+
+returns : tie.Need-returns
+unfolding eventOf
+returns c = simp (eq-eqb _ _ (c .before .before .if1 .taken)) (rw (
+  c .flag-of .ensures,
+  toZ-ofZ w64 (c .before .time-of .result) (record { sfits = c .before .time-of .ensures .1 }),
+  c .before .time-of .ensures .0,
+))
+
+returns-2 : tie.Need-returns-2
+unfolding eventOf
+returns-2 c = simp (ne-eqb _ _ (c .before .before .before .if1 .left), eq-eqb _ _ (c .before .before .if2 .taken)) (rw (
+  c .low-half .ensures,
+  toZ-ofZ w64 (c .before .time-of2 .result) (record { sfits = c .before .time-of2 .ensures .1 }),
+  c .before .time-of2 .ensures .0,
+))
+
+returns-3 : tie.Need-returns-3
+unfolding eventOf
+returns-3 c = simp (
+  ne-eqb _ _ (c .before .before .before .if1 .left),
+  ne-eqb _ _ (c .before .before .if2 .left),
+  eq-eqb _ _ (c .before .if3 .taken),
+) (rw (toZ-ofZ w64 (c .time-of3 .result) (record { sfits = c .time-of3 .ensures .1 }), c .time-of3 .ensures .0))
+
+returns-4 : tie.Need-returns-4
+unfolding eventOf
+returns-4 c = simp (
+  ne-eqb _ _ (c .before .before .before .if1 .left),
+  ne-eqb _ _ (c .before .before .if2 .left),
+  ne-eqb _ _ (c .before .if3 .left),
+) (rw (c .parts-of .ensures))
+
+pub event-of-spec : {M : Type 1} → statement M
+event-of-spec =
+    tie.close
+    (tie.spec (search needs) (search needs) returns (search needs) (search needs) returns-2 (search needs) returns-3
+    (search needs) returns-4)

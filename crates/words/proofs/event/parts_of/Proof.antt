@@ -1,0 +1,29 @@
+use borrow.Author.Tests.{eq-eqb, ne-eqb}
+use Rattle.words.specs.Words.{partsOf}
+use mir.Syntax.{w64}
+use mir.ValLaws.{toZ-ofZ}
+use borrow.Author.Needs.{needs}
+use Rattle.words.proofs.event.parts_of.Statement.{statement}
+use Rattle.words.proofs.event.parts_of.Tie as tie
+
+returns : tie.Need-returns
+unfolding partsOf
+returns c = simp (eq-eqb _ _ (c .before .if1 .taken)) (rw (c .flag-of .ensures))
+
+returns-2 : tie.Need-returns-2
+unfolding partsOf
+returns-2 c = simp (
+  ne-eqb _ _ (c .before .before .if1 .left),
+  eq-eqb _ _ (c .before .if2 .taken),
+) (rw (toZ-ofZ w64 (c .time-of .result) (record { sfits = c .time-of .ensures .1 }), c .time-of .ensures .0))
+
+returns-3 : tie.Need-returns-3
+unfolding partsOf
+returns-3 c = simp (ne-eqb _ _ (c .before .before .if1 .left), ne-eqb _ _ (c .before .if2 .left), eq-eqb _ _ (c .if3 .taken))
+
+returns-4 : tie.Need-returns-4
+unfolding partsOf
+returns-4 c = simp (ne-eqb _ _ (c .before .before .if1 .left), ne-eqb _ _ (c .before .if2 .left), ne-eqb _ _ (c .if3 .left))
+
+pub parts-of-spec : {M : Type 1} → statement M
+parts-of-spec = tie.close (tie.spec (search needs) returns (search needs) returns-2 returns-3 returns-4)
