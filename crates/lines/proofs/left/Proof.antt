@@ -6,9 +6,6 @@ use Rattle.lines.proofs.left.Tie as tie
 returns : tie.Need-returns
 returns c = left-none (c .before .args .turns) (c .before .args .go) (c .if1 .taken)
 
-sub-result : tie.Need-sub-result
-sub-result c = search needs
-
 returns-2 : tie.Need-returns-2
 returns-2 c = rw (c .if2 .taken)
 
@@ -16,4 +13,4 @@ returns-3 : tie.Need-returns-3
 returns-3 c = rw (c .if2 .left)
 
 pub left-spec : {M : Type 1} → statement M
-left-spec = tie.close (tie.spec returns sub-result returns-2 returns-3)
+left-spec = tie.close (tie.spec returns (search needs) returns-2 returns-3)

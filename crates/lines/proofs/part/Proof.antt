@@ -9,33 +9,12 @@ use Rattle.lines.proofs.part.Tie as tie
 returns : tie.Need-returns
 returns c =
     let a = c .before .before .before .args in
-    rw (part-none (a .s .now) (a .from) (a .len) (omega arith)) (pieces-none (a .line .now) (a .at))
-
-sub-if2 : tie.Need-sub-if2
-sub-if2 c = search needs
+    rw (part-none (a .s .now) (a .from) (a .len) (omega arith)) (pieces-none _ _)
 
 returns-2 : tie.Need-returns-2
 returns-2 c =
     let a = c .before .before .before .before .args in
-    rw (part-none (a .s .now) (a .from) (a .len) (omega arith)) (pieces-none (a .line .now) (a .at))
-
-add-bytes : tie.Need-add-bytes
-add-bytes c = search needs
-
-sub-bytes : tie.Need-sub-bytes
-sub-bytes c = search needs
-
-part-bytes-start : tie.Need-part-bytes-start
-part-bytes-start c = search needs
-
-part-bytes-end : tie.Need-part-bytes-end
-part-bytes-end c = search needs
-
-bytes-requires : tie.Need-bytes-requires
-bytes-requires c κs = search needs
-
-same-length : tie.Need-same-length
-same-length c = search needs
+    rw (part-none (a .s .now) (a .from) (a .len) (omega arith)) (pieces-none _ _)
 
 returns-3 : tie.Need-returns-3
 returns-3 c =
@@ -46,14 +25,5 @@ returns-3 c =
 pub part-spec : {M : Type 1} → statement M
 part-spec =
     tie.close
-    (tie.spec
-    returns
-    sub-if2
-    returns-2
-    add-bytes
-    sub-bytes
-    part-bytes-start
-    part-bytes-end
-    bytes-requires
-    same-length
-    returns-3)
+    (tie.spec returns (search needs) returns-2 (search needs) (search needs) (search needs) (search needs)
+    (search needs) (search needs) returns-3)

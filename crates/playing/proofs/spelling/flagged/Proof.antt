@@ -5,34 +5,14 @@ use borrow.Author.Needs.{needs}
 use Rattle.playing.proofs.spelling.flagged.Statement.{statement}
 use Rattle.playing.proofs.spelling.flagged.Tie as tie
 
-slice-aggregate-place : tie.Need-slice-aggregate-place
-slice-aggregate-place c = search needs
-
-place-requires : tie.Need-place-requires
-place-requires c κs = search needs
-
-flag-requires : tie.Need-flag-requires
-flag-requires c κs = search needs
-
-position-requires : tie.Need-position-requires
-position-requires c κs = search needs
-
-same-length : tie.Need-same-length
-same-length c = search needs
-
 returns : tie.Need-returns
 returns c =
-    let a = c .before .before .before .before .before .before .before .before .before .before .before .before .before .before .args in
-    pieces-next (a .line .now) (a .at) ((77 ∷ []) ∷ []) _ (pieces-one _ _ _ (c .before .before .before .before .before .before .before .before .before .before .place .ensures))
-    (pieces-next _ _ (flagTexts (a .flag)) _ (c .before .before .before .before .before .before .flag .ensures) (c .before .before .position .ensures))
+    let at-flag = c .before .before .before .before .before .before in
+    let at-place = at-flag .before .before .before .before in
+    let start = at-place .before .before .before .before in
+    let a = start .args in
+    pieces-next (a .line .now) (a .at) ((77 ∷ []) ∷ []) _ (pieces-one _ _ _ (at-place .place .ensures))
+    (pieces-next _ _ (flagTexts (a .flag)) _ (at-flag .flag .ensures) (c .before .before .position .ensures))
 
 pub flagged-spec : {M : Type 1} → statement M
-flagged-spec =
-    tie.close
-    (tie.spec
-    slice-aggregate-place
-    place-requires
-    flag-requires
-    position-requires
-    same-length
-    returns)
+flagged-spec = tie.close (tie.spec (search needs) (search needs) (search needs) (search needs) (search needs) returns)

@@ -13,61 +13,32 @@ returns : tie.Need-returns
 unfolding lossyLength
 returns c = let a = c .before .before .args in simp (lt-leb (a .from + a .len) (length (a .payload .now)) (omega arith))
 
-sub-if2 : tie.Need-sub-if2
-sub-if2 c = search needs
-
 returns-2 : tie.Need-returns-2
 unfolding lossyLength
 returns-2 c = let a = c .before .before .before .args in simp (lt-leb (a .from + a .len) (length (a .payload .now)) (omega arith))
-
-add-count : tie.Need-add-count
-add-count c = search needs
-
-sub-count : tie.Need-sub-count
-sub-count c = search needs
-
-part-count-start : tie.Need-part-count-start
-part-count-start c = search needs
-
-part-count-end : tie.Need-part-count-end
-part-count-end c = search needs
-
-count-requires : tie.Need-count-requires
-count-requires c κs = search needs
-
-enum-known-n : tie.Need-enum-known-n
-enum-known-n c = search needs
-
-enum-told : tie.Need-enum-told
-enum-told c = search needs
 
 returns-3 : tie.Need-returns-3
 unfolding lossyLength
 returns-3 c =
     let a = c .before .before .before .before .before .before .before .before .args in
     let n : a .from + a .len - a .from ≡ a .len = omega arith in
-    simp (le-leb (a .from + a .len) (length (a .payload .now)) (omega arith)) (rw (← (rw n at (c .before .before .before .count .ensures)), c .before .n .given .1))
+    simp (le-leb (a .from + a .len) (length (a .payload .now)) (omega arith)) (rw (
+      ← (rw n at (c .before .before .before .count .ensures)),
+      c .before .n .given .1,
+    ))
 
 returns-4 : tie.Need-returns-4
 unfolding lossyLength
 returns-4 c =
     let a = c .before .before .before .before .before .before .before .args in
     let n : a .from + a .len - a .from ≡ a .len = omega arith in
-    simp (le-leb (a .from + a .len) (length (a .payload .now)) (omega arith)) (rw (← (rw n at (c .before .before .count .ensures)), c .enum-told .given .1))
+    simp (le-leb (a .from + a .len) (length (a .payload .now)) (omega arith)) (rw (
+      ← (rw n at (c .before .before .count .ensures)),
+      c .enum-told .given .1,
+    ))
 
 pub lossy-len-spec : {M : Type 1} → statement M
 lossy-len-spec =
     tie.close
-    (tie.spec
-    returns
-    sub-if2
-    returns-2
-    add-count
-    sub-count
-    part-count-start
-    part-count-end
-    count-requires
-    enum-known-n
-    enum-told
-    returns-3
-    returns-4)
+    (tie.spec returns (search needs) returns-2 (search needs) (search needs) (search needs) (search needs)
+    (search needs) (search needs) (search needs) returns-3 returns-4)

@@ -8,39 +8,18 @@ use borrow.Author.Needs.{needs}
 use Rattle.playing.proofs.spelling.spanned.Statement.{statement}
 use Rattle.playing.proofs.spelling.spanned.Tie as tie
 
-slice-aggregate-place : tie.Need-slice-aggregate-place
-slice-aggregate-place c = search needs
-
-place-requires : tie.Need-place-requires
-place-requires c κs = search needs
-
-position-requires : tie.Need-position-requires
-position-requires c κs = search needs
-
-position-requires-2 : tie.Need-position-requires-2
-position-requires-2 c κs = search needs
-
-long-requires : tie.Need-long-requires
-long-requires c κs = search needs
-
-same-length : tie.Need-same-length
-same-length c = search needs
-
 returns : tie.Need-returns
 returns c =
-    let a = c .before .before .before .before .before .before .before .before .before .before .before .before .before .before .before .before .before .before .args in
-    pieces-next (a .line .now) (a .at) ((a .letter ∷ []) ∷ []) _ (pieces-one _ _ _ (c .before .before .before .before .before .before .before .before .before .before .before .before .before .before .place .ensures))
-    (pieces-next _ _ (positionTexts (a .p .0)) _ (c .before .before .before .before .before .before .before .before .before .before .position .ensures)
-    (pieces-next _ _ (positionTexts (a .q .0)) _ (c .before .before .before .before .before .before .position2 .ensures) (rw (toZ-ofZ w64 (a .time) (c .before .before .before .before .before .before .before .before .before .before .before .before .before .before .before .before .before .before .fits .time)) at (c .before .before .long .ensures))))
+    let at-position2 = c .before .before .before .before .before .before in
+    let at-position = at-position2 .before .before .before .before in
+    let at-place = at-position .before .before .before .before in
+    let start = at-place .before .before .before .before in
+    let a = start .args in
+    pieces-next (a .line .now) (a .at) ((a .letter ∷ []) ∷ []) _ (pieces-one _ _ _ (at-place .place .ensures))
+    (pieces-next _ _ (positionTexts (a .p .0)) _ (at-position .position .ensures)
+    (pieces-next _ _ (positionTexts (a .q .0)) _ (at-position2 .position2 .ensures) (rw (toZ-ofZ w64 (a .time) (start .fits .time)) at (c .before .before .long .ensures))))
 
 pub spanned-spec : {M : Type 1} → statement M
 spanned-spec =
     tie.close
-    (tie.spec
-    slice-aggregate-place
-    place-requires
-    position-requires
-    position-requires-2
-    long-requires
-    same-length
-    returns)
+    (tie.spec (search needs) (search needs) (search needs) (search needs) (search needs) (search needs) returns)
