@@ -5,15 +5,8 @@ use borrow.Author.Needs.{needs}
 use Rattle.bench.proofs.bench_boundary.Statement.{statement}
 use Rattle.bench.proofs.bench_boundary.Tie as tie
 
-parse-pgoutput-boundary-requires : tie.Need-parse-pgoutput-boundary-requires
-parse-pgoutput-boundary-requires c κs = search needs
-
-boundary-number-requires : tie.Need-boundary-number-requires
-boundary-number-requires c κs = search needs
-
 returns : tie.Need-returns
 returns c = c .boundary-number .ensures ∙ ap boundaryMixed (c .before .parse-pgoutput-boundary .ensures)
 
 pub bench-boundary-spec : {M : Type 1} → statement M
-bench-boundary-spec =
-    tie.close (tie.spec parse-pgoutput-boundary-requires boundary-number-requires returns)
+bench-boundary-spec = tie.close (tie.spec (search needs) (search needs) returns)

@@ -5,14 +5,8 @@ use borrow.Author.Needs.{needs}
 use Rattle.bench.proofs.bench_copy_data.Statement.{statement}
 use Rattle.bench.proofs.bench_copy_data.Tie as tie
 
-parse-copy-data-requires : tie.Need-parse-copy-data-requires
-parse-copy-data-requires c κs = search needs
-
-copy-number-requires : tie.Need-copy-number-requires
-copy-number-requires c κs = search needs
-
 returns : tie.Need-returns
 returns c = c .copy-number .ensures ∙ ap copyMixed (c .before .parse-copy-data .ensures)
 
 pub bench-copy-data-spec : {M : Type 1} → statement M
-bench-copy-data-spec = tie.close (tie.spec parse-copy-data-requires copy-number-requires returns)
+bench-copy-data-spec = tie.close (tie.spec (search needs) (search needs) returns)

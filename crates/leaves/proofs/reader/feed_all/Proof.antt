@@ -12,57 +12,14 @@ Inv-loop line₀ setting size bytes payload₀ at f₀ turns₀ line payload f t
 abbrev μ-loop : tie.MeasureT-loop
 μ-loop line₀ setting size bytes payload₀ at f₀ turns₀ line payload f turns = turns
 
-slice-aggregate-place : tie.Need-slice-aggregate-place Inv-loop μ-loop
-slice-aggregate-place c = search needs
-
-place-requires : tie.Need-place-requires Inv-loop μ-loop
-place-requires c κs = search needs
-
-new-requires : tie.Need-new-requires Inv-loop μ-loop
-new-requires c κs = search needs
-
-add-turns : tie.Need-add-turns Inv-loop μ-loop
-add-turns c = search needs
-
-loop-holds : tie.Need-loop-holds Inv-loop μ-loop
-loop-holds c = search needs
-
-one-read-requires : tie.Need-one-read-requires Inv-loop μ-loop
-one-read-requires c κs = search needs
-
-left-requires : tie.Need-left-requires Inv-loop μ-loop
-left-requires c κs = search needs
-
 loop-less : tie.Need-loop-less Inv-loop μ-loop
-loop-less c = left-less (c .before .before .before .before .before .before .before .before .before .loop .turns) (c .before .before .before .before .before .one-read .result .go) (c .left .ensures) (omega arith)
-
-loop-again : tie.Need-loop-again Inv-loop μ-loop
-loop-again c = search needs
-
-same-length : tie.Need-same-length Inv-loop μ-loop
-same-length c = search needs
-
-same-length-2 : tie.Need-same-length-2 Inv-loop μ-loop
-same-length-2 c = search needs
-
-returns : tie.Need-returns Inv-loop μ-loop
-returns c = search needs
+loop-less c =
+    let at-one-read = c .before .before .before .before .before in
+    let at-loop = at-one-read .before .before .before .before in
+    left-less (at-loop .loop .turns) (at-one-read .one-read .result .go) (c .left .ensures) (omega arith)
 
 pub feed-all-spec : {M : Type 1} → statement M
 feed-all-spec =
     tie.close
-    (tie.spec
-    Inv-loop
-    μ-loop
-    slice-aggregate-place
-    place-requires
-    new-requires
-    add-turns
-    loop-holds
-    one-read-requires
-    left-requires
-    loop-less
-    loop-again
-    same-length
-    same-length-2
-    returns)
+    (tie.spec Inv-loop μ-loop (search needs) (search needs) (search needs) (search needs) (search needs) (search needs)
+    (search needs) loop-less (search needs) (search needs) (search needs) (λ c. search needs))
