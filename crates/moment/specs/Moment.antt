@@ -9,9 +9,13 @@ use Rattle.moment.specs.declared.Moment.{Moment}
 abbrev pub isBefore : Moment → Moment → Bool
 isBefore a b = ltb (a .0) (b .0)
 
+-- the last moment
+abbrev pub last : ℕ
+last = 9223372036854775807
+
 -- the moments that a step may be given
 abbrev pub inRange : Moment → Bool
-inRange m = pick (ltb (m .0) 1) false (leb (m .0) 9223372036854775807)
+inRange m = pick (ltb (m .0) 1) false (leb (m .0) last)
 
 -- how long ago b was at a: "zero where the stored one lies ahead"
 abbrev pub sinceOf : Moment → Moment → ℕ

@@ -2,6 +2,9 @@
 ghost use mathlib.Core.Path.{_≡_};
 ghost use Rattle.moment.specs.Moment.{isBefore, inRange, sinceOf};
 
+// The last moment.
+pub const LAST: u64 = 9223372036854775807;
+
 pub struct Moment(pub u64);
 
 impl Moment {
@@ -30,7 +33,7 @@ impl Moment {
         if self.0 < 1 {
             return false;
         }
-        self.0 <= 9223372036854775807
+        self.0 <= LAST
     }
 
     // The nanoseconds from another moment to this one, 0 where that lies ahead.

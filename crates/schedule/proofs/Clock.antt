@@ -8,7 +8,7 @@ use lib.Dec.{ltb, leb, eqb}
 use Rattle.wire.specs.Bytes.{pick}
 use Rattle.wire.proofs.Laws.{by-test, impossible}
 use Rattle.moment.specs.declared.Moment.{Moment}
-use Rattle.moment.specs.Moment.{inRange, sinceOf}
+use Rattle.moment.specs.Moment.{last, inRange, sinceOf}
 use Rattle.worker.specs.declared.Queue.{Queue}
 use Rattle.worker.specs.declared.Run.{Run}
 use Rattle.worker.specs.Step.{Outcome, badMoment}
@@ -37,7 +37,7 @@ second false b h = h
 pub in-range : (r : Run) (m : Moment) → badMoment r m ≡ false → m .0 < beyond
 in-range r m h =
     let a : inRange m ≡ true = first (inRange m) _ h in
-    let b : m .0 ≤ 9223372036854775807 = leb-true (m .0) 9223372036854775807 (second (ltb (m .0) 1) _ a) in
+    let b : m .0 ≤ last = leb-true (m .0) last (second (ltb (m .0) 1) _ a) in
     omega arith
 
 -- ---- outcomes that move from a moment on

@@ -7,6 +7,7 @@ use Rattle.wire.specs.Bytes.{pick}
 use Rattle.framing.specs.declared.MessageReader.{MessageReader}
 use Rattle.framing.specs.Tag.{isError, isCopyBothResponse}
 use Rattle.moment.specs.declared.Moment.{Moment}
+use Rattle.moment.specs.Moment.{last}
 use Rattle.worker.specs.declared.Queue.{Queue}
 use Rattle.worker.specs.declared.Queue.the-variants.{Free, Full, Closed}
 use Rattle.worker.specs.declared.State.{State}
@@ -33,7 +34,7 @@ nextBy Never = never
 
 -- the number behind the last moment
 abbrev pub beyond : ℕ
-beyond = 9223372036854775808
+beyond = last + 1
 
 -- the first moment at which an interval since another has passed: 0 where it is 0, for it always has, and the number behind the last moment
 -- where it never will

@@ -11,7 +11,7 @@ use worker::Run;
 use worker::State;
 
 // The number behind the last moment: no step is accepted at it.
-const BEYOND: u64 = 9223372036854775808;
+const BEYOND: u64 = moment::LAST + 1;
 
 // When a step moves next while nothing new comes: no byte, no end of the input, no stop request, no change of the queue, no report.
 // From: not before this moment, and at every step from it on; it may lie at or before the last accepted one. Never: the run has ended.

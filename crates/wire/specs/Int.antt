@@ -20,10 +20,14 @@ isNegative n v = leb (half n) v
 abbrev pub int : ℕ → ℕ → ℤ
 int n v = signed (half n) v
 
--- .. of the field at place i, or none where it is cut
+-- the value that stands for a number
+abbrev pub value : ℕ → ℤ → ℕ
+value n z = unsigned (half n) z
+
+-- the number of the field at place i, or none where it is cut
 abbrev pub intAt : ℕ → List ℕ → ℕ → Option ℤ
 intAt n s i = signedOf (half n) (fieldAt n s i)
 
 -- the bytes of a number
 abbrev pub intBytes : ℕ → ℤ → List ℕ
-intBytes n z = beBytes n (unsigned (half n) z)
+intBytes n z = beBytes n (value n z)

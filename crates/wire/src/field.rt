@@ -5,7 +5,7 @@ ghost use lib.Signed.{mag};
 ghost use lib.ListN.{length};
 ghost use Rattle.wire.specs.Bytes.{be, at, placed, beBytes};
 ghost use Rattle.wire.specs.Field.{fieldAt, valueOf, signed, unsigned, u8Of, u16Of, u32Of, u64Of, i8Of, i16Of, i32Of, i64Of};
-ghost use Rattle.wire.specs.Int.{intAt, intBytes};
+ghost use Rattle.wire.specs.Int.{half, int, value, intAt, intBytes};
 use crate::store;
 
 // Half of the values of 8, 16, 32 and 64 bits: from there on a value stands for a negative number.
@@ -151,6 +151,19 @@ fn of_signed(v: i64, half: u64) -> u64
     }
 }
 
+// Of 64 bits every value stands for a number.
+pub fn to_i64(v: u64) -> i64
+    ensures { λ r. ⌜ (r ≡ int 8 v) × (mag r < half 8) ⌝ }
+{
+    to_signed(v, HALF_64)
+}
+
+pub fn of_i64(v: i64) -> u64
+    ensures { λ r. ⌜ r ≡ value 8 v ⌝ }
+{
+    of_signed(v, HALF_64)
+}
+
 pub fn read_i8(s: &[u8], from: usize) -> I8Field
     ensures { λ r. ⌜ i8Of r ≡ intAt 1 (now (s .entry)) from ⌝ }
 {
@@ -182,7 +195,7 @@ pub fn read_i64(s: &[u8], from: usize) -> I64Field
     ensures { λ r. ⌜ i64Of r ≡ intAt 8 (now (s .entry)) from ⌝ }
 {
     match read_be(s, from, 8) {
-        U64Field::Value(v) => I64Field::Value(to_signed(v, HALF_64)),
+        U64Field::Value(v) => I64Field::Value(to_i64(v)),
         U64Field::Cut => I64Field::Cut,
     }
 }

@@ -5,10 +5,8 @@ use mathlib.Core.List.{List, [], _∷_}
 use Prim.Native.Nat.{ℕ, zero, suc, _*_, _-_, _<_, _≤_, _%_, _^_}
 use native.Mathlib.Omega.{arith}
 use lib.ListN.{length, getD}
-use lib.IntN.{ℤ, pos, negsuc}
-use lib.Signed.{mag}
-use borrow.Author.Tests.{lt-ltb, le-ltb}
-use Rattle.wire.specs.Field.{signed, unsigned}
+use Rattle.wire.specs.Int.{half}
+use Rattle.wire.proofs.FieldLaws.{signed-unsigned}
 use Rattle.framing.specs.declared.MessageReader.{MessageReader}
 use Rattle.metrics.specs.declared.Metrics.{Metrics}
 use Rattle.progress.specs.declared.ProgressCell.{ProgressCell}
@@ -23,7 +21,7 @@ use Rattle.worker.specs.declared.State.{State}
 use Rattle.worker.specs.declared.State.the-variants.{Opening, Turn, Drain, Reading, Waiting, Handling, Offering, Ended}
 use Rattle.worker.specs.declared.Whole.{Whole}
 use Rattle.worker.specs.Run.{lastStatus, wholeOf, offer, run}
-use Rattle.words.specs.Words.{flagOf, flagWord, byteOf, half, stateOf, stateWord, eventOf, partsOf, eventWords, settingsOf, settingsWords, HeaderFits, EventFits, Round-trip}
+use Rattle.words.specs.Words.{flagOf, flagWord, byteOf, stateOf, stateWord, eventOf, partsOf, eventWords, settingsOf, settingsWords, HeaderFits, EventFits, Round-trip}
 
 flag-back : (b : Bool) → flagOf (flagWord b) ≡ b
 flag-back true = refl
@@ -34,13 +32,6 @@ byte-back a h = omega arith
 
 xid-back : (a : ℕ) → a < 2 ^ 32 → a % 2 ^ 32 ≡ a
 xid-back a h = omega arith
-
-time-back : (z : ℤ) → mag z < half → signed half (unsigned half z) ≡ z
-unfolding signed unsigned
-time-back (pos k) h = simp (lt-ltb k half h)
-time-back (negsuc k) h =
-    let above : half ≤ half * 2 - 1 - k = omega (arith, h) in
-    simp (le-ltb _ _ above) (ap negsuc (omega (arith, h)))
 
 state-back : (s : State) → stateOf (stateWord s) ≡ s
 unfolding stateOf
@@ -60,11 +51,11 @@ eventAt w = eventOf (getD w 0 0) (getD w 1 0) (getD w 2 0) (getD w 3 0) (getD w 
 event-back : (e : Event) → EventFits e → eventAt (eventWords e) ≡ e
 unfolding eventOf partsOf
 event-back Nothing h = refl
-event-back (KeepAlive end time reply) h = rw (time-back time h, flag-back reply)
-event-back (Begin final time xid) h = rw (time-back time (h .0), xid-back xid (h .1))
-event-back (Commit position end time) h = rw (time-back time h)
+event-back (KeepAlive end time reply) h = rw (signed-unsigned (half 8) time h, flag-back reply)
+event-back (Begin final time xid) h = rw (signed-unsigned (half 8) time (h .0), xid-back xid (h .1))
+event-back (Commit position end time) h = rw (signed-unsigned (half 8) time h)
 event-back (Message flag position pf pl cf cl) h = rw (flag-back flag)
-event-back (XLogData start end time from len) h = rw (time-back time h)
+event-back (XLogData start end time from len) h = rw (signed-unsigned (half 8) time h)
 event-back (StoppedAt reached) h = refl
 
 abbrev bytesOf : List ℕ → List ℕ

@@ -4,12 +4,11 @@ use mathlib.Core.List.{List, [], _∷_}
 use lib.IntN.{ℤ}
 use Rattle.query.specs.declared.Column.{Column}
 use Rattle.query.specs.declared.Column.the-variants.{Null, Part, Absent}
-use Rattle.wire.specs.Field.{unsigned}
-use Rattle.words.specs.Words.{half}
+use Rattle.wire.specs.Int.{value}
 
 -- the refusal's number, 0 for none; the code in two's complement; where the rest begins and how long it is
 abbrev pub authWords : ℕ × ℤ × ℕ × ℕ → List ℕ
-authWords a = a .0 ∷ unsigned half (a .1) ∷ a .2 ∷ a .3 ∷ []
+authWords a = a .0 ∷ value 8 (a .1) ∷ a .2 ∷ a .3 ∷ []
 
 -- 0 absent, 1 null, 2 a value; where the value begins and how long it is
 abbrev pub columnWords : Column → List ℕ

@@ -7,7 +7,7 @@ use lib.ListN.{length, getD}
 use lib.Signed.{mag}
 use lib.Dec.{eqb}
 use Rattle.wire.specs.Bytes.{pick}
-use Rattle.wire.specs.Field.{signed, unsigned}
+use Rattle.wire.specs.Int.{half, int, value}
 use Rattle.framing.specs.declared.MessageReader.{MessageReader}
 use Rattle.metrics.specs.declared.Metrics.{Metrics}
 use Rattle.moment.specs.declared.Moment.{Moment}
@@ -41,10 +41,6 @@ byteOf n = n % 256
 abbrev pub moment : ℕ → Moment
 moment n = record { 0 = n }
 
--- half of the words of a signed number are negative
-abbrev pub half : ℕ
-half = 9223372036854775808
-
 -- every other word is Ended
 unfoldable pub stateOf : ℕ → State
 stateOf n =
@@ -73,25 +69,25 @@ stateWord Ended = 7
 unfoldable pub partsOf : ℕ → ℕ → ℕ → ℕ → ℕ → ℕ → ℕ → Event
 partsOf kind a b c d e f =
     pick (eqb kind 4) (Message (flagOf a) (lsn b) c d e f)
-    (pick (eqb kind 5) (XLogData (lsn a) (lsn b) (signed half c) d e)
+    (pick (eqb kind 5) (XLogData (lsn a) (lsn b) (int 8 c) d e)
     (pick (eqb kind 6) (StoppedAt (lsn a))
     Nothing))
 
 -- an event by its kind and six numbers; other kinds are none
 unfoldable pub eventOf : ℕ → ℕ → ℕ → ℕ → ℕ → ℕ → ℕ → Event
 eventOf kind a b c d e f =
-    pick (eqb kind 1) (KeepAlive (lsn a) (signed half b) (flagOf c))
-    (pick (eqb kind 2) (Begin (lsn a) (signed half b) (c % 2 ^ 32))
-    (pick (eqb kind 3) (Commit (lsn a) (lsn b) (signed half c))
+    pick (eqb kind 1) (KeepAlive (lsn a) (int 8 b) (flagOf c))
+    (pick (eqb kind 2) (Begin (lsn a) (int 8 b) (c % 2 ^ 32))
+    (pick (eqb kind 3) (Commit (lsn a) (lsn b) (int 8 c))
     (partsOf kind a b c d e f)))
 
 abbrev pub eventWords : Event → List ℕ
 eventWords Nothing = 0 ∷ 0 ∷ 0 ∷ 0 ∷ 0 ∷ 0 ∷ 0 ∷ []
-eventWords (KeepAlive end time reply) = 1 ∷ end .0 ∷ unsigned half time ∷ flagWord reply ∷ 0 ∷ 0 ∷ 0 ∷ []
-eventWords (Begin final time xid) = 2 ∷ final .0 ∷ unsigned half time ∷ xid ∷ 0 ∷ 0 ∷ 0 ∷ []
-eventWords (Commit position end time) = 3 ∷ position .0 ∷ end .0 ∷ unsigned half time ∷ 0 ∷ 0 ∷ 0 ∷ []
+eventWords (KeepAlive end time reply) = 1 ∷ end .0 ∷ value 8 time ∷ flagWord reply ∷ 0 ∷ 0 ∷ 0 ∷ []
+eventWords (Begin final time xid) = 2 ∷ final .0 ∷ value 8 time ∷ xid ∷ 0 ∷ 0 ∷ 0 ∷ []
+eventWords (Commit position end time) = 3 ∷ position .0 ∷ end .0 ∷ value 8 time ∷ 0 ∷ 0 ∷ 0 ∷ []
 eventWords (Message flag position pf pl cf cl) = 4 ∷ flagWord flag ∷ position .0 ∷ pf ∷ pl ∷ cf ∷ cl ∷ []
-eventWords (XLogData start end time from len) = 5 ∷ start .0 ∷ end .0 ∷ unsigned half time ∷ from ∷ len ∷ 0 ∷ []
+eventWords (XLogData start end time from len) = 5 ∷ start .0 ∷ end .0 ∷ value 8 time ∷ from ∷ len ∷ 0 ∷ []
 eventWords (StoppedAt reached) = 6 ∷ reached .0 ∷ 0 ∷ 0 ∷ 0 ∷ 0 ∷ 0 ∷ []
 
 -- ---- the parts of a run, each from its words
@@ -208,11 +204,11 @@ HeaderFits h = (length h ≡ 5) × ((k : ℕ) → k < 5 → getD h k 0 < 256)
 
 abbrev pub EventFits : Event → Type 0
 EventFits Nothing = Unit {0}
-EventFits (KeepAlive end time reply) = mag time < half
-EventFits (Begin final time xid) = (mag time < half) × (xid < 2 ^ 32)
-EventFits (Commit position end time) = mag time < half
+EventFits (KeepAlive end time reply) = mag time < half 8
+EventFits (Begin final time xid) = (mag time < half 8) × (xid < 2 ^ 32)
+EventFits (Commit position end time) = mag time < half 8
 EventFits (Message flag position pf pl cf cl) = Unit {0}
-EventFits (XLogData start end time from len) = mag time < half
+EventFits (XLogData start end time from len) = mag time < half 8
 EventFits (StoppedAt reached) = Unit {0}
 
 pub record Fits (r : Run) : Type 0 where

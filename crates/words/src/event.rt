@@ -4,9 +4,9 @@ ghost use Rattle.words.specs.Words.{eventOf, partsOf, eventWords, EventF
 use crate::word::flag;
 use crate::word::flag_of;
 use crate::word::low_half;
-use crate::word::time;
-use crate::word::time_of;
 use lsn::Lsn;
+use wire::field::of_i64;
+use wire::field::to_i64;
 use worker::Event;
 
 // Kinds 1 to 3; else those of whole parts.
@@ -14,7 +14,7 @@ pub(crate) fn event_of(kind: u64, a: u64, b: u64, c: u64, d: u64, e: u64, f: u64
     ensures { λ r. ⌜ r ≡ eventOf kind a b c d e f ⌝ }
 {
     if kind == 1 {
-        let server_time = time_of(b);
+        let server_time = to_i64(b);
         let reply_requested = flag_of(c);
         return Event::KeepAlive {
             wal_end: Lsn(a),
@@ -23,7 +23,7 @@ pub(crate) fn event_of(kind: u64, a: u64, b: u64, c: u64, d: u64, e: u64, f: u64
         };
     }
     if kind == 2 {
-        let commit_time = time_of(b);
+        let commit_time = to_i64(b);
         let xid = low_half(c);
         return Event::Begin {
             final_lsn: Lsn(a),
@@ -32,7 +32,7 @@ pub(crate) fn event_of(kind: u64, a: u64, b: u64, c: u64, d: u64, e: u64, f: u64
         };
     }
     if kind == 3 {
-        let commit_time = time_of(c);
+        let commit_time = to_i64(c);
         return Event::Commit {
             lsn: Lsn(a),
             end_lsn: Lsn(b),
@@ -58,7 +58,7 @@ fn parts_of(kind: u64, a: u64, b: u64, c: u64, d: u64, e: u64, f: u64) -> Event
         };
     }
     if kind == 5 {
-        let server_time = time_of(c);
+        let server_time = to_i64(c);
         return Event::XLogData {
             wal_start: Lsn(a),
             wal_end: Lsn(b),
@@ -82,17 +82,17 @@ pub(crate) fn event_words(event: Event) -> [u64; 7]
             wal_end: a,
             server_time: b,
             reply_requested: c,
-        } => [1, a.0, time(b), flag(c), 0, 0, 0],
+        } => [1, a.0, of_i64(b), flag(c), 0, 0, 0],
         Event::Begin {
             final_lsn: a,
             commit_time: b,
             xid: c,
-        } => [2, a.0, time(b), c as u64, 0, 0, 0],
+        } => [2, a.0, of_i64(b), c as u64, 0, 0, 0],
         Event::Commit {
             lsn: a,
             end_lsn: b,
             commit_time: c,
-        } => [3, a.0, b.0, time(c), 0, 0, 0],
+        } => [3, a.0, b.0, of_i64(c), 0, 0, 0],
         Event::Message {
             transactional: a,
             lsn: b,
@@ -107,7 +107,7 @@ pub(crate) fn event_words(event: Event) -> [u64; 7]
             server_time: c,
             from: d,
             len: e,
-        } => [5, a.0, b.0, time(c), d as u64, e as u64, 0],
+        } => [5, a.0, b.0, of_i64(c), d as u64, e as u64, 0],
         Event::StoppedAt { reached: a } => [6, a.0, 0, 0, 0, 0, 0],
     }
 }

@@ -1,21 +1,20 @@
 // What a host reads before the stream, as words: authentication requests, and the rows of a simple query.
 ghost use mathlib.Core.Path.{_≡_};
 ghost use Rattle.messages.specs.Auth.{authOutcome};
-ghost use Rattle.wire.specs.Field.{unsigned};
+ghost use Rattle.wire.specs.Int.{value};
 ghost use Rattle.query.specs.Row.{rowOutcome};
 ghost use Rattle.words.specs.Startup.{authWords, columnWords};
-ghost use Rattle.words.specs.Words.{half};
 use crate::answers::Reply;
-use crate::word::time;
 use messages::AuthRequest;
 use query::Column;
 use query::row::Row;
+use wire::field::of_i64;
 
 // Two's complement.
 fn code_word(code: i32) -> u64
-    ensures { λ r. ⌜ r ≡ unsigned half code ⌝ }
+    ensures { λ r. ⌜ r ≡ value 8 code ⌝ }
 {
-    time(code as i64)
+    of_i64(code as i64)
 }
 
 pub fn auth_words(request: AuthRequest) -> [u64; 4]

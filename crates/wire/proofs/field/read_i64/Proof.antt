@@ -10,8 +10,8 @@ use Rattle.wire.proofs.field.read_i64.Tie as tie
 
 returns : tie.Need-returns
 returns c =
-    rw (toZ-ofZ w64 (c .to-signed .result) (record { sfits = c .to-signed .ensures .1 }), told u64Of (c .before .before .before .before .read-be .ensures .0) (c .before .before .v .given .1))
-    (ap some (c .to-signed .ensures .0))
+    rw (toZ-ofZ w64 (c .to-i64 .result) (record { sfits = c .to-i64 .ensures .1 }), told u64Of (c .before .before .before .before .read-be .ensures .0) (c .before .before .v .given .1))
+    (ap some (c .to-i64 .ensures .0))
 
 returns-2 : tie.Need-returns-2
 returns-2 c = simp (told u64Of (c .before .before .read-be .ensures .0) (c .enum-told .given .1))

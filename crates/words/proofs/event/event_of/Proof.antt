@@ -10,16 +10,16 @@ returns : tie.Need-returns
 unfolding eventOf
 returns c = simp (eq-eqb _ _ (c .before .before .if1 .taken)) (rw (
   c .flag-of .ensures,
-  toZ-ofZ w64 (c .before .time-of .result) (record { sfits = c .before .time-of .ensures .1 }),
-  c .before .time-of .ensures .0,
+  toZ-ofZ w64 (c .before .to-i64 .result) (record { sfits = c .before .to-i64 .ensures .1 }),
+  c .before .to-i64 .ensures .0,
 ))
 
 returns-2 : tie.Need-returns-2
 unfolding eventOf
 returns-2 c = simp (ne-eqb _ _ (c .before .before .before .if1 .left), eq-eqb _ _ (c .before .before .if2 .taken)) (rw (
   c .low-half .ensures,
-  toZ-ofZ w64 (c .before .time-of2 .result) (record { sfits = c .before .time-of2 .ensures .1 }),
-  c .before .time-of2 .ensures .0,
+  toZ-ofZ w64 (c .before .to-i642 .result) (record { sfits = c .before .to-i642 .ensures .1 }),
+  c .before .to-i642 .ensures .0,
 ))
 
 returns-3 : tie.Need-returns-3
@@ -28,7 +28,7 @@ returns-3 c = simp (
   ne-eqb _ _ (c .before .before .before .if1 .left),
   ne-eqb _ _ (c .before .before .if2 .left),
   eq-eqb _ _ (c .before .if3 .taken),
-) (rw (toZ-ofZ w64 (c .time-of3 .result) (record { sfits = c .time-of3 .ensures .1 }), c .time-of3 .ensures .0))
+) (rw (toZ-ofZ w64 (c .to-i643 .result) (record { sfits = c .to-i643 .ensures .1 }), c .to-i643 .ensures .0))
 
 returns-4 : tie.Need-returns-4
 unfolding eventOf

@@ -12,7 +12,7 @@ returns-2 c =
     let fits = c .before .before .known-told .given .1 .0 .1 in (
       rw (
         c .flag .ensures,
-        c .before .time .ensures,
+        c .before .of-i64 .ensures,
         toZ-ofZ w64 (c .before .before .before .event .given .0 .1 .0) (record { sfits = fits }),
         c .before .before .before .event .given .1,
       ),
@@ -22,7 +22,7 @@ returns-2 c =
 returns-3 : tie.Need-returns-3
 returns-3 c =
     let fits = c .before .known-told2 .given .1 .0 .1 in (
-      rw (c .time2 .ensures, toZ-ofZ w64 (c .before .before .event2 .given .0 .1 .0) (record { sfits = fits }), c .before .before .event2 .given .1),
+      rw (c .of-i642 .ensures, toZ-ofZ w64 (c .before .before .event2 .given .0 .1 .0) (record { sfits = fits }), c .before .before .event2 .given .1),
       rw (c .before .before .event2 .given .1) (fits, c .before .known-told2 .given .1 .1 .0 .1),
     )
 
@@ -30,7 +30,7 @@ returns-4 : tie.Need-returns-4
 returns-4 c =
     let fits = c .before .known-told3 .given .1 .1 .0 .1 in (
       rw (
-        c .time3 .ensures,
+        c .of-i643 .ensures,
         toZ-ofZ w64 (c .before .before .event3 .given .0 .1 .1 .0) (record { sfits = fits }),
         c .before .before .event3 .given .1,
       ),
@@ -44,7 +44,7 @@ returns-6 : tie.Need-returns-6
 returns-6 c =
     let fits = c .before .known-told5 .given .1 .1 .0 .1 in (
       rw (
-        c .time4 .ensures,
+        c .of-i644 .ensures,
         toZ-ofZ w64 (c .before .before .event5 .given .0 .1 .1 .0) (record { sfits = fits }),
         c .before .before .event5 .given .1,
       ),

@@ -15,7 +15,7 @@ unfolding partsOf
 returns-2 c = simp (
   ne-eqb _ _ (c .before .before .if1 .left),
   eq-eqb _ _ (c .before .if2 .taken),
-) (rw (toZ-ofZ w64 (c .time-of .result) (record { sfits = c .time-of .ensures .1 }), c .time-of .ensures .0))
+) (rw (toZ-ofZ w64 (c .to-i64 .result) (record { sfits = c .to-i64 .ensures .1 }), c .to-i64 .ensures .0))
 
 returns-3 : tie.Need-returns-3
 unfolding partsOf
