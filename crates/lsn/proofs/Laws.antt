@@ -2,24 +2,19 @@
 use mathlib.Core.Path.{_≡_, refl, sym, ap, _∙_}
 use mathlib.Core.List.{List, [], _∷_}
 use mathlib.Core.Option.{Option, some, none}
-use Prim.Native.Nat.{ℕ, _+_, _*_, _/_, _%_, _^_, _≤_, _<_}
+use Prim.Native.Nat.{ℕ, _+_, _*_, _-_, _/_, _%_, _^_, _≤_, _<_}
 use native.Mathlib.Numerals.{add-one}
 use native.Mathlib.Omega.{arith}
-use lib.ListN.{length, take, drop, getD, length-append, length-drop, drop-of-length-le}
-use lib.Seq.{drop-cons, take-all}
+use lib.ListN.{length, take, drop, getD, length-append, drop-of-length-le}
+use lib.Seq.{drop-cons}
 use borrow.Author.Tests.{lt-ltb, le-ltb, eq-eqb, ne-eqb}
 use Rattle.wire.specs.Bytes.{placed}
 use Rattle.text.specs.Numeral.{hexText}
-use Rattle.wire.proofs.FindLaws.{found-below}
+use Rattle.wire.proofs.Laws.{tail-whole}
 use Rattle.wire.proofs.Pieces.{filling-start, filling-next, filling-last}
-use Rattle.wire.specs.Find.{indexOf}
-use Rattle.wire.specs.declared.find.Found.{Found}
-use Rattle.wire.specs.declared.find.Found.the-variants.{At, Nothing}
 use Rattle.wire.specs.Field.{andThen}
-use Rattle.lsn.specs.Hex.{digitOf, digitIs, valueFrom, in64, hexDigits, hexPart, partOf}
-use Rattle.lsn.specs.Position.{positionOf, joined, displayOf}
-use Rattle.lsn.specs.declared.hex.HexPart.{HexPart}
-use Rattle.lsn.specs.declared.hex.HexPart.the-variants.{Value, Invalid}
+use Rattle.lsn.specs.Hex.{digitOf, digitIs, valueFrom, in64, hexDigits, hexPart}
+use Rattle.lsn.specs.Position.{displayOf}
 
 -- ---- reading
 
@@ -67,54 +62,15 @@ unfolding hexPart
 part-empty [] h = refl
 part-empty (c ∷ s) h = absurd (omega arith)
 
-pub part-signed : (s : List ℕ) (k : ℕ) → (length s ≡ 0 → ⊥) → length s ≤ k + 1 → getD s 0 0 ≡ 43 → hexDigits (take k (drop 1 s)) ≡ hexPart s
+pub part-signed : (s : List ℕ) → (length s ≡ 0 → ⊥) → getD s 0 0 ≡ 43 → hexDigits (take (length s - 1) (drop 1 s)) ≡ hexPart s
 unfolding hexPart
-part-signed [] k h l e = absurd (h refl)
-part-signed (c ∷ s) k h l e = simp (eq-eqb _ _ e) (ap hexDigits (take-all k s (omega arith)))
+part-signed [] h e = absurd (h refl)
+part-signed (c ∷ s) h e = simp (eq-eqb _ _ e) (ap hexDigits (tail-whole (c ∷ s) 1))
 
 pub part-plain : (s : List ℕ) → (length s ≡ 0 → ⊥) → (getD s 0 0 ≡ 43 → ⊥) → hexDigits s ≡ hexPart s
 unfolding hexPart
 part-plain [] h e = absurd (h refl)
 part-plain (c ∷ s) h e = simp (ne-eqb _ _ e)
-
--- ---- the ways out of parse
-
-module _ (s : List ℕ) {f : Found} (e : f ≡ indexOf 47 s) where
-  pub no-slash : f ≡ Nothing → (22, 0) ≡ positionOf s
-  unfolding positionOf
-  no-slash n = rw (← e, n)
-
-  module _ {i : ℕ} (a : f ≡ At i) where
-    pub slash-below : i < length s
-    slash-below = found-below 47 s i (sym e ∙ a)
-
-    module _ (p : HexPart) (h : partOf p ≡ hexPart (take i s)) where
-      pub bad-high : p ≡ Invalid → (23, 0) ≡ positionOf s
-      unfolding positionOf
-      bad-high n =
-          let g : hexPart (take i s) ≡ none = rw (n) at (sym h) in
-          rw (← e, a, g)
-
-      module _ {hi : ℕ} (v : p ≡ Value hi) (q : HexPart) (k : ℕ) (w : length s ≤ k + (i + 1)) (l : partOf q ≡ hexPart (take k (drop (i + 1) s))) where
-        high : hexPart (take i s) ≡ some hi
-        high = rw v at (sym h)
-
-        low : partOf q ≡ hexPart (drop (i + 1) s)
-        low =
-            let m : length (drop (i + 1) s) ≤ k = simp length-drop (omega arith) in
-            rw (take-all k (drop (i + 1) s) m) at l
-
-        pub bad-low : q ≡ Invalid → (24, 0) ≡ positionOf s
-        unfolding positionOf
-        bad-low n =
-            let g : hexPart (drop (i + 1) s) ≡ none = rw n at (sym low) in
-            rw (← e, a, high, g)
-
-        pub both-good : {lo : ℕ} → q ≡ Value lo → (0, joined hi lo) ≡ positionOf s
-        unfolding positionOf
-        both-good {lo} n =
-            let g : hexPart (drop (i + 1) s) ≡ some lo = rw n at (sym low) in
-            rw (← e, a, high, g)
 
 -- ---- Display
 

@@ -1,36 +1,71 @@
-use Rattle.lsn.specs.Position.{joined}
-use Rattle.lsn.proofs.Laws.{no-slash, slash-below, bad-high, bad-low, both-good}
-use Prim.Native.Nat.{_+_, _-_}
+-- The slash, the high part, then the low part: the first that is missing or bad gives the refusal.
+use mathlib.Core.Path.{_≡_, sym, _∙_}
+use mathlib.Core.Option.{some}
+use Prim.Native.Nat.{_+_, _<_}
 use native.Mathlib.Omega.{arith}
-use lib.ListN.{length, length-take}
+use lib.ListN.{length, take, length-take}
+use Rattle.wire.specs.Find.{indexOf}
+use Rattle.wire.specs.declared.find.Found.the-variants.{At}
+use Rattle.wire.proofs.Laws.{tail-whole}
+use Rattle.wire.proofs.FieldLaws.{told}
+use Rattle.wire.proofs.FindLaws.{found-below}
+use Rattle.lsn.specs.Hex.{hexPart, partOf}
+use Rattle.lsn.specs.Position.{positionOf, joined}
 use borrow.Author.Needs.{needs}
 use Rattle.lsn.proofs.Lsn.parse.Statement.{statement}
 use Rattle.lsn.proofs.Lsn.parse.Tie as tie
 
+abbrev start : tie.After-i → tie.Start
+start c = c .before .before .before .before
+
+slash-found : (c : tie.After-i) → indexOf 47 (start c .args .s .now) ≡ At (c .i .given .0 .0)
+slash-found c = sym (c .before .before .find .ensures) ∙ c .i .given .1
+
+slash-below : (c : tie.After-i) → c .i .given .0 .0 < length (start c .args .s .now)
+slash-below c = found-below 47 _ _ (slash-found c)
+
+-- behind the slash
+abbrev slash : tie.After-hi → tie.After-i
+slash c = c .before .before .before .before .before
+
+high-read : (c : tie.After-hi) → hexPart (take (slash c .i .given .0 .0) (start (slash c) .args .s .now)) ≡ some (c .hi .given .0 .0)
+high-read c = told partOf (c .before .before .part .ensures) (c .hi .given .1)
+
 returns : tie.Need-returns
-returns c = no-slash (c .before .before .before .before .args .s .now) (c .before .before .find .ensures) (c .enum-told .given .1)
+unfolding positionOf
+returns c = simp (sym (c .before .before .find .ensures) ∙ c .enum-told .given .1)
 
 slice-aggregate-part : tie.Need-slice-aggregate-part
-slice-aggregate-part c = let h = slash-below (c .before .before .before .before .before .before .args .s .now) (c .before .before .before .before .find .ensures) (c .before .before .i .given .1) in simp length-take (omega arith)
+slice-aggregate-part c = simp length-take (omega (arith, slash-below (c .before .before)))
 
 returns-2 : tie.Need-returns-2
-returns-2 c = bad-high (c .before .before .before .before .before .before .before .before .before .args .s .now) (c .before .before .before .before .before .before .before .find .ensures) (c .before .before .before .before .before .i .given .1) (c .before .before .part .result) (c .before .before .part .ensures) (c .enum-told2 .given .1)
+unfolding positionOf
+returns-2 c = simp (slash-found (c .before .before .before .before .before), told partOf (c .before .before .part .ensures) (c .enum-told2 .given .1))
 
 add-part : tie.Need-add-part
-add-part c = let h = slash-below (c .before .before .before .before .before .before .before .before .before .before .args .s .now) (c .before .before .before .before .before .before .before .before .find .ensures) (c .before .before .before .before .before .before .i .given .1) in omega arith
+add-part c = omega (arith, slash-below (slash (c .before)))
 
 sub-part : tie.Need-sub-part
-sub-part c = let h = slash-below (c .before .before .before .before .before .before .before .before .before .before .args .s .now) (c .before .before .before .before .before .before .before .before .find .ensures) (c .before .before .before .before .before .before .i .given .1) in omega arith
+sub-part c = omega (arith, slash-below (slash (c .before)))
 
 part-part-start : tie.Need-part-part-start
-part-part-start c = let h = slash-below (c .before .before .before .before .before .before .before .before .before .before .args .s .now) (c .before .before .before .before .before .before .before .before .find .ensures) (c .before .before .before .before .before .before .i .given .1) in omega arith
+part-part-start c = omega (arith, slash-below (slash (c .before)))
 
 returns-3 : tie.Need-returns-3
-returns-3 c = let h = slash-below (c .before .before .before .before .before .before .before .before .before .before .before .before .before .before .args .s .now) (c .before .before .before .before .before .before .before .before .before .before .before .before .find .ensures) (c .before .before .before .before .before .before .before .before .before .before .i .given .1) in bad-low (c .before .before .before .before .before .before .before .before .before .before .before .before .before .before .args .s .now) (c .before .before .before .before .before .before .before .before .before .before .before .before .find .ensures) (c .before .before .before .before .before .before .before .before .before .before .i .given .1) (c .before .before .before .before .before .before .before .part .result) (c .before .before .before .before .before .before .before .part .ensures) (c .before .before .before .before .before .hi .given .1) (c .before .before .part2 .result) (length (c .before .before .before .before .before .before .before .before .before .before .before .before .before .before .args .s .now) - (c .before .before .before .before .before .before .before .before .before .before .i .given .0 .0 + 1)) (omega arith) (c .before .before .part2 .ensures) (c .enum-told3 .given .1)
+unfolding positionOf
+returns-3 c =
+    let h = c .before .before .before .before .before in
+    let s = start (slash h) .args .s .now in
+    let low = rw (tail-whole s (slash h .i .given .0 .0 + 1)) at (told partOf (c .before .before .part2 .ensures) (c .enum-told3 .given .1)) in
+    simp (slash-found (slash h), high-read h, low)
 
 returns-4 : tie.Need-returns-4
-unfolding joined
-returns-4 c = let h = slash-below (c .before .before .before .before .before .before .before .before .before .before .before .before .before .before .before .args .s .now) (c .before .before .before .before .before .before .before .before .before .before .before .before .before .find .ensures) (c .before .before .before .before .before .before .before .before .before .before .before .i .given .1) in both-good (c .before .before .before .before .before .before .before .before .before .before .before .before .before .before .before .args .s .now) (c .before .before .before .before .before .before .before .before .before .before .before .before .before .find .ensures) (c .before .before .before .before .before .before .before .before .before .before .before .i .given .1) (c .before .before .before .before .before .before .before .before .part .result) (c .before .before .before .before .before .before .before .before .part .ensures) (c .before .before .before .before .before .before .hi .given .1) (c .before .before .before .part2 .result) (length (c .before .before .before .before .before .before .before .before .before .before .before .before .before .before .before .args .s .now) - (c .before .before .before .before .before .before .before .before .before .before .before .i .given .0 .0 + 1)) (omega arith) (c .before .before .before .part2 .ensures) (c .before .lo .given .1)
+unfolding positionOf joined
+returns-4 c =
+    let h = c .before .before .before .before .before .before in
+    let s = start (slash h) .args .s .now in
+    let low = rw (tail-whole s (slash h .i .given .0 .0 + 1)) at (told partOf (c .before .before .before .part2 .ensures) (c .before .lo .given .1)) in
+    simp (slash-found (slash h), high-read h, low)
 
 pub parse-spec : {M : Type 1} → statement M
 parse-spec =

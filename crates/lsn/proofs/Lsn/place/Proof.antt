@@ -14,9 +14,10 @@ returns-2 c = unplaced _ _ _ (omega arith)
 
 returns-3 : tie.Need-returns-3
 returns-3 c =
-    let l = c .before .before .before .before .before .before .before .before .before .before .before .before .before .before .before in
-    let a = l .before .before .before .before .args in
-    displayed (a .out .now) (a .to) (a .self .0) (omega (arith, l .if2 .left, l .before .text-len .ensures)) (c .before .before .before .before .before .before .before .before .before .before .before .before .place-hex .ensures) (c .before .before .before .before .before .before .before .place .ensures) (c .before .before .place-hex2 .ensures)
+    let m = c .before .before .before .before .before .before .before in
+    let h = m .before .before .before .before .before in
+    let l = h .before .before .before in
+    displayed _ _ _ (omega (arith, l .if2 .left, l .before .text-len .ensures)) (h .place-hex .ensures) (m .place .ensures) (c .before .before .place-hex2 .ensures)
 
 pub place-spec : {M : Type 1} → statement M
 place-spec =
