@@ -3,17 +3,16 @@ use mathlib.Core.Path.{_≡_, refl, ap}
 use mathlib.Core.List.{List, [], _∷_}
 use mathlib.Core.Bool.{not}
 use mathlib.Core.Option.{some, none}
-use Prim.Native.Nat.{ℕ, suc, _+_, _-_, _≤_, _<_}
+use Prim.Native.Nat.{ℕ, _+_, _-_, _≤_, _<_}
 use native.Mathlib.Omega.{arith}
 use lib.ListN.{length, take, drop, getD}
-use lib.Seq.{take-all}
 use lib.IntN.{ℤ}
 use lib.Dec.{eqb}
 use borrow.Author.Tests.{lt-ltb, le-ltb, eq-eqb, ne-eqb, eqb-true}
 use Rattle.wire.specs.Bytes.{be, at}
 use Rattle.wire.specs.Field.{fieldAt}
 use Rattle.wire.specs.Int.{int, intAt}
-use Rattle.wire.proofs.Laws.{by-test, impossible}
+use Rattle.wire.proofs.Laws.{tail-whole, by-test, impossible}
 use Rattle.wire.proofs.FieldLaws.{field-whole, int-whole, be-one}
 use Rattle.replication.specs.CopyData.{Said, w, k, refused, xlogOf, keepAliveOf, copyDataOf}
 
@@ -50,9 +49,6 @@ keep-alive-read s a z b h e g f =
 
 -- ---- by the letter
 
-tail-whole : (t : List ℕ) → take (suc (length t) - 1) t ≡ t
-tail-whole t = take-all (suc (length t) - 1) t (omega arith)
-
 pub empty : (s : List ℕ) → length s ≡ 0 → refused 10 ≡ copyDataOf s
 unfolding copyDataOf
 empty [] e = refl
@@ -61,12 +57,12 @@ empty (b ∷ t) e = absurd (omega arith)
 pub by-w : (s : List ℕ) (x : Said) → (length s ≡ 0 → ⊥) → getD s 0 0 ≡ 119 → x ≡ xlogOf (take (length s - 1) (drop 1 s)) → x ≡ copyDataOf s
 unfolding copyDataOf
 by-w [] x n e p = absurd (n refl)
-by-w (b ∷ t) x n e p = simp (eq-eqb b 119 e) (rw (tail-whole t) at p)
+by-w (b ∷ t) x n e p = simp (eq-eqb b 119 e) (rw (tail-whole (b ∷ t) 1) at p)
 
 pub by-k : (s : List ℕ) (x : Said) → (length s ≡ 0 → ⊥) → (getD s 0 0 ≡ 119 → ⊥) → getD s 0 0 ≡ 107 → x ≡ keepAliveOf (take (length s - 1) (drop 1 s)) → x ≡ copyDataOf s
 unfolding copyDataOf
 by-k [] x n d e p = absurd (n refl)
-by-k (b ∷ t) x n d e p = simp (ne-eqb b 119 d, eq-eqb b 107 e) (rw (tail-whole t) at p)
+by-k (b ∷ t) x n d e p = simp (ne-eqb b 119 d, eq-eqb b 107 e) (rw (tail-whole (b ∷ t) 1) at p)
 
 pub by-other : (s : List ℕ) → (length s ≡ 0 → ⊥) → (getD s 0 0 ≡ 119 → ⊥) → (getD s 0 0 ≡ 107 → ⊥) → refused 13 ≡ copyDataOf s
 unfolding copyDataOf

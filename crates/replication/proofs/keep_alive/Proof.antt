@@ -11,30 +11,29 @@ use Rattle.replication.proofs.keep_alive.Statement.{statement}
 use Rattle.replication.proofs.keep_alive.Tie as tie
 
 returns : tie.Need-returns
-returns c = keep-alive-short (c .before .before .args .body .now) (omega arith)
+returns c = keep-alive-short (c .before .before .args .body .now) (c .if1 .taken)
 
 returns-2 : tie.Need-returns-2
 returns-2 c =
-    absurd (not-cut 8 (c .before .before .before .before .before .args .body .now) 0 (omega arith) (sym (ap u64Of (c .enum-told .given .1)) ∙ c .before .before .read-u64 .ensures))
+    absurd (not-cut 8 _ 0 (omega arith) (sym (ap u64Of (c .enum-told .given .1)) ∙ c .before .before .read-u64 .ensures))
 
 returns-3 : tie.Need-returns-3
 returns-3 c =
-    absurd (time-not-cut 8 (c .before .before .before .before .before .before .before .before .before .args .body .now) 8 (omega arith) (sym (ap i64Of (c .enum-told2 .given .1)) ∙ c .before .before .read-i64 .ensures))
+    absurd (time-not-cut 8 _ 8 (omega arith) (sym (ap i64Of (c .enum-told2 .given .1)) ∙ c .before .before .read-i64 .ensures))
 
 returns-4 : tie.Need-returns-4
 returns-4 c =
-    absurd (not-cut 1 (c .before .before .before .before .before .before .before .before .before .before .before .before .before .args .body .now) 16 (omega arith) (sym (ap u8Of (c .enum-told3 .given .1)) ∙ c .before .before .read-u8 .ensures))
+    absurd (not-cut 1 _ 16 (omega arith) (sym (ap u8Of (c .enum-told3 .given .1)) ∙ c .before .before .read-u8 .ensures))
 
 returns-5 : tie.Need-returns-5
 returns-5 c =
     let b = c .before in
     let t = b .before .before .before .before in
     let a = t .before .before .before .before in
-    let s = a .before .before .before .before .before .args .body .now in
     let z = t .server-time .given .0 .0 in
     let f : SFits w64 z = record { sfits = omega arith } in
     rw (toZ-ofZ w64 z f)
-    (keep-alive-read s _ z _ (omega arith)
+    (keep-alive-read _ _ z _ (omega arith)
     (sym (ap u64Of (a .end .given .1)) ∙ a .before .before .read-u64 .ensures)
     (sym (ap i64Of (t .server-time .given .1)) ∙ t .before .before .read-i64 .ensures)
     (sym (ap u8Of (b .reply .given .1)) ∙ b .before .before .read-u8 .ensures))

@@ -5,16 +5,16 @@ use Rattle.replication.proofs.parse_copy_data.Statement.{statement}
 use Rattle.replication.proofs.parse_copy_data.Tie as tie
 
 returns : tie.Need-returns
-returns c = empty (c .before .before .args .payload .now) (c .if1 .taken)
+returns c = empty _ (c .if1 .taken)
 
 returns-2 : tie.Need-returns-2
-returns-2 c = by-w (c .before .before .before .before .before .before .args .payload .now) _ (c .before .before .before .before .if1 .left) (c .before .before .if2 .taken) (c .xlog-data .ensures)
+returns-2 c = by-w _ _ (c .before .before .before .before .if1 .left) (c .before .before .if2 .taken) (c .xlog-data .ensures)
 
 returns-3 : tie.Need-returns-3
-returns-3 c = by-k (c .before .before .before .before .before .before .before .args .payload .now) _ (c .before .before .before .before .before .if1 .left) (c .before .before .before .if2 .left) (c .before .before .if3 .taken) (c .keep-alive .ensures)
+returns-3 c = by-k _ _ (c .before .before .before .before .before .if1 .left) (c .before .before .before .if2 .left) (c .before .before .if3 .taken) (c .keep-alive .ensures)
 
 returns-4 : tie.Need-returns-4
-returns-4 c = by-other (c .before .before .before .before .before .args .payload .now) (c .before .before .before .if1 .left) (c .before .if2 .left) (c .if3 .left)
+returns-4 c = by-other _ (c .before .before .before .if1 .left) (c .before .if2 .left) (c .if3 .left)
 
 pub parse-copy-data-spec : {M : Type 1} → statement M
 parse-copy-data-spec =
