@@ -10,11 +10,7 @@ use lib.Dec.{leb}
 use Rattle.wire.specs.Bytes.{pick}
 use Rattle.wire.proofs.Laws.{by-test}
 use Rattle.stream.specs.Cut.{cutOf}
-use Rattle.claims.specs.Plain.{Told, wholeOnes, spanOf, behindByte, acceptedOnes, isRefusedEarly, takenOf}
-
--- a message: its tag and payload
-abbrev pub Msg : Type 0
-Msg = ℕ × List ℕ
+use Rattle.claims.specs.Plain.{Msg, Told, wholeOnes, spanOf, behindByte, acceptedOnes, isRefusedEarly, takenOf}
 
 -- ---- lists of steps
 
@@ -90,6 +86,11 @@ module _ (limit : ℕ) (bytes : List ℕ) where
             ap acceptedOnes (behind-more (spanOf ms) ts x p (omega arith))
             ∙ (accepted-more (behindByte (spanOf ms) ts) x ∙ ap (grown x) (a .since p));
       }
+
+  -- .. for it takes no byte
+  pub no-more : {t : ℕ} {ts : List Told} {ms : List Msg} {ws : List Told} (x : Told) → x .taken ≡ 0 → Account t ts ms ws
+      → Account (t + x .taken) (ts ++ (x ∷ [])) ms (grown x ws)
+  no-more {t} {ts} {ms} {ws} x e a = let q : t + x .taken ≡ t = omega arith in same-ones t ts ms ws x a (rw q (a .whole))
 
   -- a step that takes the last byte of one more
   pub one-more : (t : ℕ) (ts : List Told) (ms ns : List Msg) (ws : List Told) (x : Told) → Account t ts ms ws

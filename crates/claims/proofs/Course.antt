@@ -19,10 +19,14 @@ use Rattle.worker.specs.Run.{lsn, offer}
 use Rattle.worker.specs.Step.{isStoppedAt}
 use Rattle.claims.specs.Happened.{Happened, happenedBy}
 use Rattle.claims.specs.Happened as H
-use Rattle.claims.specs.Plain.{Told, Gives, gives, messageGives, behindOpening, given, eventsOf, offered, isCutOff, isRefusedEarly}
+use Rattle.claims.specs.Plain.{Msg, Told, Gives, gives, messageGives, behindOpening, given, eventsOf, offered, isCutOff, isRefusedEarly}
 use Rattle.claims.specs.Begins.{Begins}
-use Rattle.claims.proofs.Account.{Msg, grown}
+use Rattle.claims.proofs.Account.{grown}
 use Rattle.claims.proofs.Begins.{events-of}
+
+-- where events stand: by the whole messages so far, the accepted steps since the last was whole, and the events handed on
+abbrev pub Course : Type 1
+Course = List Msg → List Told → List Happened → Type 0
 
 -- all but the last
 abbrev pub front : List Msg → List Msg
@@ -73,7 +77,7 @@ module _ (stop : Option ℕ) (opening : Bool) where
   split : (ms : List Msg) → all-of (front ms) ++ last-of ms ≡ all-of ms
   split ms =
       let b : Begins (all-of (front ms)) (all-of ms) =
-      events-of stop opening (front ms) ms (record { rest = drop (length ms - 1) ms; joined = take-append-drop (length ms - 1) ms }) in
+      events-of stop opening (record { rest = drop (length ms - 1) ms; joined = take-append-drop (length ms - 1) ms }) in
       let e : last-of ms ≡ b .rest = ap (drop (length (all-of (front ms)))) (sym (b .joined)) ∙ drop-append-seam (all-of (front ms)) (b .rest) in
       ap (λ (l : List Happened). all-of (front ms) ++ l) e ∙ b .joined
 

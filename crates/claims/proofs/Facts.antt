@@ -3,9 +3,9 @@
 use mathlib.Core.Path.{_≡_, refl, ap, _∙_}
 use mathlib.Core.Bool.{Bool, true, false}
 use mathlib.Core.List.{List, [], _∷_}
-use Prim.Native.Nat.{ℕ}
+use Prim.Native.Nat.{ℕ, _<_}
 use Rattle.wire.specs.Bytes.{pick}
-use Rattle.wire.proofs.Laws.{by-test}
+use Rattle.wire.proofs.Laws.{by-test, impossible}
 use Rattle.lsn.specs.declared.Lsn.{Lsn}
 use Rattle.lsn.specs.Position.{isBelow}
 use Rattle.moment.specs.declared.Moment.{Moment}
@@ -17,7 +17,7 @@ use Rattle.worker.specs.declared.Settings.{Settings}
 use Rattle.worker.specs.declared.State.{State}
 use Rattle.worker.specs.declared.State.the-variants.{Opening, Turn, Drain, Reading, Waiting, Handling, Offering, Ended}
 use Rattle.worker.specs.Run.{freshRun, accepted}
-use Rattle.worker.specs.Step.{confirmed, isStoppedAt, takesPending}
+use Rattle.worker.specs.Step.{confirmed, isEnded, isStoppedAt, takesPending}
 use Rattle.worker.specs.Opening.{reportOf}
 use Rattle.claims.specs.Plain.{isRefusedEarly}
 use Rattle.claims.specs.Past.{Past, a-step, a-report, confirmedOf, lastAccepted, hasSent, sentAt, sentPosition, waitBegan, pendingOf, signalledOf, drainedOf, fullBefore, stoppedNext}
@@ -83,7 +83,7 @@ raise-cell : (c : ProgressCell) (p : Lsn) (m : Moment)
 unfolding raiseOf
 raise-cell c p m = by-test (isBelow (c .applied) p) (λ e. (simp e, simp e)) (λ e. (simp e, simp e))
 
-pub report-facts : (s : Settings) (start : Lsn) (h : List Past) (r : Run) (p : Lsn) (m : Moment) → factsBy r ≡ factsOf s start h
+report-facts : (s : Settings) (start : Lsn) (h : List Past) (r : Run) (p : Lsn) (m : Moment) → factsBy r ≡ factsOf s start h
     → factsBy (reportOf r p m) ≡ factsOf s start (a-report p ∷ h)
 unfolding reportOf factsOf
 report-facts s start h r p m e =
@@ -145,3 +145,38 @@ with-wait m f =
 abbrev pub with-offer : Bool → Bool → Facts → Facts
 with-offer stalled stopped f =
     facts (f .settings) (f .last) (f .wait) (f .at) (f .applied) (f .position) (f .signalled) (f .sent) (f .drained) (f .pending) stalled stopped
+
+-- ---- agreement, by state
+
+-- until the run ends, what it remembers is what the calls tell; and where a message is read, fewer than 256 are drained
+abbrev pub Agrees : State → Facts → Facts → Type 0
+Agrees Opening f g = f ≡ g
+Agrees Turn f g = f ≡ g
+Agrees Drain f g = f ≡ g
+Agrees Reading f g = (f ≡ g) × (f .drained < 256)
+Agrees Waiting f g = f ≡ g
+Agrees Handling f g = f ≡ g
+Agrees Offering f g = f ≡ g
+Agrees Ended f g = Unit
+
+pub agree-now : (x : State) (f g : Facts) → isEnded x ≡ false → Agrees x f g → f ≡ g
+agree-now Opening f g e a = a
+agree-now Turn f g e a = a
+agree-now Drain f g e a = a
+agree-now Reading f g e a = a .0
+agree-now Waiting f g e a = a
+agree-now Handling f g e a = a
+agree-now Offering f g e a = a
+agree-now Ended f g e a = impossible cc
+
+pub report-agrees : (s : Settings) (start : Lsn) (h : List Past) (x : State) (r : Run) (p : Lsn) (m : Moment) → Agrees x (factsBy r) (factsOf s start h)
+    → Agrees x (factsBy (reportOf r p m)) (factsOf s start (a-report p ∷ h))
+unfolding reportOf
+report-agrees s start h Opening r p m a = report-facts s start h r p m a
+report-agrees s start h Turn r p m a = report-facts s start h r p m a
+report-agrees s start h Drain r p m a = report-facts s start h r p m a
+report-agrees s start h Reading r p m a = (report-facts s start h r p m (a .0), a .1)
+report-agrees s start h Waiting r p m a = report-facts s start h r p m a
+report-agrees s start h Handling r p m a = report-facts s start h r p m a
+report-agrees s start h Offering r p m a = report-facts s start h r p m a
+report-agrees s start h Ended r p m a = tt

@@ -5,6 +5,7 @@ pub mod Course
 pub mod Spans
 pub mod Standing
 pub mod Facts
+pub mod Answers
 pub mod Rows
 pub mod Kept
 pub mod HandsOn

@@ -13,14 +13,13 @@ use borrow.Author.Tests.{ltb-true, ltb-false, le-leb, lt-leb}
 use lib.ListN.{length, take, drop, length-take}
 use lib.IntN.{ℤ}
 use lib.Dec.{ltb, leb, eqb}
-use Rattle.wire.specs.Bytes.{pick, put, at}
-use Rattle.wire.proofs.Laws.{by-test, put-none, impossible, part-of-front, part-of-part}
-use Rattle.framing.specs.Read.{Result, limitOf, readOf}
+use Rattle.wire.specs.Bytes.{pick, at}
+use Rattle.wire.proofs.Laws.{by-test, impossible, part-of-front, part-of-part}
+use Rattle.framing.specs.Read.{Result, readOf}
 use Rattle.framing.specs.Read as R
 use Rattle.framing.specs.Feed.{Reads}
 use Rattle.framing.specs.Tag.{isError, isCopyBothResponse, isCopyData}
 use Rattle.framing.proofs.Feed.{read-is-cut}
-use Rattle.frontend.specs.Frontend.{statusUpdate}
 use Rattle.lsn.specs.declared.Lsn.{Lsn}
 use Rattle.metrics.specs.declared.Metrics.{Metrics}
 use Rattle.metrics.specs.Metrics.{more, withReply, withEnd}
@@ -33,7 +32,6 @@ use Rattle.progress.specs.Progress.{lookedOf}
 use Rattle.replication.specs.CopyData.{copyDataOf}
 use Rattle.replication.specs.CopyData as C
 use Rattle.replication.proofs.LayoutXLogData.{data-within}
-use Rattle.worker.specs.declared.Settings.{Settings}
 use Rattle.worker.specs.declared.State.{State}
 use Rattle.worker.specs.declared.State.the-variants.{Opening, Turn, Drain, Reading, Waiting, Handling, Offering, Ended}
 use Rattle.worker.specs.declared.Queue.{Queue}
@@ -45,30 +43,19 @@ use Rattle.worker.specs.declared.Event.the-variants.{Nothing, KeepAlive, Stoppe
 use Rattle.worker.specs.declared.Run.{Run}
 use Rattle.worker.specs.Run.{lsn, clock, wholeOf, offer, withState, withReader, withClock, withDrained, withWhole, withOffer, withMetrics, accepted}
 use Rattle.worker.specs.Rows.{both, unless}
-use Rattle.worker.specs.Step.{Lent, Outcome, boundaryBy, copyDataBy, doneWith, drainOf, endedWith, firstBy, handing, handlingOf, having, idleOf, intervalPassed, isReadable, isStoppedAt, moved, nextOf, offeringOf, offers, openingBy, openingOf, reaches, readBy, readingBy, readingOf, refusedWith, stalledBy, stalledOf, stalls, statusDue, statusOf, turnOf, waitingBy, waitingOf, waitingRead, waits}
+use Rattle.worker.specs.Step.{Lent, Outcome, boundaryBy, copyDataBy, doneWith, drainOf, endedWith, firstBy, handing, handlingOf, having, idleOf, intervalPassed, isReadable, isStoppedAt, moved, nextOf, offeringOf, offers, openingBy, openingOf, reaches, readBy, readingBy, readingOf, stalledBy, stalledOf, stalls, stateOf, statusDue, statusOf, turnOf, waitingBy, waitingOf}
 use Rattle.claims.specs.Happened.{Happened, happenedBy}
 use Rattle.claims.specs.Happened as H
-use Rattle.claims.specs.Plain.{Told, Gives, gives, reaching, dataGives, payloadGives, isCutOff, isFull, byQueue}
+use Rattle.claims.specs.Plain.{Msg, Gives, gives, reaching, dataGives, payloadGives, isCutOff, isFull, byQueue}
 use Rattle.claims.specs.Begins.{isClosed}
 use Rattle.claims.specs.Past.{Past, a-step, confirmedOf, hasSent, pendingOf, signalledOf, drainedOf, fullBefore, stoppedNext}
-use Rattle.claims.specs.Calls.{Played, lentTo}
+use Rattle.claims.specs.Calls.{Played, stepped, lentTo}
 use Rattle.claims.specs.Table.{nothing, done, status, Say, say, isPassed, isIdle, statusIf, readSay, openingSay, readingSay, waitingSay, lastOr, lastMessage, boundaryRefusal, copyDataSay, behindOffer, againSay, tableOf, writtenBy, Answers}
-use Rattle.claims.proofs.Account.{Msg}
-use Rattle.claims.proofs.Course.{Before, Offers, gives-of, following, before-on, before-over, before-skips, before-error, before-goes, going-on, going-over, going-held, handled-over, handled-back, handled-offer, cut-off, waits-on, hands-last, hands-then-stopped, hands-and-goes}
-use Rattle.claims.proofs.Facts.{Facts, factsBy, factsOf, with-status, confirmed-facts, at-moment, with-drained, with-wait, with-offer}
+use Rattle.claims.proofs.Answers.{handing-answers, refused-answers, done-answers, status-answers}
+use Rattle.claims.proofs.Course.{Course, Before, Going, Offers, gives-of, following, before-on, before-over, before-skips, before-error, before-goes, going-on, going-over, going-held, handled-over, handled-back, handled-offer, cut-off, waits-on, hands-last, hands-then-stopped, hands-and-goes}
+use Rattle.claims.proofs.Facts.{Facts, factsBy, factsOf, with-status, confirmed-facts, at-moment, with-drained, with-wait, with-offer, Agrees}
 use Rattle.claims.proofs.Spans.{whole-items}
-use Rattle.claims.proofs.Standing.{Stand, Hold, Ends, Goings, Placed, Standing, tell, limit, stop, with-held, still, still-ends, goes-still, goes-over, read-more, read-whole, read-holds, read-refused, read-last}
-
--- until the run ends, what it remembers is what the calls tell; and where a message is read, fewer than 256 are drained
-abbrev pub Agrees : State → Facts → Facts → Type 0
-Agrees Opening f g = f ≡ g
-Agrees Turn f g = f ≡ g
-Agrees Drain f g = f ≡ g
-Agrees Reading f g = (f ≡ g) × (f .drained < 256)
-Agrees Waiting f g = f ≡ g
-Agrees Handling f g = f ≡ g
-Agrees Offering f g = f ≡ g
-Agrees Ended f g = Unit
+use Rattle.claims.proofs.Standing.{Setup, Stand, Hold, Ends, Placed, Standing, tell, limit, stop, with-held, still, still-ends, goes-still, goes-over, read-more, read-whole, read-holds, read-refused, read-last}
 
 last-one : (d m : Msg) (ms : List Msg) → lastOr d (ms ++ (m ∷ [])) ≡ m
 unfolding lastOr
@@ -85,478 +72,481 @@ reaching-is true z position e =
     (λ t. let h : position < z = ltb-true _ _ t in let l : leb z position ≡ false = lt-leb z position h in simp (t, l))
     (λ t. let h : z ≤ position = ltb-false _ _ t in let l : leb z position ≡ true = le-leb z position h in simp (t, l))
 
--- ---- answers
+-- a step on what calls have left, with so many of the next untaken bytes and an output
+module _ (s : Setup) (z : Played) (i : Input) (n : ℕ) (out : List ℕ) where
+  abbrev r : Run
+  r = z .run
 
-module _ {position : Lsn} {i : Input} {l : Lent} where
-  -- nothing is taken, and the payload buffer stays
-  pub handing-answers : (e : Event) (r : Run) → Answers position i l (say 0 nothing) (handing e r l)
-  handing-answers e r = record { refusal = refl; taken = refl; payload = sym (put-none (l .payload) 0); output = refl }
+  abbrev p : List ℕ
+  p = z .payload
 
-  pub moved-answers : (r : Run) → Answers position i l (say 0 nothing) (moved r l)
-  moved-answers r = handing-answers Nothing r
+  abbrev past : List Past
+  past = z .past
 
-  pub refused-answers : (n : ℕ) (r : Run) → Answers position i l (say n nothing) (refusedWith n r l)
-  refused-answers n r = record { refusal = refl; taken = refl; payload = sym (put-none (l .payload) 0); output = refl }
-
-  pub done-answers : (e : Event) (r : Run) → Answers position i l (say 0 done) (doneWith e r l)
-  done-answers e r = record { refusal = refl; taken = refl; payload = sym (put-none (l .payload) 0); output = refl }
-
-  pub status-answers : (reply : Bool) (to : State) (r : Run) → r .progress .applied ≡ position → Answers position i l (say 0 (status reply)) (statusOf reply to r i l)
-  unfolding statusOf
-  status-answers reply to r e =
-      record {
-        refusal = refl;
-        taken = refl;
-        payload = sym (put-none (l .payload) 0);
-        output = ap (λ (p : Lsn). (39, put (l .out) 0 (statusUpdate (p .0) (i .«client_time») reply))) e;
-      }
-
--- ---- a step on what calls have left
-
-module _ (s : Settings) (opening : Bool) (bytes : List ℕ) (start : Lsn) (z : Played) (i : Input) (n : ℕ) (out : List ℕ) where
-  abbrev pub lent : Lent
-  lent = lentTo bytes z n out
+  abbrev l : Lent
+  l = lentTo (s .bytes) z n out
 
   -- the run as a state's row gets it
-  abbrev pub in-state : State → Run
-  in-state x = accepted (i .moment) (withState x (z .run))
+  abbrev in-state : State → Run
+  in-state x = accepted (i .moment) (withState x r)
 
-  -- the answer is as said, and what holds behind it
+  -- ---- what a row shows
+
+  -- an outcome's answer is as said
+  abbrev Answered : Say → Outcome → Type 0
+  Answered y o = Answers (confirmedOf (s .start) past) i l y o
+
+  -- .. and what the run remembers is what the calls tell, a step more
+  abbrev Agreed : State → Outcome → Type 0
+  Agreed from o =
+      Agrees (o .run .state) (factsBy (o .run)) (factsOf (s .settings) (s .start) (a-step i from (o .run .state) (o .refusal) (o .written) ∷ past))
+
   pub record Next (from : State) (y : Say) (o : Outcome) : Type 0 where
-    pub answers : Answers (confirmedOf start (z .past)) i lent y o
-    pub agrees : Agrees (o .run .state) (factsBy (o .run)) (factsOf s start (a-step i from (o .run .state) (o .refusal) (o .written) ∷ z .past))
-    pub stands : Standing s opening bytes (o .run .state) (o .run) (o .payload) (z .taken + o .taken) (z .told ++ (tell i (o .refusal) (o .taken) ∷ []))
-        (z .events ++ happenedBy (o .event) (o .payload))
+    pub answers : Answered y o
+    pub agrees : Agreed from o
+    pub stands : Standing s (o .run .state) (stepped z i o)
 
-  next : {from : State} {y : Say} {o : Outcome} → Answers (confirmedOf start (z .past)) i lent y o
-      → Agrees (o .run .state) (factsBy (o .run)) (factsOf s start (a-step i from (o .run .state) (o .refusal) (o .written) ∷ z .past))
-      → Placed s opening bytes (o .run .state) (o .run) (o .payload) (z .taken + o .taken) (z .told ++ (tell i (o .refusal) (o .taken) ∷ []))
-      (z .events ++ happenedBy (o .event) (o .payload))
-      → Next from y o
-  next a f p = record { answers = a; agrees = f; stands = inr p }
+  next : {from : State} {y : Say} {o : Outcome} → Answered y o → Agreed from o → Placed s (o .run .state) (stepped z i o) → Next from y o
+  next a f b = record { answers = a; agrees = f; stands = inr b }
 
-  -- one row or another, where the table and the step make the same test
-  pub either : {from : State} (c : Bool) {y z : Say} {x o : Outcome} → (c ≡ true → Next from y x) → (c ≡ false → Next from z o)
-      → Next from (pick c y z) (pick c x o)
-  either true hx ho = hx refl
-  either false hx ho = ho refl
+  -- what the table says of a state
+  abbrev said : State → Say
+  said x = tableOf x (s .settings) (s .start) past i (take (z .taken) (s .bytes)) (l .unread)
 
-  pub status-if : {from : State} (c : Bool) {x o : Outcome} → Next from (say 0 (status false)) x → Next from (say 0 nothing) o
-      → Next from (say 0 (statusIf c)) (pick c x o)
-  status-if true hx ho = hx
-  status-if false hx ho = ho
+  abbrev pub Row : State → Type 0
+  Row x = Next x (said x) (stateOf x (in-state x) i l)
 
-  module _ (e : factsBy (z .run) ≡ factsOf s start (z .past)) where
+  -- one outcome or another, where the table and the step make the same test
+  pub either : {from : State} (c : Bool) {y y' : Say} {o o' : Outcome} → (c ≡ true → Next from y o) → (c ≡ false → Next from y' o')
+      → Next from (pick c y y') (pick c o o')
+  either true f g = f refl
+  either false f g = g refl
+
+  status-if : {from : State} (c : Bool) {o o' : Outcome} → Next from (say 0 (status false)) o → Next from (say 0 nothing) o'
+      → Next from (say 0 (statusIf c)) (pick c o o')
+  status-if true a b = a
+  status-if false a b = b
+
+  -- where the reader and the events stand before the step, and behind one that takes no byte
+  abbrev Here : Course → Type 0
+  Here C = Stand s C (r .reader) p (z .taken) (z .told) (z .events)
+
+  abbrev There : Course → Type 0
+  There C = Stand s C (r .reader) p (z .taken + 0) (z .told ++ (tell i 0 0 ∷ [])) (z .events ++ [])
+
+  abbrev Gone : Course
+  Gone = Going (stop s) (s .opening)
+
+  module _ (e : factsBy r ≡ factsOf (s .settings) (s .start) past) where
     -- ---- tests, by the run and by the calls
 
-    pub applied-is : z .run .progress .applied ≡ confirmedOf start (z .past)
-    unfolding factsOf
-    applied-is = ap (λ (f : Facts). f .applied) e
-
-    settings-is : z .run .settings ≡ s
+    settings-is : r .settings ≡ s .settings
     unfolding factsOf
     settings-is = ap (λ (f : Facts). f .settings) e
 
-    drained-is : z .run .drained ≡ drainedOf (z .past)
+    applied-is : r .progress .applied ≡ confirmedOf (s .start) past
+    unfolding factsOf
+    applied-is = ap (λ (f : Facts). f .applied) e
+
+    drained-is : r .drained ≡ drainedOf past
     unfolding factsOf
     drained-is = ap (λ (f : Facts). f .drained) e
 
-    pending-is : z .run .pending ≡ pendingOf start (z .past)
+    pending-is : r .pending ≡ pendingOf (s .start) past
     unfolding factsOf
     pending-is = ap (λ (f : Facts). f .pending) e
 
-    signalled-is : z .run .progress .signalled ≡ signalledOf start (z .past)
+    signalled-is : r .progress .signalled ≡ signalledOf (s .start) past
     unfolding factsOf
     signalled-is = ap (λ (f : Facts). f .signalled) e
 
-    pub passed-is : (x : State) → intervalPassed (in-state x) ≡ isPassed s (z .past) i
+    stopped-is : isStoppedAt (r .offer .event) ≡ stoppedNext past
+    unfolding factsOf
+    stopped-is = ap (λ (f : Facts). f .stopped) e
+
+    full-is : r .offer .stalled ≡ fullBefore past
+    unfolding factsOf
+    full-is = ap (λ (f : Facts). f .stalled) e
+
+    passed-is : (x : State) → intervalPassed (in-state x) ≡ isPassed (s .settings) past i
     unfolding factsOf
     passed-is x = ap (λ (f : Facts). leb (f .settings .«status_interval») (sinceOf (i .moment) (f .at))) e
 
-    abbrev idle : Bool
-    idle = leb (z .run .settings .«idle_wakeup_interval») (sinceOf (i .moment) (z .run .clock .«wait_began»))
-
-    idle-is : idle ≡ isIdle s (z .past) i
-    unfolding factsOf
-    idle-is = ap (λ (f : Facts). leb (f .settings .«idle_wakeup_interval») (sinceOf (i .moment) (f .wait))) e
-
-    due-is : (x : State) → statusDue (in-state x) ≡ pick (hasSent (z .past)) (isPassed s (z .past) i) true
+    due-is : (x : State) → statusDue (in-state x) ≡ pick (hasSent past) (isPassed (s .settings) past i) true
     unfolding factsOf
     due-is x = ap (λ (f : Facts). pick (f .sent) (leb (f .settings .«status_interval») (sinceOf (i .moment) (f .at))) true) e
 
-    -- what is remembered and told stays, but for the moment of the step
-    pub same : at-moment (i .moment) (factsBy (z .run)) ≡ at-moment (i .moment) (factsOf s start (z .past))
+    abbrev idle : Bool
+    idle = leb (r .settings .«idle_wakeup_interval») (sinceOf (i .moment) (r .clock .«wait_began»))
+
+    idle-is : idle ≡ isIdle (s .settings) past i
+    unfolding factsOf
+    idle-is = ap (λ (f : Facts). leb (f .settings .«idle_wakeup_interval») (sinceOf (i .moment) (f .wait))) e
+
+    -- what is remembered and told is as it was, but for the step's moment
+    same : at-moment (i .moment) (factsBy r) ≡ at-moment (i .moment) (factsOf (s .settings) (s .start) past)
     same = ap (at-moment (i .moment)) e
-
-    -- ---- states whose messages are all done with
-
-    module _ (b : Goings s opening bytes (z .run .reader) (z .payload) (z .taken) (z .told) (z .events)) where
-      -- no byte is taken, and nothing handed on
-      stays : Goings s opening bytes (z .run .reader) (z .payload) (z .taken + 0) (z .told ++ (tell i 0 0 ∷ [])) (z .events ++ [])
-      stays = goes-still s opening bytes i 0 b
-
-      -- .. and a CopyDone ends the run
-      done-next : {from : State} (x : State) → Next from (say 0 done) (doneWith Nothing (in-state x) lent)
-      done-next x = next (done-answers Nothing (in-state x)) tt (goes-over s opening bytes i 0 b)
-
-      pub turn-next : Next Turn (tableOf Turn s start (z .past) i (take (z .taken) bytes) (lent .unread)) (turnOf (in-state Turn) i lent)
-      unfolding turnOf statusOf factsOf
-      turn-next =
-          rw (← due-is Turn)
-          (status-if (statusDue (in-state Turn))
-          (next (status-answers false Drain (withDrained 0 (in-state Turn)) applied-is)
-          (confirmed-facts (withDrained 0 (z .run)) (i .moment) ∙ ap (λ (f : Facts). with-status (i .moment) (with-drained 0 f)) e) stays)
-          (next (moved-answers _) (ap (λ (f : Facts). at-moment (i .moment) (with-drained 0 f)) e) stays))
-
-      pub drain-next : Next Drain (tableOf Drain s start (z .past) i (take (z .taken) bytes) (lent .unread)) (drainOf (in-state Drain) i lent)
-      unfolding drainOf lookedOf factsOf
-      drain-next =
-          rw (← drained-is)
-          (either (both (ltb (z .run .drained) 256) (leb 5 (length (lent .unread))))
-          (λ a. next (moved-answers _) (same, under (ltb (z .run .drained) 256) (leb 5 (length (lent .unread))) refl a) stays)
-          (λ a.
-          either (eqb (z .run .drained) 0)
-          (λ c. next (moved-answers _) (ap (with-wait (i .moment)) e) stays)
-          (λ c. either (i .stop) (λ d. done-next Drain) (λ d. next (moved-answers _) same stays))))
-        where
-          under : (x y : Bool) → ltb (z .run .drained) 256 ≡ x → both x y ≡ true → z .run .drained < 256
-          under true y f g = ltb-true _ _ f
-          under false y f g = impossible cc
 
     -- ---- a read
 
-    abbrev unread : List ℕ
-    unread = lent .unread
-
-    -- what a state that reads gets of the next untaken bytes; all of them read the same way
+    -- what each state that reads gets of the next untaken bytes
     abbrev x : Result
-    x = readBy (in-state Reading) i lent
+    x = readBy (in-state Reading) i l
 
-    same-read : readOf (s .«max_message_size») (z .run .reader) unread (i .ended) (z .payload) ≡ x
+    same-read : readOf (s .settings .«max_message_size») (r .reader) (l .unread) (i .ended) p ≡ x
     same-read = rw settings-is
-
-    module _ {C : List Msg → List Told → List Happened → Type 0} (b : Stand s opening bytes C (z .run .reader) (z .payload) (z .taken) (z .told) (z .events)) where
-      reads : Reads (limit s opening bytes) (take (z .taken) bytes) unread (i .ended) (z .payload) x
-      reads =
-          rw same-read at
-          (read-is-cut (s .«max_message_size») (take (z .taken) bytes) unread (i .ended) (z .run .reader) (z .payload) (b .base .room) (b .base .stands))
-
-      read-answers : (f : R.Said → Say) (a : R.Said) (o : Outcome) → x .0 ≡ a → o .refusal ≡ f a .refusal
-          → (o .written, o .out) ≡ writtenBy (f a .writing) (confirmedOf start (z .past)) (i .«client_time») out
-          → Answers (confirmedOf start (z .past)) i lent (readSay (limit s opening bytes) (take (z .taken) bytes) unread (i .ended) f) (having (x .2) (x .3) o)
-      read-answers f a o hx hr hw =
-          let q = sym hx ∙ reads .answer in
-          record {
-            refusal = hr ∙ ap (λ (y : R.Said). f y .refusal) q;
-            taken = reads .taken;
-            payload = reads .buffer;
-            output = hw ∙ ap (λ (y : R.Said). writtenBy (f y .writing) (confirmedOf start (z .past)) (i .«client_time») out) q;
-          }
-
-    -- by what is said of the read, and an outcome that takes what was read
-    abbrev Read : State → (R.Said → Say) → Outcome → Type 0
-    Read from f o = Next from (readSay (limit s opening bytes) (take (z .taken) bytes) unread (i .ended) f) (having (x .2) (x .3) o)
 
     -- the run with the reader behind what it read
     abbrev read-in : State → Run
     read-in st = withReader (x .1) (in-state st)
 
-    -- ---- Reading, Waiting
+    -- an outcome that takes what was read, as f says by what the reader answered
+    abbrev read-say : (R.Said → Say) → Say
+    read-say f = readSay (limit s) (take (z .taken) (s .bytes)) (l .unread) (i .ended) f
 
-    module _ (b : Goings s opening bytes (z .run .reader) (z .payload) (z .taken) (z .told) (z .events)) where
-      abbrev behind : List Told
-      behind = z .told ++ (tell i 0 (x .2) ∷ [])
+    abbrev Read : State → (R.Said → Say) → Outcome → Type 0
+    Read from f o = Next from (read-say f) (having (x .2) (x .3) o)
 
-      more-goes : x .0 ≡ R.more → Goings s opening bytes (x .1) (x .3) (z .taken + x .2) behind (z .events ++ [])
-      more-goes h = read-more s opening bytes b n i x same-read _ _ 0 h (going-on _ _ (tell i 0 (x .2)))
-
-      whole-holds : (w : Bool) (tag k : ℕ) → x .0 ≡ R.whole tag k → Hold s opening bytes (wholeOf tag k w) (x .1) (x .3) (z .taken + x .2) behind (z .events ++ [])
-      whole-holds w tag k h = read-holds s opening bytes b n i x same-read _ 0 w tag k h (going-held _ _)
-
-      refused-ends : (m : ℕ) → x .0 ≡ R.refused m → Ends s opening bytes (z .taken + x .2) (z .told ++ (tell i m (x .2) ∷ [])) (z .events ++ [])
-      refused-ends m h = read-refused s opening bytes b n i x same-read _ m m h (going-over _ _ (tell i m (x .2)))
-
-      one-drained : z .run .drained < 256 → more (z .run .drained) 1 ≡ z .run .drained + 1
-      one-drained d = let w : z .run .drained + 1 < 2 ^ 64 = omega arith in mod-eq-of-lt w
-
-      pub reading-next : z .run .drained < 256
-          → Next Reading (tableOf Reading s start (z .past) i (take (z .taken) bytes) unread) (readingOf (in-state Reading) i lent)
-      unfolding readingOf factsOf
-      reading-next d = by (x .0) refl
-        where
-          by : (a : R.Said) → x .0 ≡ a → Read Reading readingSay (readingBy a (read-in Reading) lent)
-          by R.more h = next (read-answers b readingSay R.more (moved (read-in Reading) lent) h refl refl) (same, d) (more-goes h)
-          by (R.whole tag k) h =
-              next (read-answers b readingSay (R.whole tag k) (readingBy (R.whole tag k) (read-in Reading) lent) h refl refl)
-              (ap (λ (m : ℕ). with-drained m (at-moment (i .moment) (factsBy (z .run)))) (one-drained d)
-              ∙ ap (λ (f : Facts). with-drained (f .drained + 1) (at-moment (i .moment) f)) e)
-              (whole-holds false tag k h)
-          by (R.refused m) h = next (read-answers b readingSay (R.refused m) (endedWith m (read-in Reading) lent) h refl refl) tt (refused-ends m h)
-
-      -- a status, and the wait ends
-      wakes : Next Waiting (say 0 (status false)) (statusOf false Turn (in-state Waiting) i lent)
-      unfolding statusOf factsOf
-      wakes = next (status-answers false Turn (in-state Waiting) applied-is) (confirmed-facts (z .run) (i .moment) ∙ ap (with-status (i .moment)) e) (stays b)
-
-      idle-next : Next Waiting (say 0 (statusIf idle)) (idleOf (in-state Waiting) i lent)
-      unfolding factsOf
-      idle-next = status-if idle wakes (next (moved-answers _) same (stays b))
-
-      waiting-read : (a : R.Said) → x .0 ≡ a → Read Waiting (waitingSay idle) (waitingBy a (read-in Waiting) i lent)
-      unfolding statusOf factsOf
-      waiting-read R.more h = by idle
-        where
-          by : (c : Bool) → Read Waiting (waitingSay c) (pick c (statusOf false Turn (read-in Waiting) i lent) (moved (read-in Waiting) lent))
-          by true =
-              next
-              (read-answers b (waitingSay true) R.more (statusOf false Turn (read-in Waiting) i lent) h refl
-              (status-answers {i = i} {l = lent} false Turn (read-in Waiting) applied-is .output))
-              (confirmed-facts (withReader (x .1) (z .run)) (i .moment) ∙ ap (with-status (i .moment)) e)
-              (more-goes h)
-          by false = next (read-answers b (waitingSay false) R.more (moved (read-in Waiting) lent) h refl refl) same (more-goes h)
-      waiting-read (R.whole tag k) h = next (read-answers b (waitingSay idle) (R.whole tag k) (waitingBy (R.whole tag k) (read-in Waiting) i lent) h refl refl) same (whole-holds true tag k h)
-      waiting-read (R.refused m) h =
-          next (read-answers b (waitingSay idle) (R.refused m) (endedWith m (read-in Waiting) lent) h refl refl) tt (refused-ends m h)
-
-      pub waiting-next : Next Waiting (tableOf Waiting s start (z .past) i (take (z .taken) bytes) unread) (waitingOf (in-state Waiting) i lent)
-      unfolding waitingOf factsOf
-      waiting-next =
-          rw (← pending-is, ← signalled-is, ← passed-is Waiting, ← idle-is)
-          (either (i .stop) (λ a. done-next b Waiting)
-          (λ a.
-          either (both (z .run .pending) (intervalPassed (in-state Waiting))) (λ c. wakes)
-          (λ c.
-          either (unless (z .run .pending) (z .run .progress .signalled)) (λ d. next (moved-answers _) same (stays b))
-          (λ d. either (isReadable i lent) (λ f. waiting-read (x .0) refl) (λ f. idle-next)))))
+    read-answers : {C : Course} → Here C → (f : R.Said → Say) (a : R.Said) (o : Outcome) → x .0 ≡ a → o .refusal ≡ f a .refusal
+        → (o .written, o .out) ≡ writtenBy (f a .writing) (confirmedOf (s .start) past) (i .«client_time») out
+        → Answered (read-say f) (having (x .2) (x .3) o)
+    read-answers b f a o h hr hw =
+        let y : Reads (limit s) (take (z .taken) (s .bytes)) (l .unread) (i .ended) p x =
+        rw same-read at
+        (read-is-cut (s .settings .«max_message_size») (take (z .taken) (s .bytes)) (l .unread) (i .ended) (r .reader) p (b .base .room) (b .base .stands)) in
+        let q = sym h ∙ y .answer in
+        record {
+          refusal = hr ∙ ap (λ (g : R.Said). f g .refusal) q;
+          taken = y .taken;
+          payload = y .buffer;
+          output = hw ∙ ap (λ (g : R.Said). writtenBy (f g .writing) (confirmedOf (s .start) past) (i .«client_time») out) q;
+        }
 
     -- ---- Opening
 
-    module _ (b : Stand s opening bytes (Before (stop s opening bytes) opening) (z .run .reader) (z .payload) (z .taken) (z .told) (z .events)) where
-      pub opening-next : Next Opening (tableOf Opening s start (z .past) i (take (z .taken) bytes) unread) (openingOf (in-state Opening) i lent)
-      unfolding openingOf factsOf
-      opening-next = by (x .0) refl
-        where
-          by-tag : (tag k : ℕ) → x .0 ≡ R.whole tag k → (c d : Bool) → isCopyBothResponse tag ≡ c → isError tag ≡ d
-              → Read Opening openingSay
-              (pick c (moved (withState Turn (read-in Opening)) lent)
-              (pick d (endedWith 19 (withWhole (wholeOf tag k false) (read-in Opening)) lent) (moved (read-in Opening) lent)))
-          by-tag tag k h true d ec ed =
-              next (read-answers b openingSay (R.whole tag k) (moved (withState Turn (read-in Opening)) lent) h (simp ec) (simp ec)) same
-              (read-whole s opening bytes b n i x same-read _ _ 0 tag k h (λ y. before-goes _ _ _ y ec))
-          by-tag tag k h false true ec ed =
-              next (read-answers b openingSay (R.whole tag k) (endedWith 19 (withWhole (wholeOf tag k false) (read-in Opening)) lent) h (simp (ec, ed)) (simp (ec, ed))) tt
-              (read-last s opening bytes b n i x same-read _ 19 tag k h (λ y. before-error _ _ _ y ec ed))
-          by-tag tag k h false false ec ed =
-              next (read-answers b openingSay (R.whole tag k) (moved (read-in Opening) lent) h (simp (ec, ed)) (simp (ec, ed))) same
-              (read-whole s opening bytes b n i x same-read _ _ 0 tag k h (λ y. before-skips _ _ _ y ec ed))
+    pub opening-next : Here (Before (stop s) (s .opening)) → Row Opening
+    unfolding stateOf openingOf factsOf
+    opening-next b = by (x .0) refl
+      where
+        by-tag : (tag k : ℕ) → x .0 ≡ R.whole tag k → (c d : Bool) → isCopyBothResponse tag ≡ c → isError tag ≡ d
+            → Read Opening openingSay
+            (pick c (moved (withState Turn (read-in Opening)) l)
+            (pick d (endedWith 19 (withWhole (wholeOf tag k false) (read-in Opening)) l) (moved (read-in Opening) l)))
+        by-tag tag k h true d ec ed =
+            next (read-answers b openingSay (R.whole tag k) (moved (withState Turn (read-in Opening)) l) h (simp ec) (simp ec)) same
+            (read-whole b n i x same-read 0 tag k h (λ a. before-goes _ _ _ a ec))
+        by-tag tag k h false true ec ed =
+            next
+            (read-answers b openingSay (R.whole tag k) (endedWith 19 (withWhole (wholeOf tag k false) (read-in Opening)) l) h (simp (ec, ed)) (simp (ec, ed)))
+            tt (read-last b n i x same-read 19 tag k h (λ a. before-error _ _ _ a ec ed))
+        by-tag tag k h false false ec ed =
+            next (read-answers b openingSay (R.whole tag k) (moved (read-in Opening) l) h (simp (ec, ed)) (simp (ec, ed))) same
+            (read-whole b n i x same-read 0 tag k h (λ a. before-skips _ _ _ a ec ed))
 
-          by : (a : R.Said) → x .0 ≡ a → Read Opening openingSay (openingBy a (read-in Opening) lent)
-          by R.more h =
-              next (read-answers b openingSay R.more (moved (read-in Opening) lent) h refl refl) same
-              (read-more s opening bytes b n i x same-read _ _ 0 h (before-on _ _ (tell i 0 (x .2))))
-          by (R.whole tag k) h = by-tag tag k h (isCopyBothResponse tag) (isError tag) refl refl
-          by (R.refused m) h =
-              next (read-answers b openingSay (R.refused m) (endedWith m (read-in Opening) lent) h refl refl) tt
-              (read-refused s opening bytes b n i x same-read _ m m h (before-over _ _ (tell i m (x .2))))
+        by : (a : R.Said) → x .0 ≡ a → Read Opening openingSay (openingBy a (read-in Opening) l)
+        by R.more h =
+            next (read-answers b openingSay R.more (moved (read-in Opening) l) h refl refl) same
+            (read-more b n i x same-read 0 h (before-on _ _ (tell i 0 (x .2))))
+        by (R.whole tag k) h = by-tag tag k h (isCopyBothResponse tag) (isError tag) refl refl
+        by (R.refused k) h =
+            next (read-answers b openingSay (R.refused k) (endedWith k (read-in Opening) l) h refl refl) tt
+            (read-refused b n i x same-read k k h (before-over _ _ (tell i k (x .2))))
+
+    -- ---- Turn, Drain, Reading, Waiting: the events of all messages are handed on
+
+    module _ (b : Here Gone) where
+      -- no byte is taken, and nothing handed on
+      stays : There Gone
+      stays = goes-still i 0 b
+
+      -- .. and a CopyDone ends the run
+      done-next : (st : State) → Next st (say 0 done) (doneWith Nothing (in-state st) l)
+      done-next st = next (done-answers Nothing (in-state st)) tt (goes-over i 0 b)
+
+      pub turn-next : Row Turn
+      unfolding stateOf turnOf statusOf factsOf
+      turn-next =
+          rw (← due-is Turn)
+          (status-if (statusDue (in-state Turn))
+          (next (status-answers false Drain (withDrained 0 (in-state Turn)) applied-is)
+          (confirmed-facts (withDrained 0 r) (i .moment) ∙ ap (λ (f : Facts). with-status (i .moment) (with-drained 0 f)) e) stays)
+          (next (handing-answers _ _) (ap (λ (f : Facts). at-moment (i .moment) (with-drained 0 f)) e) stays))
+
+      pub drain-next : Row Drain
+      unfolding stateOf drainOf lookedOf factsOf
+      drain-next =
+          rw (← drained-is)
+          (either (both (ltb (r .drained) 256) (leb 5 (length (l .unread))))
+          (λ a. next (handing-answers _ _) (same, under (ltb (r .drained) 256) (leb 5 (length (l .unread))) refl a) stays)
+          (λ a.
+          either (eqb (r .drained) 0)
+          (λ c. next (handing-answers _ _) (ap (with-wait (i .moment)) e) stays)
+          (λ c. either (i .stop) (λ d. done-next Drain) (λ d. next (handing-answers _ _) same stays))))
+        where
+          under : (c d : Bool) → ltb (r .drained) 256 ≡ c → both c d ≡ true → r .drained < 256
+          under true d f g = ltb-true _ _ f
+          under false d f g = impossible cc
+
+      more-goes : x .0 ≡ R.more → Stand s Gone (x .1) (x .3) (z .taken + x .2) (z .told ++ (tell i 0 (x .2) ∷ [])) (z .events ++ [])
+      more-goes h = read-more b n i x same-read 0 h (going-on _ _ (tell i 0 (x .2)))
+
+      whole-holds : (in-wait : Bool) (tag k : ℕ) → x .0 ≡ R.whole tag k
+          → Hold s (wholeOf tag k in-wait) (x .1) (x .3) (z .taken + x .2) (z .told ++ (tell i 0 (x .2) ∷ [])) (z .events ++ [])
+      whole-holds in-wait tag k h = read-holds b n i x same-read 0 tag k h in-wait (going-held _ _)
+
+      refused-ends : (k : ℕ) → x .0 ≡ R.refused k → Ends s (z .taken + x .2) (z .told ++ (tell i k (x .2) ∷ [])) (z .events ++ [])
+      refused-ends k h = read-refused b n i x same-read k k h (going-over _ _ (tell i k (x .2)))
+
+      pub reading-next : r .drained < 256 → Row Reading
+      unfolding stateOf readingOf factsOf
+      reading-next d = by (x .0) refl
+        where
+          -- no counter of so few wraps
+          one-drained : more (r .drained) 1 ≡ r .drained + 1
+          one-drained = let w : r .drained + 1 < 2 ^ 64 = omega arith in mod-eq-of-lt w
+
+          by : (a : R.Said) → x .0 ≡ a → Read Reading readingSay (readingBy a (read-in Reading) l)
+          by R.more h = next (read-answers b readingSay R.more (moved (read-in Reading) l) h refl refl) (same, d) (more-goes h)
+          by (R.whole tag k) h =
+              next (read-answers b readingSay (R.whole tag k) (readingBy (R.whole tag k) (read-in Reading) l) h refl refl)
+              (ap (λ (m : ℕ). with-drained m (at-moment (i .moment) (factsBy r))) one-drained
+              ∙ ap (λ (f : Facts). with-drained (f .drained + 1) (at-moment (i .moment) f)) e)
+              (whole-holds false tag k h)
+          by (R.refused k) h = next (read-answers b readingSay (R.refused k) (endedWith k (read-in Reading) l) h refl refl) tt (refused-ends k h)
+
+      -- a status, and the wait ends
+      wakes : Next Waiting (say 0 (status false)) (statusOf false Turn (in-state Waiting) i l)
+      unfolding statusOf factsOf
+      wakes = next (status-answers false Turn (in-state Waiting) applied-is) (confirmed-facts r (i .moment) ∙ ap (with-status (i .moment)) e) stays
+
+      idle-next : Next Waiting (say 0 (statusIf idle)) (idleOf (in-state Waiting) i l)
+      unfolding factsOf
+      idle-next = status-if idle wakes (next (handing-answers _ _) same stays)
+
+      waiting-read : (a : R.Said) → x .0 ≡ a → Read Waiting (waitingSay idle) (waitingBy a (read-in Waiting) i l)
+      unfolding statusOf factsOf
+      waiting-read R.more h = by idle
+        where
+          by : (c : Bool) → Read Waiting (waitingSay c) (pick c (statusOf false Turn (read-in Waiting) i l) (moved (read-in Waiting) l))
+          by true =
+              next
+              (read-answers b (waitingSay true) R.more (statusOf false Turn (read-in Waiting) i l) h refl
+              (status-answers {i = i} {l = l} false Turn (read-in Waiting) applied-is .output))
+              (confirmed-facts (withReader (x .1) r) (i .moment) ∙ ap (with-status (i .moment)) e)
+              (more-goes h)
+          by false = next (read-answers b (waitingSay false) R.more (moved (read-in Waiting) l) h refl refl) same (more-goes h)
+      waiting-read (R.whole tag k) h =
+          next (read-answers b (waitingSay idle) (R.whole tag k) (waitingBy (R.whole tag k) (read-in Waiting) i l) h refl refl) same (whole-holds true tag k h)
+      waiting-read (R.refused k) h = next (read-answers b (waitingSay idle) (R.refused k) (endedWith k (read-in Waiting) l) h refl refl) tt (refused-ends k h)
+
+      pub waiting-next : Row Waiting
+      unfolding stateOf waitingOf factsOf
+      waiting-next =
+          rw (← pending-is, ← signalled-is, ← passed-is Waiting, ← idle-is)
+          (either (i .stop) (λ a. done-next Waiting)
+          (λ a.
+          either (both (r .pending) (intervalPassed (in-state Waiting))) (λ c. wakes)
+          (λ c.
+          either (unless (r .pending) (r .progress .signalled)) (λ d. next (handing-answers _ _) same stays)
+          (λ d. either (isReadable i l) (λ f. waiting-read (x .0) refl) (λ f. idle-next)))))
 
     -- ---- Handling
 
-    module _ (w : Hold s opening bytes (z .run .whole) (z .run .reader) (z .payload) (z .taken) (z .told) (z .events)) where
+    module _ (w : Hold s (r .whole) (r .reader) p (z .taken) (z .told) (z .events)) where
+      -- the message's payload, and what the message gives
       abbrev q : List ℕ
-      q = take (z .run .whole .len) (z .payload)
+      q = take (r .whole .len) p
 
-      -- what the message gives
       abbrev given-now : Gives
-      given-now = gives-of (stop s opening bytes) opening (z .run .whole .tag, q)
+      given-now = gives-of (stop s) (s .opening) (r .whole .tag, q)
 
-      last-message : lastMessage (limit s opening bytes) (take (z .taken) bytes) ≡ (z .run .whole .tag, q)
-      last-message = rw (w .base .items, whole-items) (last-one (0, []) (z .run .whole .tag, q) (w .ms))
+      last-message : lastMessage (limit s) (take (z .taken) (s .bytes)) ≡ (r .whole .tag, q)
+      last-message = rw (w .base .items, whole-items) (last-one (0, []) (r .whole .tag, q) (w .ms))
 
-      refused-next : (k : ℕ) (m : Run) → given-now .events ≡ [] → Next Handling (say k nothing) (endedWith k m lent)
+      refused-next : (k : ℕ) (m : Run) → given-now .events ≡ [] → Next Handling (say k nothing) (endedWith k m l)
       refused-next k m g =
-          next (refused-answers k (withState Ended m)) tt
-          (still-ends s opening bytes i k (with-held s opening bytes w) (λ c h. handled-over _ _ _ (tell i k 0) h g))
+          next (refused-answers k (withState Ended m)) tt (still-ends i k (with-held w) (λ a h. handled-over _ _ _ (tell i k 0) h g))
 
-      -- an event is offered
-      offers-next : (ev : Event) (y : Happened) (stops : Bool) (reached : Lsn) (m : Metrics) → isStoppedAt ev ≡ false
-          → happenedBy ev (z .payload) ≡ y ∷ [] → given-now ≡ gives (y ∷ following (offer ev false stops reached)) stops
-          → Next Handling (say 0 nothing) (moved (offers ev stops reached (withMetrics m (in-state Handling))) lent)
+      -- an event is offered, and what follows it
+      offers-now : (ev : Event) (y : Happened) (stops : Bool) (reached : Lsn) → happenedBy ev p ≡ y ∷ []
+          → given-now ≡ gives (y ∷ following (offer ev false stops reached)) stops → There (Offers (stop s) (s .opening) (offer ev false stops reached) p)
+      offers-now ev y stops reached he g = still i 0 (with-held w) (λ a h. handled-offer _ _ _ _ h _ _ y refl he g)
+
+      offers-next : (ev : Event) (y : Happened) (stops : Bool) (reached : Lsn) (m : Metrics) → isStoppedAt ev ≡ false → happenedBy ev p ≡ y ∷ []
+          → given-now ≡ gives (y ∷ following (offer ev false stops reached)) stops
+          → Next Handling (say 0 nothing) (moved (offers ev stops reached (withMetrics m (in-state Handling))) l)
       unfolding factsOf
       offers-next ev y stops reached m hs he g =
-          next (moved-answers _)
-          (ap (λ (c : Bool). with-offer false c (at-moment (i .moment) (factsBy (z .run)))) hs
+          next (handing-answers _ _)
+          (ap (λ (c : Bool). with-offer false c (at-moment (i .moment) (factsBy r))) hs
           ∙ ap (λ (f : Facts). with-offer false false (at-moment (i .moment) f)) e)
-          (still s opening bytes i 0 (with-held s opening bytes w) (λ c h. handled-offer _ _ _ _ h _ _ y refl he g))
+          (offers-now ev y stops reached he g)
 
       -- .. that reaches a position
-      reaching-next : (ev : Event) (y : Happened) (position : ℕ) (m : Metrics) → isStoppedAt ev ≡ false
-          → happenedBy ev (z .payload) ≡ y ∷ [] → given-now ≡ reaching (stop s opening bytes) position y
-          → Next Handling (say 0 nothing) (moved (offers ev (reaches (z .run) (lsn position)) (lsn position) (withMetrics m (in-state Handling))) lent)
-      reaching-next ev y position m hs he g = offers-next ev y _ _ m hs he (g ∙ rw settings-is (reaching-is (s .«has_stop») (s .«stop_at_lsn» .0) position y))
+      reaching-next : (ev : Event) (y : Happened) (position : ℕ) (m : Metrics) → isStoppedAt ev ≡ false → happenedBy ev p ≡ y ∷ []
+          → given-now ≡ reaching (stop s) position y
+          → Next Handling (say 0 nothing) (moved (offers ev (reaches r (lsn position)) (lsn position) (withMetrics m (in-state Handling))) l)
+      reaching-next ev y position m hs he g =
+          offers-next ev y _ _ m hs he (g ∙ rw settings-is (reaching-is (s .settings .«has_stop») (s .settings .«stop_at_lsn» .0) position y))
 
-      boundary-next : (c : B.Said) (from-lsn end : ℕ) (time : ℤ) (from len : ℕ) → boundaryOf (at (z .payload) from len) ≡ c
-          → given-now ≡ dataGives (stop s opening bytes) from-lsn end time (at (z .payload) from len) c
-          → Next Handling (say (boundaryRefusal c) nothing)
-          (boundaryBy c from-lsn end time from len (withMetrics (withEnd (z .run .metrics) (lsn end)) (in-state Handling)) lent)
-      boundary-next (B.begin final at-time xid) from-lsn end time from len hc g = reaching-next _ _ final _ refl refl g
-      boundary-next (B.commit position commit-end at-time) from-lsn end time from len hc g = reaching-next _ _ commit-end _ refl refl g
-      boundary-next (B.message flag position pf pl cf cl) from-lsn end time from len hc g =
-          let v = parts-within (at (z .payload) from len) flag position pf pl cf cl hc in
-          let m : length (at (z .payload) from len) ≤ len = rw length-take (min-le-left len (length (drop from (z .payload)))) in
-          let a : at (at (z .payload) from len) pf pl ≡ at (z .payload) (from + pf) pl = part-of-part (z .payload) from len pf pl (let y = v .0 in omega arith) in
-          let b : at (at (z .payload) from len) cf cl ≡ at (z .payload) (from + cf) cl = part-of-part (z .payload) from len cf cl (let y = v .1 in omega arith) in
-          reaching-next _ _ end _ refl (rw (a, b)) g
-      boundary-next B.no-boundary from-lsn end time from len hc g = reaching-next _ _ end _ refl refl g
-      boundary-next (B.refused k) from-lsn end time from len hc g =
-          refused-next k (withMetrics (withEnd (z .run .metrics) (lsn end)) (in-state Handling)) (ap (λ (y : Gives). y .events) g)
+      -- the run once the CopyData part is read
+      abbrev ended-at : ℕ → Run
+      ended-at end = withMetrics (withEnd (r .metrics) (lsn end)) (in-state Handling)
+
+      boundary-next : (c : B.Said) (begin end : ℕ) (time : ℤ) (from len : ℕ) → boundaryOf (at p from len) ≡ c
+          → given-now ≡ dataGives (stop s) begin end time (at p from len) c
+          → Next Handling (say (boundaryRefusal c) nothing) (boundaryBy c begin end time from len (ended-at end) l)
+      boundary-next (B.begin final at-time xid) begin end time from len hc g = reaching-next _ _ final _ refl refl g
+      boundary-next (B.commit position commit-end at-time) begin end time from len hc g = reaching-next _ _ commit-end _ refl refl g
+      boundary-next (B.message flag position pf pl cf cl) begin end time from len hc g =
+          let v = parts-within (at p from len) flag position pf pl cf cl hc in
+          let m : length (at p from len) ≤ len = rw length-take (min-le-left len (length (drop from p))) in
+          let prefix : at (at p from len) pf pl ≡ at p (from + pf) pl = part-of-part p from len pf pl (let y = v .0 in omega arith) in
+          let content : at (at p from len) cf cl ≡ at p (from + cf) cl = part-of-part p from len cf cl (let y = v .1 in omega arith) in
+          reaching-next _ _ end _ refl (rw (prefix, content)) g
+      boundary-next B.no-boundary begin end time from len hc g = reaching-next _ _ end _ refl refl g
+      boundary-next (B.refused k) begin end time from len hc g = refused-next k (ended-at end) (ap (λ (y : Gives). y .events) g)
 
       -- the run that answers a keepalive
       abbrev replying : ℕ → ℤ → Run
       replying end time =
-          let r : Run = offers (KeepAlive (lsn end) time true) false (lsn 0) (withMetrics (withEnd (z .run .metrics) (lsn end)) (in-state Handling)) in
-          withMetrics (withReply (r .metrics)) r
+          let o : Run = offers (KeepAlive (lsn end) time true) false (lsn 0) (ended-at end) in withMetrics (withReply (o .metrics)) o
 
-      copy-data-next : (c : C.Said) → copyDataOf q ≡ c → given-now ≡ payloadGives (stop s opening bytes) q c
-          → Next Handling (copyDataSay q c) (copyDataBy c (in-state Handling) i lent)
+      copy-data-next : (c : C.Said) → copyDataOf q ≡ c → given-now ≡ payloadGives (stop s) q c
+          → Next Handling (copyDataSay q c) (copyDataBy c (in-state Handling) i l)
       unfolding statusOf factsOf
-      copy-data-next (C.w from-lsn end time from len) hc g =
-          let v : from + len ≤ length q = data-within q from-lsn end time from len hc in
-          let m : length q ≤ z .run .whole .len = rw length-take (min-le-left (z .run .whole .len) (length (z .payload))) in
-          let a : at q from len ≡ at (z .payload) from len = part-of-front (z .run .whole .len) from len (z .payload) (omega arith) in
-          rw a (boundary-next (boundaryOf (at (z .payload) from len)) from-lsn end time from len refl (g ∙ rw a))
+      copy-data-next (C.w begin end time from len) hc g =
+          let v : from + len ≤ length q = data-within q begin end time from len hc in
+          let m : length q ≤ r .whole .len = rw length-take (min-le-left (r .whole .len) (length p)) in
+          let a : at q from len ≡ at p from len = part-of-front (r .whole .len) from len p (omega arith) in
+          rw a (boundary-next (boundaryOf (at p from len)) begin end time from len refl (g ∙ rw a))
       copy-data-next (C.k end time true) hc g =
           next (status-answers true Offering (replying end time) applied-is)
-          (confirmed-facts (withOffer (offer (KeepAlive (lsn end) time true) false false (lsn 0)) (z .run)) (i .moment)
+          (confirmed-facts (withOffer (offer (KeepAlive (lsn end) time true) false false (lsn 0)) r) (i .moment)
           ∙ ap (λ (f : Facts). with-status (i .moment) (with-offer false false f)) e)
-          (still s opening bytes i 0 (with-held s opening bytes w) (λ c h. handled-offer _ _ _ _ h _ _ _ refl refl g))
+          (offers-now _ _ false (lsn 0) refl g)
       copy-data-next (C.k end time false) hc g = offers-next _ _ _ _ _ refl refl g
       copy-data-next (C.refused k) hc g = refused-next k (in-state Handling) (ap (λ (y : Gives). y .events) g)
 
       -- to Drain, or to Turn after a wait
-      back-next : (c : Bool) → given-now ≡ gives [] false → Next Handling (say 0 nothing) (moved (withState (pick c Turn Drain) (in-state Handling)) lent)
+      back-next : (c : Bool) → given-now ≡ gives [] false → Next Handling (say 0 nothing) (moved (withState (pick c Turn Drain) (in-state Handling)) l)
       unfolding factsOf
-      back-next true g = next (moved-answers _) same (still s opening bytes i 0 (with-held s opening bytes w) (λ c h. handled-back _ _ _ (tell i 0 0) h g))
-      back-next false g = next (moved-answers _) same (still s opening bytes i 0 (with-held s opening bytes w) (λ c h. handled-back _ _ _ (tell i 0 0) h g))
+      back-next true g = next (handing-answers _ _) same (still i 0 (with-held w) (λ a h. handled-back _ _ _ (tell i 0 0) h g))
+      back-next false g = next (handing-answers _ _) same (still i 0 (with-held w) (λ a h. handled-back _ _ _ (tell i 0 0) h g))
 
-      pub handling-next : Next Handling (tableOf Handling s start (z .past) i (take (z .taken) bytes) unread) (handlingOf (in-state Handling) i lent)
-      unfolding handlingOf
+      pub handling-next : Row Handling
+      unfolding stateOf handlingOf
       handling-next =
           rw last-message
-          (either (isError (z .run .whole .tag)) (λ a. refused-next 19 (in-state Handling) (simp a))
+          (either (isError (r .whole .tag)) (λ a. refused-next 19 (in-state Handling) (simp a))
           (λ a.
-          either (isCopyData (z .run .whole .tag)) (λ b. copy-data-next (copyDataOf q) refl (simp (a, b)))
-          (λ b. back-next (z .run .whole .«in_wait») (simp (a, b)))))
+          either (isCopyData (r .whole .tag)) (λ c. copy-data-next (copyDataOf q) refl (simp (a, c)))
+          (λ c. back-next (r .whole .«in_wait») (simp (a, c)))))
 
     -- ---- Offering
 
-    module _ (b : Stand s opening bytes (Offers (stop s opening bytes) opening (z .run .offer) (z .payload)) (z .run .reader) (z .payload) (z .taken) (z .told) (z .events)) where
-      stopped-is : isStoppedAt (z .run .offer .event) ≡ stoppedNext (z .past)
-      unfolding factsOf
-      stopped-is = ap (λ (f : Facts). f .stopped) e
-
-      full-is : z .run .offer .stalled ≡ fullBefore (z .past)
-      unfolding factsOf
-      full-is = ap (λ (f : Facts). f .stalled) e
-
-      -- a stop request now cuts the event off
+    module _ (b : Here (Offers (stop s) (s .opening) (r .offer) p)) where
+      -- whether a stop request cuts the event off now
       abbrev CutOff : Bool → Type 0
-      CutOff c = isCutOff (tell i 0 0) (z .run .offer .stalled) ≡ c
+      CutOff c = isCutOff (tell i 0 0) (r .offer .stalled) ≡ c
 
-      cut-next : (r : Run) → CutOff true → Next Offering (say 0 done) (doneWith Nothing r lent)
-      cut-next r c = next (done-answers Nothing r) tt (still-ends s opening bytes i 0 b (λ q h. cut-off _ _ _ h c))
+      cut-next : (m : Run) → CutOff true → Next Offering (say 0 done) (doneWith Nothing m l)
+      cut-next m c = next (done-answers Nothing m) tt (still-ends i 0 b (λ a h. cut-off _ _ _ h c))
 
-      -- ev is handed on, or Nothing where a queue that closes drops the event
-      abbrev Handed : Event → Type 0
-      Handed ev = isClosed (i .queue) ≡ false → (ev ≡ z .run .offer .event) × (i .queue ≡ Free) × CutOff false
+      -- ev is the event, which a free queue takes; or any, where a queue closes
+      abbrev Takes : Event → Type 0
+      Takes ev = isClosed (i .queue) ≡ false → (ev ≡ r .offer .event) × (i .queue ≡ Free) × CutOff false
 
-      behind-next : (ev : Event) (m : Metrics) → isFull (i .queue) ≡ false → Handed ev
-          → Next Offering (behindOffer (z .past)) (nextOf ev (withMetrics m (in-state Offering)) lent)
+      -- the run goes on behind the event
+      behind-next : (ev : Event) (m : Metrics) → isFull (i .queue) ≡ false → Takes ev
+          → Next Offering (behindOffer past) (nextOf ev (withMetrics m (in-state Offering)) l)
       unfolding factsOf
-      behind-next ev m nf t = rw (← stopped-is) (by (isStoppedAt (z .run .offer .event)) (z .run .offer .stops) (z .run .whole .«in_wait») refl refl)
+      behind-next ev m nf t = rw (← stopped-is) (by (isStoppedAt (r .offer .event)) (r .offer .stops) (r .whole .«in_wait») refl refl)
         where
-          goes : isStoppedAt (z .run .offer .event) ≡ false → z .run .offer .stops ≡ false
-              → Goings s opening bytes (z .run .reader) (z .payload) (z .taken + 0) (z .told ++ (tell i 0 0 ∷ [])) (z .events ++ happenedBy ev (z .payload))
-          goes hc hd = still s opening bytes i 0 b (λ q h. let k = t q in rw (k .0) (hands-and-goes _ _ _ h (k .2) (k .1) hd hc))
+          goes : isStoppedAt (r .offer .event) ≡ false → r .offer .stops ≡ false
+              → Stand s Gone (r .reader) p (z .taken + 0) (z .told ++ (tell i 0 0 ∷ [])) (z .events ++ happenedBy ev p)
+          goes hc hd = still i 0 b (λ a h. let k = t a in rw (k .0) (hands-and-goes _ _ _ h (k .2) (k .1) hd hc))
 
-          by : (c d w : Bool) → isStoppedAt (z .run .offer .event) ≡ c → z .run .offer .stops ≡ d
+          by : (c d in-wait : Bool) → isStoppedAt (r .offer .event) ≡ c → r .offer .stops ≡ d
               → Next Offering (say 0 (pick c done nothing))
-              (pick c (doneWith ev (withMetrics m (in-state Offering)) lent)
+              (pick c (doneWith ev (withMetrics m (in-state Offering)) l)
               (handing ev
-              (pick d (offers (StoppedAt (z .run .offer .reached)) false (lsn 0) (withMetrics m (in-state Offering)))
-              (withState (pick w Turn Drain) (withMetrics m (in-state Offering))))
-              lent))
-          by true d w hc hd =
+              (pick d (offers (StoppedAt (r .offer .reached)) false (lsn 0) (withMetrics m (in-state Offering)))
+              (withState (pick in-wait Turn Drain) (withMetrics m (in-state Offering))))
+              l))
+          by true d in-wait hc hd =
               next (done-answers ev (withMetrics m (in-state Offering))) tt
-              (still-ends s opening bytes i 0 b (λ q h. let k = t q in rw (k .0) (hands-last _ _ _ h (k .2) (k .1))))
-          by false true w hc hd =
+              (still-ends i 0 b (λ a h. let k = t a in rw (k .0) (hands-last _ _ _ h (k .2) (k .1))))
+          by false true in-wait hc hd =
               next (handing-answers ev _) (rw nf (ap (λ (f : Facts). with-offer false true (at-moment (i .moment) f)) e))
-              (still s opening bytes i 0 b (λ q h. let k = t q in rw (k .0) (hands-then-stopped _ _ _ h (k .2) (k .1) hd)))
+              (still i 0 b (λ a h. let k = t a in rw (k .0) (hands-then-stopped _ _ _ h (k .2) (k .1) hd)))
           by false false true hc hd = next (handing-answers ev _) same (goes hc hd)
           by false false false hc hd = next (handing-answers ev _) same (goes hc hd)
 
-      -- the run with a stall that began at a moment
+      -- the event, with its stall begun
+      abbrev stalled : Offer
+      stalled = offer (r .offer .event) true (r .offer .stops) (r .offer .reached)
+
+      -- the run then
       abbrev stalled-at : Offer → Moment → Metrics → Run
-      stalled-at o began m = withMetrics m (withClock (clock (i .moment) (z .run .clock .«wait_began») began) (withOffer o (in-state Offering)))
+      stalled-at o began m = withMetrics m (withClock (clock (i .moment) (r .clock .«wait_began») began) (withOffer o (in-state Offering)))
 
       -- the queue is full: a status, or nothing
-      full-next : (o : Offer) (began : Moment) (m : Metrics) → offer (z .run .offer .event) true (z .run .offer .stops) (z .run .offer .reached) ≡ o
-          → i .queue ≡ Full → CutOff false
-          → Next Offering (say 0 (statusIf (isPassed s (z .past) i)))
-          (pick (intervalPassed (in-state Offering)) (statusOf false Offering (stalled-at o began m) i lent) (moved (stalled-at o began m) lent))
+      full-next : (o : Offer) (began : Moment) (m : Metrics) → stalled ≡ o → i .queue ≡ Full → CutOff false
+          → Next Offering (say 0 (statusIf (isPassed (s .settings) past i)))
+          (pick (intervalPassed (in-state Offering)) (statusOf false Offering (stalled-at o began m) i l) (moved (stalled-at o began m) l))
       unfolding statusOf factsOf
       full-next o began m ho hq c =
-          let w : Stand s opening bytes (Offers (stop s opening bytes) opening o (z .payload)) (z .run .reader) (z .payload) (z .taken + 0)
-          (z .told ++ (tell i 0 0 ∷ [])) (z .events ++ []) = still s opening bytes i 0 b (λ q h. rw ho at (waits-on _ _ (tell i 0 0) h c hq)) in
+          let w : There (Offers (stop s) (s .opening) o p) = still i 0 b (λ a h. rw ho at (waits-on _ _ (tell i 0 0) h c hq)) in
+          let f : with-offer true (isStoppedAt (r .offer .event)) (factsBy r) ≡ with-offer true (stoppedNext past) (factsOf (s .settings) (s .start) past) =
+          ap (λ (f : Facts). with-offer true (f .stopped) f) e in
           rw (← passed-is Offering)
           (status-if (intervalPassed (in-state Offering))
           (next (status-answers false Offering (stalled-at o began m) applied-is)
-          (rw (← ho, hq) (confirmed-facts (stalled-at (offer (z .run .offer .event) true (z .run .offer .stops) (z .run .offer .reached)) began m) (i .moment)
-          ∙ ap (λ (f : Facts). with-status (i .moment) (with-offer true (f .stopped) f)) e))
-          w)
-          (next (moved-answers _) (rw (← ho, hq) (ap (λ (f : Facts). at-moment (i .moment) (with-offer true (f .stopped) f)) e)) w))
+          (rw (← ho, hq) (confirmed-facts (stalled-at stalled began m) (i .moment) ∙ ap (with-status (i .moment)) f)) w)
+          (next (handing-answers _ _) (rw (← ho, hq) (ap (at-moment (i .moment)) f)) w))
 
       no-stop : i .stop ≡ false → CutOff false
       no-stop a = simp a
 
       -- a stop request while the queue is full, or was at an earlier offer
-      cut-now : i .stop ≡ true → pick (isFull (i .queue)) true (z .run .offer .stalled) ≡ true → CutOff true
+      cut-now : i .stop ≡ true → pick (isFull (i .queue)) true (r .offer .stalled) ≡ true → CutOff true
       cut-now a c = simp (a, c)
 
       -- a later try
-      again-next : z .run .offer .stalled ≡ true → Next Offering (againSay s (z .past) i) (stalledOf (in-state Offering) i lent)
+      again-next : r .offer .stalled ≡ true → Next Offering (againSay (s .settings) past i) (stalledOf (in-state Offering) i l)
       unfolding stalledOf
-      again-next y =
-          either (i .stop) (λ a. cut-next (in-state Offering) (cut-now a (was-full (isFull (i .queue))))) (λ a. by (i .queue) refl (no-stop a))
+      again-next y = either (i .stop) (λ a. cut-next (in-state Offering) (cut-now a (was-full (isFull (i .queue))))) (λ a. by (i .queue) refl (no-stop a))
         where
-          was-full : (c : Bool) → pick c true (z .run .offer .stalled) ≡ true
+          was-full : (c : Bool) → pick c true (r .offer .stalled) ≡ true
           was-full true = refl
           was-full false = y
 
-          by : (q : Queue) → i .queue ≡ q → CutOff false
-              → Next Offering (byQueue q (behindOffer (z .past)) (say 0 (statusIf (isPassed s (z .past) i))) (behindOffer (z .past))) (stalledBy q (in-state Offering) i lent)
-          by Free hq c = behind-next (z .run .offer .event) _ (ap isFull hq) (λ q. (refl, hq, c))
-          by Closed hq c = behind-next Nothing _ (ap isFull hq) (λ q. impossible cc)
-          by Full hq c = full-next (z .run .offer) _ _ (ap (λ (t : Bool). offer (z .run .offer .event) t (z .run .offer .stops) (z .run .offer .reached)) (sym y)) hq c
+          by : (u : Queue) → i .queue ≡ u → CutOff false
+              → Next Offering (byQueue u (behindOffer past) (say 0 (statusIf (isPassed (s .settings) past i))) (behindOffer past)) (stalledBy u (in-state Offering) i l)
+          by Free hq c = behind-next (r .offer .event) _ (ap isFull hq) (λ a. (refl, hq, c))
+          by Closed hq c = behind-next Nothing _ (ap isFull hq) (λ a. impossible cc)
+          by Full hq c = full-next (r .offer) _ _ (ap (λ (t : Bool). offer (r .offer .event) t (r .offer .stops) (r .offer .reached)) (sym y)) hq c
 
       -- the first try
-      first-next : (q : Queue) → i .queue ≡ q → z .run .offer .stalled ≡ false
-          → Next Offering (byQueue q (behindOffer (z .past)) (againSay s (z .past) i) (behindOffer (z .past))) (firstBy q (in-state Offering) i lent)
+      first-next : (u : Queue) → i .queue ≡ u → r .offer .stalled ≡ false
+          → Next Offering (byQueue u (behindOffer past) (againSay (s .settings) past i) (behindOffer past)) (firstBy u (in-state Offering) i l)
       unfolding stalledOf
-      first-next Free hq y = behind-next (z .run .offer .event) _ (ap isFull hq) (λ q. (refl, hq, by (i .stop)))
+      first-next Free hq y = behind-next (r .offer .event) _ (ap isFull hq) (λ a. (refl, hq, by (i .stop)))
         where
-          by : (c : Bool) → pick c (pick (isFull (i .queue)) true (z .run .offer .stalled)) false ≡ false
+          by : (c : Bool) → pick c (pick (isFull (i .queue)) true (r .offer .stalled)) false ≡ false
           by true = rw (hq, y) refl
           by false = refl
-      first-next Closed hq y = behind-next Nothing (z .run .metrics) (ap isFull hq) (λ q. impossible cc)
+      first-next Closed hq y = behind-next Nothing (r .metrics) (ap isFull hq) (λ a. impossible cc)
       first-next Full hq y = either (i .stop) (λ a. cut-next (stalls (in-state Offering)) (cut-now a (rw hq refl))) (λ a. by (i .queue) hq (no-stop a))
         where
-          by : (q : Queue) → q ≡ Full → CutOff false
-              → Next Offering (byQueue q (behindOffer (z .past)) (say 0 (statusIf (isPassed s (z .past) i))) (behindOffer (z .past)))
-              (stalledBy q (stalls (in-state Offering)) i lent)
-          by Full f c = full-next _ _ _ refl hq c
+          by : (u : Queue) → u ≡ Full → CutOff false
+              → Next Offering (byQueue u (behindOffer past) (say 0 (statusIf (isPassed (s .settings) past i))) (behindOffer past))
+              (stalledBy u (stalls (in-state Offering)) i l)
+          by Full f c = full-next stalled _ _ refl hq c
           by Free f c = impossible cc
           by Closed f c = impossible cc
 
-      pub offering-next : Next Offering (tableOf Offering s start (z .past) i (take (z .taken) bytes) unread) (offeringOf (in-state Offering) i lent)
-      unfolding offeringOf
-      offering-next = rw (← full-is) (either (z .run .offer .stalled) again-next (first-next (i .queue) refl))
+      pub offering-next : Row Offering
+      unfolding stateOf offeringOf
+      offering-next = rw (← full-is) (either (r .offer .stalled) again-next (first-next (i .queue) refl))

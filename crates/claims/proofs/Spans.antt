@@ -15,31 +15,31 @@ use Rattle.stream.specs.Cut.{refused as bad}
 use Rattle.stream.proofs.Front.{Shows, negative, short, complete, shows}
 use Rattle.framing.specs.Read.{Said, more, whole, refused, unfinished}
 use Rattle.framing.specs.Feed.{told, span, stored}
-use Rattle.claims.specs.Plain.{wholeOnes, spanOf}
+use Rattle.claims.specs.Plain.{Msg, wholeOnes, spanOf}
 
 -- ---- items
 
-unfoldable pub itemsOf : List (ℕ × List ℕ) → List Item
+unfoldable pub itemsOf : List Msg → List Item
 itemsOf [] = []
 itemsOf (m ∷ ms) = message (m .0) (m .1) ∷ itemsOf ms
 
-pub items-more : (ms : List (ℕ × List ℕ)) (m : ℕ × List ℕ) → itemsOf (ms ++ (m ∷ [])) ≡ itemsOf ms ++ (message (m .0) (m .1) ∷ [])
+pub items-more : (ms : List Msg) (m : Msg) → itemsOf (ms ++ (m ∷ [])) ≡ itemsOf ms ++ (message (m .0) (m .1) ∷ [])
 unfolding itemsOf
 items-more [] m = refl
 items-more (n ∷ ms) m = ap (λ (is : List Item). message (n .0) (n .1) ∷ is) (items-more ms m)
 
-pub whole-items : (ms : List (ℕ × List ℕ)) → wholeOnes (itemsOf ms) ≡ ms
+pub whole-items : (ms : List Msg) → wholeOnes (itemsOf ms) ≡ ms
 unfolding itemsOf wholeOnes
 whole-items [] = refl
-whole-items (m ∷ ms) = ap (λ (ns : List (ℕ × List ℕ)). m ∷ ns) (whole-items ms)
+whole-items (m ∷ ms) = ap (λ (ns : List Msg). m ∷ ns) (whole-items ms)
 
 -- a bad length behind them gives none
-pub whole-bad : (ms : List (ℕ × List ℕ)) → wholeOnes (itemsOf ms ++ (bad ∷ [])) ≡ ms
+pub whole-bad : (ms : List Msg) → wholeOnes (itemsOf ms ++ (bad ∷ [])) ≡ ms
 unfolding itemsOf wholeOnes
 whole-bad [] = refl
-whole-bad (m ∷ ms) = ap (λ (ns : List (ℕ × List ℕ)). m ∷ ns) (whole-bad ms)
+whole-bad (m ∷ ms) = ap (λ (ns : List Msg). m ∷ ns) (whole-bad ms)
 
-pub span-more : (ms : List (ℕ × List ℕ)) (m : ℕ × List ℕ) → spanOf (ms ++ (m ∷ [])) ≡ spanOf ms + (5 + length (m .1))
+pub span-more : (ms : List Msg) (m : Msg) → spanOf (ms ++ (m ∷ [])) ≡ spanOf ms + (5 + length (m .1))
 unfolding spanOf
 span-more [] m = omega arith
 span-more (n ∷ ms) m = let h = span-more ms m in omega arith
@@ -51,7 +51,7 @@ spans [] = 0
 spans (message tag p ∷ is) = 5 + length p + spans is
 spans (bad ∷ is) = 5 + spans is
 
-spans-items : (ms : List (ℕ × List ℕ)) → spans (itemsOf ms) ≡ spanOf ms
+spans-items : (ms : List Msg) → spans (itemsOf ms) ≡ spanOf ms
 unfolding spans itemsOf spanOf
 spans-items [] = refl
 spans-items (m ∷ ms) = let h = spans-items ms in omega arith
@@ -77,7 +77,7 @@ span-from zero limit s = omega arith
 span-from (suc n) limit s =
     span-by limit s (frontOf limit s) (λ k. cutFrom n limit (drop k s)) (shows limit s) (λ k. span-from n limit (drop k s))
 
-pub cut-span : (limit : ℕ) (s : List ℕ) (ms : List (ℕ × List ℕ)) → cutOf limit s .items ≡ itemsOf ms → length s ≡ spanOf ms + length (cutOf limit s .rest)
+pub cut-span : (limit : ℕ) (s : List ℕ) (ms : List Msg) → cutOf limit s .items ≡ itemsOf ms → length s ≡ spanOf ms + length (cutOf limit s .rest)
 unfolding cutOf
 cut-span limit s ms e = span-from (suc (length s)) limit s ∙ ap (λ (k : ℕ). k + length (cutOf limit s .rest)) (ap spans e ∙ spans-items ms)
 

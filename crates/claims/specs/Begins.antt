@@ -6,9 +6,8 @@ use mathlib.Core.Logic.{_⊎_}
 use Prim.Native.Nat.{ℕ}
 use Rattle.stream.specs.Cut.{cutOf}
 use Rattle.worker.specs.declared.Queue.{Queue}
-use Rattle.worker.specs.declared.Queue.the-variants.{Free, Full, Closed}
 use Rattle.claims.specs.Happened.{Happened}
-use Rattle.claims.specs.Plain.{Bounds, Told, wholeOnes, eventsOf, plainOf}
+use Rattle.claims.specs.Plain.{Bounds, Told, wholeOnes, eventsOf, byQueue, plainOf}
 
 -- xs begins ys
 pub record Begins {A : Type 0} (xs ys : List A) : Type 0 where
@@ -17,9 +16,7 @@ pub record Begins {A : Type 0} (xs ys : List A) : Type 0 where
 
 -- "no queue closes"
 abbrev pub isClosed : Queue → Bool
-isClosed Free = false
-isClosed Full = false
-isClosed Closed = true
+isClosed q = byQueue q false false true
 
 abbrev pub NoneClosed : List Told → Type 0
 NoneClosed [] = Unit

@@ -70,29 +70,33 @@ messageGives stop tag payload =
 
 -- ---- the messages, and what they give in their order
 
+-- a message: its tag and payload
+abbrev pub Msg : Type 0
+Msg = ℕ × List ℕ
+
 -- whole messages before a length below 4: "A message unfinished or refused with 6 or 7 .. ends the reading"
-unfoldable pub wholeOnes : List Item → List (ℕ × List ℕ)
+unfoldable pub wholeOnes : List Item → List Msg
 wholeOnes [] = []
 wholeOnes (refused ∷ is) = []
 wholeOnes (message tag payload ∷ is) = (tag, payload) ∷ wholeOnes is
 
 -- "In Opening, those up to the first `W` give nothing", an `E` ends the reading
-unfoldable pub behindOpening : List (ℕ × List ℕ) → List (ℕ × List ℕ)
+unfoldable pub behindOpening : List Msg → List Msg
 behindOpening [] = []
 behindOpening (m ∷ ms) = pick (isCopyBothResponse (m .0)) ms (pick (isError (m .0)) [] (behindOpening ms))
 
 -- what the messages give, one behind the other, until one ends the reading
-unfoldable pub given : Option ℕ → List (ℕ × List ℕ) → List Happened
+unfoldable pub given : Option ℕ → List Msg → List Happened
 given stop [] = []
 given stop (m ∷ ms) = let g : Gives = messageGives stop (m .0) (m .1) in g .events ++ pick (g .ends) [] (given stop ms)
 
-abbrev pub eventsOf : Option ℕ → Bool → List (ℕ × List ℕ) → List Happened
+abbrev pub eventsOf : Option ℕ → Bool → List Msg → List Happened
 eventsOf stop opening ms = given stop (pick opening (behindOpening ms) ms)
 
 -- ---- the last whole message
 
 -- how many bytes the messages have on the wire
-unfoldable pub spanOf : List (ℕ × List ℕ) → ℕ
+unfoldable pub spanOf : List Msg → ℕ
 spanOf [] = 0
 spanOf (m ∷ ms) = 5 + length (m .1) + spanOf ms
 
@@ -110,16 +114,14 @@ unfoldable pub acceptedOnes : List Told → List Told
 acceptedOnes [] = []
 acceptedOnes (t ∷ ts) = pick (isRefusedEarly (t .refusal)) (acceptedOnes ts) (t ∷ acceptedOnes ts)
 
-abbrev pub isFull : Queue → Bool
-isFull Free = false
-isFull Full = true
-isFull Closed = false
-
 -- by the queue: free, full, closed
 abbrev pub byQueue : {A : Type 0} → Queue → A → A → A → A
 byQueue Free a b c = a
 byQueue Full a b c = b
 byQueue Closed a b c = c
+
+abbrev pub isFull : Queue → Bool
+isFull q = byQueue q false true false
 
 -- "with stop seen now, and the queue full now or at an earlier offer of it"
 abbrev pub isCutOff : Told → Bool → Bool
@@ -144,7 +146,7 @@ takenOf (t ∷ ts) = t .taken + takenOf ts
 -- "All are handed on, save some of the last whole message's": the first accepted step behind it handles it, each later one offers
 unfoldable pub plainOf : Bounds → Bool → List ℕ → List Told → List Happened
 plainOf b opening bytes ts =
-    let ms : List (ℕ × List ℕ) = wholeOnes (cutOf (b .limit) (take (takenOf ts) bytes) .items) in
+    let ms : List Msg = wholeOnes (cutOf (b .limit) (take (takenOf ts) bytes) .items) in
     let before : List Happened = eventsOf (b .stop) opening (take (length ms - 1) ms) in
     let last : List Happened = drop (length before) (eventsOf (b .stop) opening ms) in
     before ++ offered last false (drop 1 (acceptedOnes (behindByte (spanOf ms) ts)))

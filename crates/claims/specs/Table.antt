@@ -26,7 +26,7 @@ use Rattle.worker.specs.declared.State.the-variants.{Opening, Turn, Drain, Read
 use Rattle.worker.specs.declared.Input.{Input}
 use Rattle.worker.specs.Rows.{_⇒_, firstOf, both, unless}
 use Rattle.worker.specs.Step.{Outcome, Lent, isEnded, stepOf}
-use Rattle.claims.specs.Plain.{wholeOnes, byQueue}
+use Rattle.claims.specs.Plain.{Msg, wholeOnes, byQueue}
 use Rattle.claims.specs.Past.{Past, confirmedOf, lastAccepted, hasSent, sentAt, waitBegan, pendingOf, signalledOf, drainedOf, fullBefore, stoppedNext}
 use Rattle.claims.specs.Calls.{Call, Played, played, lentTo}
 
@@ -99,11 +99,11 @@ waitingSay idle (refused n) = say n nothing
 -- ---- the last whole message of the bytes taken
 
 -- the last of a list, or what stands before it
-unfoldable pub lastOr : ℕ × List ℕ → List (ℕ × List ℕ) → ℕ × List ℕ
+unfoldable pub lastOr : Msg → List Msg → Msg
 lastOr m [] = m
 lastOr m (n ∷ ns) = lastOr n ns
 
-abbrev pub lastMessage : ℕ → List ℕ → ℕ × List ℕ
+abbrev pub lastMessage : ℕ → List ℕ → Msg
 lastMessage limit b = lastOr (0, []) (wholeOnes (cutOf limit b .items))
 
 abbrev pub boundaryRefusal : B.Said → ℕ
@@ -120,7 +120,7 @@ copyDataSay p (C.k end time reply) = say 0 (pick reply (status true) nothing)
 copyDataSay p (C.refused n) = say n nothing
 
 -- "`E`: 19; not `d`: skipped"
-abbrev pub handlingSay : ℕ × List ℕ → Say
+abbrev pub handlingSay : Msg → Say
 handlingSay m =
     firstOf
     ((isError (m .0) ⇒ say 19 nothing)
