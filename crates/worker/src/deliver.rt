@@ -97,7 +97,7 @@ fn stalls(run: Run) -> Run
     with_metrics(counted, stall_begun(with_offer(kept, run)))
 }
 
-// The queue stays full.
+// The queue is full: only the status interval can make the run write.
 fn stays(run: Run, input: Input, out: &mut [u8]) -> Stepped
     requires { ⌜ 39 ≤ length (now out) ⌝ }
     ensures { λ s. ⌜ ((u p : List ℕ) → outcomeBy s p (now (out .exit)) ≡ stalledBy Queue.Full run input (lent u p (now (out .entry)))) ⌝ }
@@ -108,7 +108,7 @@ fn stays(run: Run, input: Input, out: &mut [u8]) -> Stepped
     moved(run)
 }
 
-// With its stall begun.
+// A later try, or the first one behind the stall that it began: stop comes before the queue.
 fn stalled(run: Run, input: Input, out: &mut [u8]) -> Stepped
     requires { ⌜ 39 ≤ length (now out) ⌝ }
     ensures { λ s. ⌜ ((u p : List ℕ) → outcomeBy s p (now (out .exit)) ≡ stalledOf run input (lent u p (now (out .entry)))) ⌝ }
@@ -124,7 +124,7 @@ fn stalled(run: Run, input: Input, out: &mut [u8]) -> Stepped
     }
 }
 
-// An event whose stall has not begun is at its first try.
+// Stop is not looked at on a first try that the queue takes or drops.
 pub(crate) fn offering(run: Run, input: Input, out: &mut [u8]) -> Stepped
     requires { ⌜ 39 ≤ length (now out) ⌝ }
     ensures { λ s. ⌜ ((u p : List ℕ) → outcomeBy s p (now (out .exit)) ≡ offeringOf run input (lent u p (now (out .entry)))) ⌝ }

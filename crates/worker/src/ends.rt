@@ -1,4 +1,4 @@
-// The ends of a step.
+// The ends of a step: what the rows of the table come to.
 ghost use mathlib.Core.Path.{_≡_};
 ghost use mathlib.Core.List.{List};
 ghost use Prim.Native.Nat.{ℕ, _≤_};
@@ -71,7 +71,7 @@ pub(crate) fn done(event: Event, run: Run, out: &mut [u8]) -> Stepped
     }
 }
 
-// So many bytes were taken.
+// A read is answered by what follows from it; the bytes it took are told beside.
 pub(crate) fn having(taken: usize, mut stepped: Stepped) -> Stepped
     ensures { λ s. ⌜ ((p q o : List ℕ) → outcomeBy s p o ≡ having taken p (outcomeBy stepped q o)) ⌝ }
 {

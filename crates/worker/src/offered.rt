@@ -1,4 +1,4 @@
-// What is offered, and the way back from it.
+// An event that is offered, and where the run goes when none is left.
 ghost use mathlib.Core.Path.{_≡_};
 ghost use Rattle.worker.specs.Answer.{outcomeBy};
 ghost use Rattle.worker.specs.Step.{Lent, back, offers, reaches, offersAt};

@@ -23,8 +23,8 @@ use framing::Answer;
 use framing::tag::is_copy_both_response;
 use framing::tag::is_error;
 
-// A whole message before the stream begins.
-fn greeted(tag: u8, n: usize, run: Run) -> Stepped
+// `W` begins the stream, `E` ends the run with its message kept for `error_part`, all else is skipped.
+fn opening_whole(tag: u8, n: usize, run: Run) -> Stepped
     ensures { λ s. ⌜ ((l : Lent) → outcomeBy s (l .payload) (l .out) ≡ openingBy (whole tag n) run l) ⌝ }
 {
     if is_copy_both_response(tag) {
@@ -41,7 +41,7 @@ fn opening_by(answer: Answer, run: Run) -> Stepped
 {
     match answer {
         Answer::More => moved(run),
-        Answer::Whole(tag, n) => greeted(tag, n, run),
+        Answer::Whole(tag, n) => opening_whole(tag, n, run),
         Answer::Refused(refusal) => ended(refusal, run),
     }
 }

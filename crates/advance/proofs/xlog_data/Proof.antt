@@ -22,15 +22,15 @@ returns c = (rw (c .none .ensures, lt-ltb _ _ (c .before .if1 .taken)), rw (c .n
 
 returns-2 : tie.Need-returns-2
 unfolding xlogAtHand
-returns-2 c = absurd (not-cut 8 (c .before .before .before .before .before .before .args .body .now) 0 (omega arith) (sym (ap u64Of (c .before .enum-told .given .1)) ∙ c .before .before .before .read-u64 .ensures))
+returns-2 c = absurd (not-cut 8 _ 0 (omega arith) (sym (ap u64Of (c .before .enum-told .given .1)) ∙ c .before .before .before .read-u64 .ensures))
 
 returns-3 : tie.Need-returns-3
 unfolding xlogAtHand
-returns-3 c = absurd (not-cut 8 (c .before .before .before .before .before .before .before .before .before .before .args .body .now) 8 (omega arith) (sym (ap u64Of (c .before .enum-told2 .given .1)) ∙ c .before .before .before .read-u642 .ensures))
+returns-3 c = absurd (not-cut 8 _ 8 (omega arith) (sym (ap u64Of (c .before .enum-told2 .given .1)) ∙ c .before .before .before .read-u642 .ensures))
 
 returns-4 : tie.Need-returns-4
 unfolding xlogAtHand
-returns-4 c = absurd (time-not-cut 8 (c .before .before .before .before .before .before .before .before .before .before .before .before .before .before .args .body .now) 16 (omega arith) (sym (ap i64Of (c .before .enum-told3 .given .1)) ∙ c .before .before .before .read-i64 .ensures))
+returns-4 c = absurd (time-not-cut 8 _ 16 (omega arith) (sym (ap i64Of (c .before .enum-told3 .given .1)) ∙ c .before .before .before .read-i64 .ensures))
 
 returns-5 : tie.Need-returns-5
 unfolding xlogAtHand

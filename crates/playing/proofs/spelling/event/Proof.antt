@@ -7,24 +7,27 @@ use Rattle.playing.proofs.spelling.event.Statement.{statement}
 use Rattle.playing.proofs.spelling.event.Tie as tie
 
 returns : tie.Need-returns
-returns c = let a = c .before .before .before .before .args in rw (c .enum-told .given .1) (pieces-none (a .line .now) (a .at))
+returns c = rw (c .enum-told .given .1) (pieces-none _ _)
 
 returns-2 : tie.Need-returns-2
 returns-2 c =
     let at-dated = c .before .before .before .before .before .before in
-    let start = at-dated .before .before .before .before .before .before .before in
-    let a = start .args in
-    rw (at-dated .before .before .before .e .given .1) (pieces-next (a .line .now) (a .at) _ _ (rw (toZ-ofZ w64 (at-dated .before .before .before .e .given .0 .1 .0) (record { sfits = at-dated .before .before .known-told .given .1 .0 .1 })) at (at-dated .dated .ensures)) (c .before .before .flag .ensures))
+    let e = at-dated .before .before .before .e .given in
+    let fits = at-dated .before .before .known-told .given .1 .0 .1 in
+    rw (e .1) (pieces-next _ _ _ _ (rw (toZ-ofZ w64 (e .0 .1 .0) (record { sfits = fits })) at (at-dated .dated .ensures)) (c .before .before .flag .ensures))
 
 returns-3 : tie.Need-returns-3
 returns-3 c =
-    let at-dated2 = c .before .before .before .before .before .before in
-    let start = at-dated2 .before .before .before .before .before .before .before in
-    let a = start .args in
-    rw (at-dated2 .before .before .before .e2 .given .1) (pieces-next (a .line .now) (a .at) _ _ (rw (toZ-ofZ w64 (at-dated2 .before .before .before .e2 .given .0 .1 .0) (record { sfits = at-dated2 .before .before .known-told2 .given .1 .0 .1 })) at (at-dated2 .dated2 .ensures)) (c .before .before .number .ensures))
+    let at-dated = c .before .before .before .before .before .before in
+    let e = at-dated .before .before .before .e2 .given in
+    let fits = at-dated .before .before .known-told2 .given .1 .0 .1 in
+    rw (e .1) (pieces-next _ _ _ _ (rw (toZ-ofZ w64 (e .0 .1 .0) (record { sfits = fits })) at (at-dated .dated2 .ensures)) (c .before .before .number .ensures))
 
 returns-4 : tie.Need-returns-4
-returns-4 c = rw (c .before .before .before .before .before .e3 .given .1) (rw (toZ-ofZ w64 (c .before .before .before .before .before .e3 .given .0 .1 .1 .0) (record { sfits = c .before .before .before .before .known-told3 .given .1 .1 .0 .1 })) at (c .before .before .spanned .ensures))
+returns-4 c =
+    let told = c .before .before .before .before in
+    let e = told .before .e3 .given in
+    rw (e .1) (rw (toZ-ofZ w64 (e .0 .1 .1 .0) (record { sfits = told .known-told3 .given .1 .1 .0 .1 })) at (c .before .before .spanned .ensures))
 
 returns-5 : tie.Need-returns-5
 returns-5 c =

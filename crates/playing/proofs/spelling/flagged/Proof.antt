@@ -11,7 +11,7 @@ returns c =
     let at-place = at-flag .before .before .before .before in
     let start = at-place .before .before .before .before in
     let a = start .args in
-    pieces-next (a .line .now) (a .at) ((77 ∷ []) ∷ []) _ (pieces-one _ _ _ (at-place .place .ensures))
+    pieces-next _ _ ((77 ∷ []) ∷ []) _ (pieces-one _ _ _ (at-place .place .ensures))
     (pieces-next _ _ (flagTexts (a .flag)) _ (at-flag .flag .ensures) (c .before .before .position .ensures))
 
 pub flagged-spec : {M : Type 1} → statement M

@@ -15,7 +15,7 @@ returns c =
     let at-place = at-position .before .before .before .before in
     let start = at-place .before .before .before .before in
     let a = start .args in
-    pieces-next (a .line .now) (a .at) ((a .letter ∷ []) ∷ []) _ (pieces-one _ _ _ (at-place .place .ensures))
+    pieces-next _ _ ((a .letter ∷ []) ∷ []) _ (pieces-one _ _ _ (at-place .place .ensures))
     (pieces-next _ _ (positionTexts (a .p .0)) _ (at-position .position .ensures)
     (pieces-next _ _ (positionTexts (a .q .0)) _ (at-position2 .position2 .ensures) (rw (toZ-ofZ w64 (a .time) (start .fits .time)) at (c .before .before .long .ensures))))
 

@@ -1,15 +1,15 @@
-use borrow.Author.Tests.{eq-eqb, ne-eqb}
+use borrow.Author.Tests.{ne-eqb}
 use Rattle.words.specs.Answers.{queueOf}
 use Rattle.words.proofs.answers.queue_of.Statement.{statement}
 use Rattle.words.proofs.answers.queue_of.Tie as tie
 
 returns : tie.Need-returns
 unfolding queueOf
-returns c = simp (eq-eqb _ _ (c .if1 .taken))
+returns c = rw (c .if1 .taken)
 
 returns-2 : tie.Need-returns-2
 unfolding queueOf
-returns-2 c = simp (ne-eqb _ _ (c .before .if1 .left), eq-eqb _ _ (c .if2 .taken))
+returns-2 c = rw (c .if2 .taken)
 
 returns-3 : tie.Need-returns-3
 unfolding queueOf

@@ -1,4 +1,5 @@
-use borrow.Author.Tests.{eq-eqb, ne-eqb}
+-- A known kind computes; a time is read back as it was since it fits.
+use borrow.Author.Tests.{ne-eqb}
 use Rattle.words.specs.Words.{eventOf}
 use mir.Syntax.{w64}
 use mir.ValLaws.{toZ-ofZ}
@@ -8,35 +9,27 @@ use Rattle.words.proofs.event.event_of.Tie as tie
 
 returns : tie.Need-returns
 unfolding eventOf
-returns c = simp (eq-eqb _ _ (c .before .before .if1 .taken)) (rw (
-  c .flag-of .ensures,
-  toZ-ofZ w64 (c .before .to-i64 .result) (record { sfits = c .before .to-i64 .ensures .1 }),
-  c .before .to-i64 .ensures .0,
-))
+returns c =
+    let time = c .before .to-i64 in
+    rw (c .before .before .if1 .taken, c .flag-of .ensures, toZ-ofZ w64 (time .result) (record { sfits = time .ensures .1 }), time .ensures .0)
 
 returns-2 : tie.Need-returns-2
 unfolding eventOf
-returns-2 c = simp (ne-eqb _ _ (c .before .before .before .if1 .left), eq-eqb _ _ (c .before .before .if2 .taken)) (rw (
-  c .low-half .ensures,
-  toZ-ofZ w64 (c .before .to-i642 .result) (record { sfits = c .before .to-i642 .ensures .1 }),
-  c .before .to-i642 .ensures .0,
-))
+returns-2 c =
+    let time = c .before .to-i642 in
+    rw (c .before .before .if2 .taken, c .low-half .ensures, toZ-ofZ w64 (time .result) (record { sfits = time .ensures .1 }), time .ensures .0)
 
 returns-3 : tie.Need-returns-3
 unfolding eventOf
-returns-3 c = simp (
-  ne-eqb _ _ (c .before .before .before .if1 .left),
-  ne-eqb _ _ (c .before .before .if2 .left),
-  eq-eqb _ _ (c .before .if3 .taken),
-) (rw (toZ-ofZ w64 (c .to-i643 .result) (record { sfits = c .to-i643 .ensures .1 }), c .to-i643 .ensures .0))
+returns-3 c =
+    let time = c .to-i643 in
+    rw (c .before .if3 .taken, toZ-ofZ w64 (time .result) (record { sfits = time .ensures .1 }), time .ensures .0)
 
 returns-4 : tie.Need-returns-4
 unfolding eventOf
-returns-4 c = simp (
-  ne-eqb _ _ (c .before .before .before .if1 .left),
-  ne-eqb _ _ (c .before .before .if2 .left),
-  ne-eqb _ _ (c .before .if3 .left),
-) (rw (c .parts-of .ensures))
+returns-4 c =
+    simp (ne-eqb _ _ (c .before .before .before .if1 .left), ne-eqb _ _ (c .before .before .if2 .left), ne-eqb _ _ (c .before .if3 .left))
+    (rw (c .parts-of .ensures))
 
 pub event-of-spec : {M : Type 1} → statement M
 event-of-spec =

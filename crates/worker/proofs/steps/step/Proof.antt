@@ -1,4 +1,6 @@
+-- `lent []`: what is unread plays no part in these ends.
 use borrow.Author.Tests.{lt-ltb, le-ltb}
+use mathlib.Core.List.{[]}
 use Rattle.worker.specs.Answer.{lent}
 use Rattle.worker.specs.Step.{stepOf}
 use borrow.Author.Needs.{needs}
@@ -16,16 +18,14 @@ returns-2 : tie.Need-returns-2
 unfolding stepOf
 returns-2 c =
     let at-if1 = c .before .before .before in
-    let start = at-if1 .before .before .before .before .before in
     rw (← at-if1 .before .is-ended .ensures, at-if1 .if1 .left, ← c .before .before .limit-of .ensures, lt-ltb _ _ (c .before .if2 .taken))
-    (c .refused2 .ensures (lent (start .args .unread .now) _ _))
+    (c .refused2 .ensures (lent [] _ _))
 
 returns-3 : tie.Need-returns-3
 unfolding stepOf
 returns-3 c =
     let at-if2 = c .before .before in
     let at-if1 = at-if2 .before .before in
-    let start = at-if1 .before .before .before .before .before in
     rw (
       ← at-if1 .before .is-ended .ensures,
       at-if1 .if1 .left,
@@ -33,14 +33,13 @@ returns-3 c =
       le-ltb _ _ (at-if2 .if2 .left),
       lt-ltb _ _ (c .before .if3 .taken),
     )
-    (c .refused3 .ensures (lent (start .args .unread .now) _ _))
+    (c .refused3 .ensures (lent [] _ _))
 
 returns-4 : tie.Need-returns-4
 unfolding stepOf
 returns-4 c =
     let at-if3 = c .before .before .before .before .before in
     let at-if1 = at-if3 .before .before .before in
-    let start = at-if1 .before .before .before .before .before in
     rw (
       ← at-if1 .before .is-ended .ensures,
       at-if1 .if1 .left,
@@ -50,7 +49,7 @@ returns-4 c =
       ← c .before .before .bad-moment .ensures,
       c .before .if4 .taken,
     )
-    (c .refused4 .ensures (lent (start .args .unread .now) _ _))
+    (c .refused4 .ensures (lent [] _ _))
 
 returns-5 : tie.Need-returns-5
 unfolding stepOf

@@ -1,4 +1,6 @@
+-- `lent []`: what is unread plays no part in these ends.
 use mathlib.Core.Path.{_∙_, sym}
+use mathlib.Core.List.{[]}
 use Rattle.worker.specs.Answer.{lent}
 use Rattle.worker.specs.Step.{waitingOf}
 use Rattle.worker.proofs.Laws.{waiting-reads}
@@ -11,7 +13,7 @@ unfolding waitingOf
 returns c =
     let at-if1 = c .before .before .before .before in
     let start = at-if1 .before .before .before .before in
-    rw (at-if1 .if1 .taken) (c .before .before .done .ensures (start .args .unread .now) (start .args .payload .now))
+    rw (at-if1 .if1 .taken) (c .before .before .done .ensures [] (start .args .payload .now))
 
 returns-2 : tie.Need-returns-2
 unfolding waitingOf
@@ -28,7 +30,6 @@ returns-3 c =
     let at-if3 = c .before .before in
     let at-if2 = at-if3 .before .before in
     let at-if1 = at-if2 .before .before in
-    let start = at-if1 .before .before .before .before in
     rw (
       at-if1 .if1 .left,
       ← at-if2 .before .pending-due .ensures,
@@ -37,7 +38,7 @@ returns-3 c =
       at-if3 .if3 .taken,
       ← c .before .with-state .ensures,
     )
-    (c .moved .ensures (lent (start .args .unread .now) (start .args .payload .now) _))
+    (c .moved .ensures (lent [] _ _))
 
 returns-4 : tie.Need-returns-4
 returns-4 c =

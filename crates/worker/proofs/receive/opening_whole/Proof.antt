@@ -1,7 +1,7 @@
 use mathlib.Core.Path.{_∙_}
 use borrow.Author.Needs.{needs}
-use Rattle.worker.proofs.receive.greeted.Statement.{statement}
-use Rattle.worker.proofs.receive.greeted.Tie as tie
+use Rattle.worker.proofs.receive.opening_whole.Statement.{statement}
+use Rattle.worker.proofs.receive.opening_whole.Tie as tie
 
 returns : tie.Need-returns
 returns c = λ l. rw (
@@ -32,8 +32,8 @@ returns-3 c = λ l.
       c .before .if2 .left,
     ) (c .moved2 .ensures l)
 
-pub greeted-spec : {M : Type 1} → statement M
-greeted-spec =
+pub opening-whole-spec : {M : Type 1} → statement M
+opening-whole-spec =
     tie.close
     (tie.spec (search needs) (search needs) (search needs) returns (search needs) (search needs) (search needs)
     returns-2 (search needs) returns-3)
