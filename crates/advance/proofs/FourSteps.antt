@@ -7,15 +7,16 @@ use native.Mathlib.Omega.{arith}
 use lib.IntN.{ℤ}
 use lib.ListN.{length, getD, take, drop, length-drop, drop-of-length-le, take-append-drop}
 use lib.Seq.{take-all, take-at, drop-append-le, drop-drop, length-take-le, getD-take}
-use lib.Dec.{ltb, leb, eqb}
+use lib.Dec.{ltb, eqb}
 use borrow.Author.Tests.{le-leb, lt-ltb, le-ltb, ltb-true, ltb-false, leb-false, eqb-true, eqb-false, eq-eqb, not-true}
 use Rattle.wire.specs.Bytes.{pick, at, put}
+use Rattle.wire.specs.Int.{half, isNegative}
 use Rattle.wire.proofs.Laws.{by-test, impossible, length-put}
 use Rattle.stream.specs.Message.{lengthField}
 use Rattle.stream.proofs.Front.{length-field-append}
 use Rattle.framing.specs.declared.MessageReader.{MessageReader}
 use Rattle.framing.specs.Read.{Said, whole, fresh, at-byte, Result, later, limitOf, payloadOf, judgedOf, headerOf, readOf}
-use Rattle.framing.specs.Tag.{isCopyData}
+use Rattle.stream.specs.Tag.{isCopyData}
 use Rattle.framing.proofs.Laws as L
 use Rattle.lsn.specs.declared.Lsn.{Lsn}
 use Rattle.metrics.specs.Metrics.{more, withEnd}
@@ -97,7 +98,7 @@ record Whole (u : List ℕ) (n : ℕ) : Type 0 where
   tag : getD u 0 0 ≡ 100
   told : lengthField u ≡ n + 4
   least : 25 ≤ n
-  small : n + 4 < 2147483648
+  small : n + 4 < half 4
   there : 5 + n ≤ length u
 
 whole-is : (u : List ℕ) → (wholeAt u ≡ 0 → ⊥) → Whole u (wholeAt u)
@@ -108,7 +109,7 @@ whole-is u h =
     (λ a. by-test (isCopyData (getD u 0 0))
     (λ b. by-test (ltb (lengthField u) 29)
     (λ c. absurd (h (rw (a, b, c))))
-    (λ c. by-test (leb 2147483648 (lengthField u))
+    (λ c. by-test (isNegative 4 (lengthField u))
     (λ d. absurd (h (rw (a, b, c, d))))
     (λ d. by-test (ltb (length u) (lengthField u + 1))
     (λ e. absurd (h (rw (a, b, c, d, e))))
@@ -116,7 +117,7 @@ whole-is u h =
     let n : wholeAt u ≡ lengthField u - 4 = rw (a, b, c, d, e) in
     let k1 : 30 ≤ length u = ltb-false _ _ a in
     let k2 : 29 ≤ lengthField u = ltb-false _ _ c in
-    let k3 : lengthField u < 2147483648 = leb-false _ _ d in
+    let k3 : lengthField u < half 4 = leb-false _ _ d in
     let k4 : lengthField u + 1 ≤ length u = ltb-false _ _ e in
     record {
       enough = k1;
@@ -301,8 +302,8 @@ module _ (r : Run) (i : Input) (u p o : List ℕ) (n : ℕ) (state : r .state �
     by-boundary (B.commit position commit-end commit-time) e h g =
         four (Commit (lsn position) (lsn commit-end) commit-time) (lsn commit-end) g refl refl (λ x y. ap (λ (z : B.Said). boundaryBy z start end time 25 len x y) e)
     by-boundary (B.message flag position pf pl cf cl) e h g =
-        by-test (ltb pf 2147483648)
-        (λ a. by-test (ltb cf 2147483648)
+        by-test (ltb pf (half 4))
+        (λ a. by-test (ltb cf (half 4))
         (λ b.
         rw (a, b)
         (four (Message flag (lsn position) (25 + pf) pl (25 + cf) cl) (lsn end) (rw (a, b) at g) refl refl (λ x y. ap (λ (z : B.Said). boundaryBy z start end time 25 len x y) e)))
@@ -327,8 +328,8 @@ unfolding logicalOf
 boundary-len n start end time len (B.begin final commit-time xid) h = refl
 boundary-len n start end time len (B.commit position commit-end commit-time) h = refl
 boundary-len n start end time len (B.message flag position pf pl cf cl) h =
-    by-test (ltb pf 2147483648)
-    (λ a. by-test (ltb cf 2147483648) (λ b. rw (a, b))
+    by-test (ltb pf (half 4))
+    (λ a. by-test (ltb cf (half 4)) (λ b. rw (a, b))
     (λ b. never (rw (a, b) at h)))
     (λ a. never (rw a at h))
 boundary-len n start end time len B.no-boundary h = refl

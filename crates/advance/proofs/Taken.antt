@@ -11,7 +11,7 @@ use lib.IntN.{ℤ}
 use Rattle.wire.specs.Bytes.{pick, at, put}
 use Rattle.framing.specs.declared.MessageReader.{MessageReader}
 use Rattle.framing.specs.Read.{Result, limitOf, headerOf, readOf}
-use Rattle.framing.specs.Tag.{isError, isCopyData}
+use Rattle.stream.specs.Tag.{isError, isCopyData}
 use Rattle.framing.proofs.Laws.{pick-both, payload-taken, judged-taken}
 use Rattle.replication.specs.CopyData.{copyDataOf}
 use Rattle.replication.specs.CopyData as C

@@ -6,10 +6,11 @@ use mathlib.Core.Option.{none}
 use mathlib.Core.Path.{_≡_}
 use lib.ListN.{length, getD, drop}
 use lib.IntN.{ℤ}
-use lib.Dec.{ltb, leb, eqb}
+use lib.Dec.{ltb, eqb}
 use Rattle.wire.specs.Bytes.{pick, at, be, put}
+use Rattle.wire.specs.Int.{half, isNegative}
 use Rattle.framing.specs.Read.{fresh, limitOf}
-use Rattle.framing.specs.Tag.{isCopyData}
+use Rattle.stream.specs.Tag.{isCopyData}
 use Rattle.lsn.specs.declared.Lsn.{Lsn}
 use Rattle.metrics.specs.Metrics.{more, withEvent, withEnd}
 use Rattle.moment.specs.declared.Moment.{Moment}
@@ -41,7 +42,7 @@ nothing = atHand 0 (lsn 0) (lsn 0) Nothing
 
 -- the payload's length of a message that tells a length, of so many bytes: it is whole, and long enough for an XLogData
 unfoldable pub within : ℕ → ℕ → ℕ
-within n unread = firstOf ((ltb n 29 ⇒ 0) ∷ (leb 2147483648 n ⇒ 0) ∷ (ltb unread (n + 1) ⇒ 0) ∷ []) (n - 4)
+within n unread = firstOf ((ltb n 29 ⇒ 0) ∷ (isNegative 4 n ⇒ 0) ∷ (ltb unread (n + 1) ⇒ 0) ∷ []) (n - 4)
 
 -- .. of a CopyData message, 0 where there is none
 unfoldable pub wholeAt : List ℕ → ℕ
@@ -50,8 +51,8 @@ wholeAt u = pick (ltb (length u) 30) 0 (pick (isCopyData (getD u 0 0)) (within (
 -- of a Message, whose parts begin at places of the data; places that no message reaches are left out, so that no sum wraps
 unfoldable pub logicalOf : ℕ → Lsn → Bool → Lsn → ℕ → ℕ → ℕ → ℕ → AtHand
 logicalOf n end flag position pf pl cf cl =
-    pick (ltb pf 2147483648)
-    (pick (ltb cf 2147483648) (atHand n end end (Message flag position (25 + pf) pl (25 + cf) cl)) nothing)
+    pick (ltb pf (half 4))
+    (pick (ltb cf (half 4)) (atHand n end end (Message flag position (25 + pf) pl (25 + cf) cl)) nothing)
     nothing
 
 -- by the boundary

@@ -10,6 +10,7 @@ use framing::MessageReader;
 use lsn::Lsn;
 use moment::Moment;
 use pgoutput::Boundary;
+use wire::field::FIRST_NEGATIVE_32;
 use wire::field::I64Field;
 use wire::field::U32Field;
 use wire::field::U64Field;
@@ -19,6 +20,9 @@ use worker::Queue;
 use worker::Run;
 use worker::State;
 use worker::Whole;
+
+// A length from here on stands for a negative number, and no message reaches a place from here on.
+const TOO_FAR: usize = FIRST_NEGATIVE_32 as usize;
 
 // The payload's length, 0 where no message is at hand; the server's end; the position that it reaches; its event.
 pub struct AtHand {
@@ -69,7 +73,7 @@ fn within(n: usize, unread: usize) -> usize
     if n < 29 {
         return 0;
     }
-    if 2147483648 <= n {
+    if TOO_FAR <= n {
         return 0;
     }
     if unread < n + 1 {
@@ -132,8 +136,8 @@ fn other(len: usize, start: Lsn, end: Lsn, server_time: i64, data_len: usize) ->
 fn logical(len: usize, end: Lsn, flag: bool, lsn: Lsn, prefix: Part, content: Part) -> AtHand
     ensures { λ r. ⌜ (r ≡ logicalOf len end flag lsn (prefix .from) (prefix .len) (content .from) (content .len)) × (r .len ≤ len) ⌝ }
 {
-    if prefix.from < 2147483648 {
-        if content.from < 2147483648 {
+    if prefix.from < TOO_FAR {
+        if content.from < TOO_FAR {
             let event = Event::Message {
                 transactional: flag,
                 lsn,

@@ -13,7 +13,7 @@ use Rattle.wire.specs.Bytes.{pick}
 use Rattle.wire.proofs.Laws.{impossible}
 use Rattle.stream.specs.Cut.{Item, message, refused, cutOf}
 use Rattle.stream.proofs.Laws.{cut-append}
-use Rattle.framing.specs.Tag.{isError, isCopyBothResponse}
+use Rattle.stream.specs.Tag.{isError, isCopyBothResponse}
 use Rattle.worker.specs.declared.Queue.{Queue}
 use Rattle.worker.specs.declared.Queue.the-variants.{Free, Full, Closed}
 use Rattle.claims.specs.Happened.{Happened}

@@ -13,7 +13,7 @@ use Rattle.wire.specs.Bytes.{pick, put, at}
 use Rattle.wire.proofs.Laws.{by-test}
 use Rattle.framing.specs.Read.{Result, limitOf}
 use Rattle.framing.specs.Read as R
-use Rattle.framing.specs.Tag.{isError, isCopyBothResponse, isCopyData}
+use Rattle.stream.specs.Tag.{isError, isCopyBothResponse, isCopyData}
 use Rattle.frontend.specs.Frontend.{statusUpdate}
 use Rattle.lsn.specs.declared.Lsn.{Lsn}
 use Rattle.metrics.specs.Metrics.{withEvent, withReply, withEnd}

@@ -11,7 +11,7 @@ use lib.ListN.{length, take, drop, take-append-drop, length-append}
 use lib.Seq.{drop-nil, drop-append-seam, take-append-le, take-length}
 use Rattle.wire.specs.Bytes.{pick}
 use Rattle.wire.proofs.Laws.{impossible}
-use Rattle.framing.specs.Tag.{isError, isCopyBothResponse}
+use Rattle.stream.specs.Tag.{isError, isCopyBothResponse}
 use Rattle.worker.specs.declared.Offer.{Offer}
 use Rattle.worker.specs.declared.Event.the-variants.{StoppedAt}
 use Rattle.worker.specs.declared.Queue.the-variants.{Free, Full}

@@ -18,7 +18,7 @@ use Rattle.wire.proofs.Laws.{by-test, impossible, part-of-front, part-of-part}
 use Rattle.framing.specs.Read.{Result, readOf}
 use Rattle.framing.specs.Read as R
 use Rattle.framing.specs.Feed.{Reads}
-use Rattle.framing.specs.Tag.{isError, isCopyBothResponse, isCopyData}
+use Rattle.stream.specs.Tag.{isError, isCopyBothResponse, isCopyData}
 use Rattle.framing.proofs.Feed.{read-is-cut}
 use Rattle.lsn.specs.declared.Lsn.{Lsn}
 use Rattle.metrics.specs.declared.Metrics.{Metrics}

@@ -9,7 +9,7 @@ use lib.IntN.{ℤ}
 use lib.Dec.{ltb, leb}
 use Rattle.wire.specs.Bytes.{pick, at}
 use Rattle.stream.specs.Cut.{Item, message, refused, cutOf}
-use Rattle.framing.specs.Tag.{isError, isCopyBothResponse, isCopyData}
+use Rattle.stream.specs.Tag.{isError, isCopyBothResponse, isCopyData}
 use Rattle.replication.specs.CopyData.{copyDataOf}
 use Rattle.replication.specs.CopyData as C
 use Rattle.pgoutput.specs.Boundary.{boundaryOf}

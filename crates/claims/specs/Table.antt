@@ -11,7 +11,7 @@ use Rattle.wire.specs.Bytes.{pick, put, at}
 use Rattle.stream.specs.Cut.{Cut, cutOf}
 use Rattle.framing.specs.Read.{Said, more, whole, refused, limitOf}
 use Rattle.framing.specs.Feed.{told, span, stored}
-use Rattle.framing.specs.Tag.{isError, isCopyBothResponse, isCopyData}
+use Rattle.stream.specs.Tag.{isError, isCopyBothResponse, isCopyData}
 use Rattle.frontend.specs.Frontend.{statusUpdate, copyDone}
 use Rattle.lsn.specs.declared.Lsn.{Lsn}
 use Rattle.moment.specs.declared.Moment.{Moment}

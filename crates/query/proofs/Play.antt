@@ -7,10 +7,11 @@ use Prim.Native.Nat.{ℕ, suc, _+_, _≤_, _<_, min}
 use native.Mathlib.Omega.{arith}
 use lib.ListN.{length, take, drop, length-take}
 use lib.Seq.{take-all, take-at, take-length}
-use lib.Dec.{eqb, leb}
-use borrow.Author.Tests.{eqb-true, leb-true, leb-false}
+use lib.Dec.{leb}
+use borrow.Author.Tests.{leb-true, leb-false}
 use Rattle.wire.specs.Bytes.{put, copied}
 use Rattle.wire.proofs.Laws.{by-test, length-put}
+use Rattle.stream.specs.Tag.{isDataRow, isError, isReadyForQuery}
 use Rattle.query.specs.Row.{rowOf, nth}
 use Rattle.query.specs.Query.{Ending, Answer, answerFrom, answerOf, only, rowThen, endingBy}
 use Rattle.query.specs.Fold.{fresh, messageOf, rowAnswer, endAnswer}
@@ -79,11 +80,11 @@ plays : (room : ℕ) (ms : List (ℕ × List ℕ)) (e : Option (List ℕ)) (q : 
 unfolding answerFrom playFrom messageOf
 plays room [] e q error l k = (refl, (refl, k))
 plays room (m ∷ ms) e q error l k =
-    by-test (eqb (m .0) 68)
+    by-test (isDataRow (m .0))
     (λ t. rw t (row-agrees room (rowOf (m .1)) (m .1) q error (answerFrom e ms) (λ r. playFrom r error ms) refl (plays room ms e q error l k)))
-    (λ t. by-test (eqb (m .0) 69)
+    (λ t. by-test (isError (m .0))
     (λ u. rw (t, u) (plays room ms (some (m .1)) _ _ (length-kept error (m .1) ∙ l) (error-agrees room error (m .1) l)))
-    (λ u. by-test (eqb (m .0) 90)
+    (λ u. by-test (isReadyForQuery (m .0))
     (λ v. rw (t, u, v) (end-agrees room e (m .1) q error (playFrom fresh error ms) k))
     (λ v. rw (t, u, v) (plays room ms e q error l k))))
 
@@ -114,11 +115,11 @@ ending-whole : (room : ℕ) (ms : List (ℕ × List ℕ)) (e : Option (List ℕ)
 unfolding answerFrom
 ending-whole room [] e h n = ap Ending.open-yet (kept-whole room e h)
 ending-whole room (m ∷ ms) e h n =
-    by-test (eqb (m .0) 68)
+    by-test (isDataRow (m .0))
     (λ t. rw t (row-whole room (rowOf (m .1)) (answerFrom e ms) (ending-whole room ms e h (n .1))))
-    (λ t. by-test (eqb (m .0) 69)
-    (λ u. rw (t, u) (ending-whole room ms (some (m .1)) (n .0 (eqb-true (m .0) 69 u)) (n .1)))
-    (λ u. by-test (eqb (m .0) 90)
+    (λ t. by-test (isError (m .0))
+    (λ u. rw (t, u) (ending-whole room ms (some (m .1)) (n .0 u) (n .1)))
+    (λ u. by-test (isReadyForQuery (m .0))
     (λ v. rw (t, u, v) (end-whole room e h))
     (λ v. rw (t, u, v) (ending-whole room ms e h (n .1)))))
 

@@ -5,8 +5,8 @@ use mathlib.Core.Bool.{true, false}
 use mathlib.Core.List.{List}
 use mathlib.Core.Option.{Option, some, none}
 use lib.ListN.{length}
-use lib.Dec.{eqb}
 use Rattle.wire.specs.Bytes.{pick, copied}
+use Rattle.stream.specs.Tag.{isDataRow, isError, isReadyForQuery}
 use Rattle.error.specs.Refusal.{numberOf}
 use Rattle.query.specs.Row.{rowOf}
 use Rattle.query.specs.declared.Column.{Column}
@@ -50,7 +50,7 @@ errorKept c = (record { failed = true; kept = c .0 }, more, c .1)
 unfoldable pub messageOf : SimpleQuery → ℕ → List ℕ → List ℕ → SimpleQuery × Said × List ℕ
 messageOf q tag payload error =
     let r : SimpleQuery × Said = rowAnswer q (rowOf payload) in
-    pick (eqb tag 68) (r .0, r .1, error)
-    (pick (eqb tag 69) (errorKept (copied error payload))
-    (pick (eqb tag 90) (fresh, endAnswer q, error)
+    pick (isDataRow tag) (r .0, r .1, error)
+    (pick (isError tag) (errorKept (copied error payload))
+    (pick (isReadyForQuery tag) (fresh, endAnswer q, error)
     (q, more, error)))

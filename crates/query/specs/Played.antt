@@ -5,6 +5,7 @@ use mathlib.Core.Path.{_≡_}
 use mathlib.Core.List.{List, [], _∷_}
 use mathlib.Core.Option.{Option, some, none}
 use lib.ListN.{length, take}
+use Rattle.stream.specs.Tag.{isError}
 use Rattle.query.specs.Row.{rowOf, columnOf}
 use Rattle.query.specs.Query.{Ending, answerOf}
 use Rattle.query.specs.Fold.{Said, fresh, messageOf}
@@ -74,7 +75,7 @@ Ends (Ending.open-yet e) last q error = (last ≡ none) × Keeps e q error
 -- every error fits the room
 abbrev pub Room : ℕ → List (ℕ × List ℕ) → Type 0
 Room room [] = Unit
-Room room (m ∷ ms) = (m .0 ≡ 69 → length (m .1) ≤ room) × Room room ms
+Room room (m ∷ ms) = (isError (m .0) ≡ true → length (m .1) ≤ room) × Room room ms
 
 -- messages played from a new query on hand on the rows of the answer, and end as it does, with as much of the error as the buffer keeps
 abbrev pub Play-answers : Type 0

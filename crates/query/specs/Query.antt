@@ -2,8 +2,8 @@
 use Prim.Native.Nat.{ℕ}
 use mathlib.Core.List.{List, [], _∷_}
 use mathlib.Core.Option.{Option, some, none}
-use lib.Dec.{eqb}
 use Rattle.wire.specs.Bytes.{pick}
+use Rattle.stream.specs.Tag.{isDataRow, isError, isReadyForQuery}
 use Rattle.query.specs.Row.{rowOf}
 use Rattle.query.specs.declared.Column.{Column}
 
@@ -34,9 +34,9 @@ rowThen (some cs) a = record { rows = cs ∷ a .rows; ending = a .ending }
 unfoldable pub answerFrom : Option (List ℕ) → List (ℕ × List ℕ) → Answer
 answerFrom e [] = only (open-yet e)
 answerFrom e (m ∷ ms) =
-    pick (eqb (m .0) 68) (rowThen (rowOf (m .1)) (answerFrom e ms))
-    (pick (eqb (m .0) 69) (answerFrom (some (m .1)) ms)
-    (pick (eqb (m .0) 90) (only (endingBy e))
+    pick (isDataRow (m .0)) (rowThen (rowOf (m .1)) (answerFrom e ms))
+    (pick (isError (m .0)) (answerFrom (some (m .1)) ms)
+    (pick (isReadyForQuery (m .0)) (only (endingBy e))
     (answerFrom e ms)))
 
 -- from the first message on, no error yet

@@ -5,7 +5,7 @@ use mathlib.Core.Option.{Option, some, none}
 use Rattle.wire.specs.Bytes.{pick}
 use Rattle.error.specs.Refusal.{numberOf}
 use Rattle.error.specs.Writer.{outcome}
-use Rattle.framing.specs.Tag.{isError}
+use Rattle.stream.specs.Tag.{isError}
 use Rattle.worker.specs.declared.Run.{Run}
 use Rattle.worker.specs.declared.Verdict.{Verdict}
 use Rattle.worker.specs.declared.Verdict.the-variants.{Accepted, Refused}

@@ -9,7 +9,7 @@ use lib.Dec.{ltb, leb, eqb}
 use Rattle.wire.specs.Bytes.{pick, at, put}
 use Rattle.framing.specs.Read.{Result, limitOf, readOf}
 use Rattle.framing.specs.Read as R
-use Rattle.framing.specs.Tag.{isError, isCopyBothResponse, isCopyData}
+use Rattle.stream.specs.Tag.{isError, isCopyBothResponse, isCopyData}
 use Rattle.frontend.specs.Frontend.{statusUpdate, copyDone}
 use Rattle.lsn.specs.declared.Lsn.{Lsn}
 use Rattle.lsn.specs.Position.{isBelow}

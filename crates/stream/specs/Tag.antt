@@ -11,6 +11,10 @@ isError tag = eqb tag 69
 abbrev pub isReadyForQuery : ℕ → Bool
 isReadyForQuery tag = eqb tag 90
 
+-- DataRow, Byte1('D')
+abbrev pub isDataRow : ℕ → Bool
+isDataRow tag = eqb tag 68
+
 -- CopyBothResponse, Byte1('W')
 abbrev pub isCopyBothResponse : ℕ → Bool
 isCopyBothResponse tag = eqb tag 87
