@@ -1,4 +1,4 @@
--- What the plain reading makes of the steps so far, and how one step more changes it.
+-- What the plain reading makes of the steps so far, and how one step more changes it. Standing keeps the account, HandsOn reads it off.
 use mathlib.Core.Path.{_≡_, refl, ap, _∙_}
 use mathlib.Core.Bool.{Bool, true, false}
 use mathlib.Core.List.{List, [], _∷_, _++_}
@@ -9,7 +9,8 @@ use lib.ListN.{take}
 use lib.Dec.{leb}
 use Rattle.wire.specs.Bytes.{pick}
 use Rattle.wire.proofs.Laws.{by-test}
-use Rattle.stream.specs.Cut.{cutOf}
+use Rattle.stream.specs.Cut.{Cut, cutOf}
+use Rattle.stream.proofs.Laws.{cut-nothing}
 use Rattle.claims.specs.Plain.{Msg, Told, wholeOnes, spanOf, behindByte, acceptedOnes, isRefusedEarly, takenOf}
 
 -- ---- lists of steps
@@ -70,6 +71,12 @@ module _ (limit : ℕ) (bytes : List ℕ) where
     pub whole : whole-at t ≡ ms
     pub span : spanOf ms ≤ t
     pub since : 0 < spanOf ms → acceptedOnes (behindByte (spanOf ms) ts) ≡ ws
+
+  -- no byte is taken yet
+  pub none-taken : {ts : List Told} → takenOf ts ≡ 0 → Account 0 ts [] []
+  unfolding wholeOnes spanOf
+  none-taken e =
+      record { sum = e; whole = ap (λ (c : Cut). wholeOnes (c .items)) (cut-nothing limit); span = omega arith; since = λ h. absurd (omega arith) }
 
   -- a step behind which there are no more whole messages
   pub same-ones : (t : ℕ) (ts : List Told) (ms : List Msg) (ws : List Told) (x : Told) → Account t ts ms ws

@@ -1,5 +1,5 @@
 -- Plain readings of the same bytes agree: what was offered begins what was given, and fewer bytes give a beginning of what more give. It knows
--- no run. HandsOn takes `plain-agree` for the events of two lists of calls, Course `events-of` for those of a list's last message.
+-- no run. HandsOn takes `plain-agree` for the events of two lists of calls, Course `events-of` for those of the last message, Standing `closed-before`.
 use mathlib.Core.Path.{_≡_, refl, sym, ap, _∙_}
 use mathlib.Core.Bool.{Bool, true, false}
 use mathlib.Core.List.{List, [], _∷_, _++_, append-assoc}
@@ -110,7 +110,15 @@ cut-begins limit k bytes =
     let e : cutOf limit bytes ≡ cutOf limit (take k bytes ++ drop k bytes) = ap (cutOf limit) (sym (take-append-drop k bytes)) in
     rw (e ∙ cut-append limit (take k bytes) (drop k bytes)) (whole-begins (cutOf limit (take k bytes) .items) _)
 
--- ---- the plain reading
+-- ---- no queue closes
+
+pub closed-more : (ts : List Told) (x : Told) → NoneClosed ts → isClosed (x .queue) ≡ false → NoneClosed (ts ++ (x ∷ []))
+closed-more [] x h q = (q, tt)
+closed-more (t ∷ ts) x h q = (h .0, closed-more ts x (h .1) q)
+
+pub closed-before : (ts : List Told) (x : Told) → NoneClosed (ts ++ (x ∷ [])) → NoneClosed ts × (isClosed (x .queue) ≡ false)
+closed-before [] x h = (tt, h .0)
+closed-before (t ∷ ts) x h = let k = closed-before ts x (h .1) in ((h .0, k .0), k .1)
 
 either-closed : (b : Bool) (ts us : List Told) → NoneClosed ts → NoneClosed us → NoneClosed (pick b ts us)
 either-closed true ts us a c = a
@@ -131,6 +139,8 @@ behind-closed n (t ∷ ts) h = either-closed (leb n (t .taken)) ts (behindByte (
 later-closed : (ts : List Told) → NoneClosed ts → NoneClosed (drop 1 ts)
 later-closed [] h = tt
 later-closed (t ∷ ts) h = h .1
+
+-- ---- the plain reading
 
 -- what begins all, and some of the rest behind it
 and-some : {before all : List Happened} (ts : List Told) → NoneClosed ts → Begins before all → Begins (before ++ offered (drop (length before) all) false ts) all

@@ -24,7 +24,7 @@ use Rattle.replication.specs.CopyData.{copyDataOf}
 use Rattle.replication.specs.CopyData as C
 use Rattle.moment.specs.declared.Moment.{Moment}
 use Rattle.progress.specs.declared.ProgressCell.{ProgressCell}
-use Rattle.progress.specs.Progress.{raiseOf, lookedOf, reportedOf}
+use Rattle.progress.specs.Progress.{raiseOf, lookedOf}
 use Rattle.worker.specs.declared.State.{State}
 use Rattle.worker.specs.declared.State.the-variants.{Opening, Turn, Drain, Reading, Waiting, Handling, Offering, Ended}
 use Rattle.worker.specs.declared.Queue.{Queue}
@@ -35,13 +35,10 @@ use Rattle.worker.specs.declared.Event.the-variants.{Nothing, KeepAlive, Stoppe
 use Rattle.worker.specs.declared.Run.{Run}
 use Rattle.worker.specs.Run.{lsn, freshRun, withReader, withDrained, withMetrics, accepted}
 use Rattle.worker.specs.Rows.{both, unless}
-use Rattle.worker.specs.Step.{Lent, Outcome, back, badMoment, behindEvent, boundaryBy, copyDataBy, doneWith, drainOf, firstBy, handing, handlingOf, having, idleOf, intervalPassed, isEnded, isReadable, isStoppedAt, keepAliveOf, nextOf, offeringOf, offers, openingBy, openingOf, readBy, readingBy, readingOf, refusedWith, stalledBy, stalledOf, stalls, stallEnded, stateOf, statusDue, statusOf, stepOf, takesPending, turnOf, waitingBy, waitingOf, waitingRead}
+use Rattle.worker.specs.Step.{Lent, Outcome, back, badMoment, boundaryBy, copyDataBy, doneWith, drainOf, firstBy, handing, handlingOf, having, idleOf, intervalPassed, isEnded, isReadable, isStoppedAt, keepAliveOf, nextOf, offeringOf, offers, openingBy, openingOf, readBy, readingBy, readingOf, refusedWith, stalledBy, stalledOf, stalls, stallEnded, stateOf, statusDue, statusOf, stepOf, takesPending, turnOf, waitingBy, waitingOf, waitingRead}
 use Rattle.worker.specs.Opening.{reportOf}
+use Rattle.claims.proofs.Facts.{status-cell}
 use Rattle.claims.specs.Confirms.{AnyCall, step, report, Writes, nothing, done, status, Confirmed, Confirms-largest}
-
-one-of : {A : Type 0} (f : A → Lsn) (b : Bool) (x y : A) (p : Lsn) → f x ≡ p → f y ≡ p → f (pick b x y) ≡ p
-one-of f true x y p hx hy = hx
-one-of f false x y p hx hy = hy
 
 module _ (i : Input) (l : Lent) where
   -- the run keeps the position, and what was written is by it
@@ -78,12 +75,9 @@ module _ (i : Input) (l : Lent) where
       by (status reply a c) = status reply a c
 
   status-keeps : (reply : Bool) (to : State) (r : Run) → K r (statusOf reply to r i l)
-  unfolding statusOf reportedOf
+  unfolding statusOf
   status-keeps reply to r =
-      record {
-        kept = one-of (λ (x : ProgressCell). x .applied) (takesPending r) (reportedOf (r .progress) (r .progress .applied) (r .clock .last) .cell) (r .progress) _ refl refl;
-        writes = status reply refl refl;
-      }
+      record { kept = status-cell (takesPending r) (r .progress) (r .progress .applied) (r .clock .last) .0; writes = status reply refl refl }
 
   -- ---- each state
 
@@ -160,11 +154,12 @@ module _ (i : Input) (l : Lent) where
       either (isError (r .whole .tag)) (refused-keeps _ _)
       (either (isCopyData (r .whole .tag)) (copy-data-by (copyDataOf (take (r .whole .len) (l .payload))) r) (handing-keeps _ _))
 
-  behind-event : (r : Run) → behindEvent r .progress .applied ≡ r .progress .applied
-  behind-event r = one-of (λ (x : Run). x .progress .applied) (r .offer .stops) (offers (StoppedAt (r .offer .reached)) false (lsn 0) r) (back r) _ refl refl
-
   next-keeps : (e : Event) (r : Run) → K r (nextOf e r l)
-  next-keeps e r = either (isStoppedAt (r .offer .event)) (done-keeps e r) (rw (behind-event r) at (handing-keeps e (behindEvent r)))
+  next-keeps e r = either (isStoppedAt (r .offer .event)) (done-keeps e r) (by (r .offer .stops))
+    where
+      by : (b : Bool) → K r (handing e (pick b (offers (StoppedAt (r .offer .reached)) false (lsn 0) r) (back r)) l)
+      by true = handing-keeps _ _
+      by false = handing-keeps _ _
 
   stalled-by : (q : Queue) (r : Run) → K r (stalledBy q r i l)
   stalled-by Free r = next-keeps _ (withMetrics (withEvent (stallEnded r .metrics)) r)

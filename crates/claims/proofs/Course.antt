@@ -81,7 +81,7 @@ module _ (stop : Option ℕ) (opening : Bool) where
       let e : last-of ms ≡ b .rest = ap (drop (length (all-of (front ms)))) (sym (b .joined)) ∙ drop-append-seam (all-of (front ms)) (b .rest) in
       ap (λ (l : List Happened). all-of (front ms) ++ l) e ∙ b .joined
 
-  pub none-last : (ms : List Msg) → all-of ms ≡ [] → last-of ms ≡ []
+  none-last : (ms : List Msg) → all-of ms ≡ [] → last-of ms ≡ []
   none-last ms e = ap (drop (length (all-of (front ms)))) e ∙ drop-nil (length (all-of (front ms)))
 
   last-is : (ms : List Msg) (m : Msg) (last : List Happened) → all-of (ms ++ (m ∷ [])) ≡ all-of ms ++ last → last-of (ms ++ (m ∷ [])) ≡ last
@@ -163,6 +163,14 @@ module _ (stop : Option ℕ) (opening : Bool) where
   -- where nothing is given
   none-over : (ms : List Msg) (ws : List Told) (es : List Happened) → es ≡ [] → all-of ms ≡ [] → Over ms ws es
   none-over ms ws es h e = h ∙ (sym e ∙ settled-all ms ws (none-settled ms ws (none-last ms e)))
+
+  pub nothing-reads : (ws : List Told) → Over [] ws []
+  unfolding given behindOpening
+  nothing-reads ws = none-over [] ws [] refl (by opening)
+    where
+      by : (b : Bool) → eventsOf stop b [] ≡ []
+      by true = refl
+      by false = refl
 
   module _ {ms : List Msg} {ws : List Told} {es : List Happened} where
     pub before-reads : Before ms ws es → Over ms ws es

@@ -12,11 +12,12 @@ use Rattle.moment.specs.declared.Moment.{Moment}
 use Rattle.progress.specs.declared.ProgressCell.{ProgressCell}
 use Rattle.progress.specs.Progress.{raiseOf, reportedOf}
 use Rattle.worker.specs.declared.Input.{Input}
+use Rattle.worker.specs.declared.LastStatus.{LastStatus}
 use Rattle.worker.specs.declared.Run.{Run}
 use Rattle.worker.specs.declared.Settings.{Settings}
 use Rattle.worker.specs.declared.State.{State}
 use Rattle.worker.specs.declared.State.the-variants.{Opening, Turn, Drain, Reading, Waiting, Handling, Offering, Ended}
-use Rattle.worker.specs.Run.{freshRun, accepted}
+use Rattle.worker.specs.Run.{lastStatus, freshRun, accepted}
 use Rattle.worker.specs.Step.{confirmed, isEnded, isStoppedAt, takesPending}
 use Rattle.worker.specs.Opening.{reportOf}
 use Rattle.claims.specs.Plain.{isRefusedEarly}
@@ -24,29 +25,29 @@ use Rattle.claims.specs.Past.{Past, a-step, a-report, confirmedOf, lastA
 
 pub record Facts : Type 0 where
   pub settings : Settings
+  -- the moments of the last accepted step and of the wait's beginning
   pub last : Moment
   pub wait : Moment
-  pub at : Moment
+  -- the position to confirm, and whether a report has raised it since the wait began
   pub applied : Lsn
-  pub position : Lsn
   pub signalled : Bool
-  pub sent : Bool
+  -- the last status
+  pub status : LastStatus
   pub drained : ℕ
   pub pending : Bool
+  -- the offered event: whether its stall has begun, and whether it is StoppedAt
   pub stalled : Bool
   pub stopped : Bool
 
-abbrev facts : Settings → Moment → Moment → Moment → Lsn → Lsn → Bool → Bool → ℕ → Bool → Bool → Bool → Facts
-facts settings last wait at applied position signalled sent drained pending stalled stopped =
+abbrev facts : Settings → Moment → Moment → Lsn → Bool → LastStatus → ℕ → Bool → Bool → Bool → Facts
+facts settings last wait applied signalled status drained pending stalled stopped =
     record {
       settings = settings;
       last = last;
       wait = wait;
-      at = at;
       applied = applied;
-      position = position;
       signalled = signalled;
-      sent = sent;
+      status = status;
       drained = drained;
       pending = pending;
       stalled = stalled;
@@ -56,14 +57,14 @@ facts settings last wait at applied position signalled sent drained pending stal
 -- as a run remembers them
 abbrev pub factsBy : Run → Facts
 factsBy r =
-    facts (r .settings) (r .clock .last) (r .clock .«wait_began») (r .status .at) (r .progress .applied) (r .status .position) (r .progress .signalled)
-    (r .status .sent) (r .drained) (r .pending) (r .offer .stalled) (isStoppedAt (r .offer .event))
+    facts (r .settings) (r .clock .last) (r .clock .«wait_began») (r .progress .applied) (r .progress .signalled) (r .status) (r .drained) (r .pending)
+    (r .offer .stalled) (isStoppedAt (r .offer .event))
 
 -- as the calls tell them; who unfolds it unfolds what they tell
 unfoldable pub factsOf : Settings → Lsn → List Past → Facts
 unfolding lastAccepted waitBegan sentAt confirmedOf sentPosition signalledOf hasSent drainedOf pendingOf fullBefore stoppedNext
 factsOf s start h =
-    facts s (lastAccepted h) (waitBegan h) (sentAt h) (confirmedOf start h) (sentPosition start h) (signalledOf start h) (hasSent h)
+    facts s (lastAccepted h) (waitBegan h) (confirmedOf start h) (signalledOf start h) (lastStatus (hasSent h) (sentPosition start h) (sentAt h))
     (drainedOf h) (pendingOf start h) (fullBefore h) (stoppedNext h)
 
 pub fresh-facts : (s : Settings) (state : State) (start : Lsn) → factsBy (freshRun s state start) ≡ factsOf s start []
@@ -75,7 +76,7 @@ fresh-facts s state start = refl
 -- the position rises with a signal, or nothing changes
 abbrev raised : Lsn → Facts → Facts
 raised p f =
-    facts (f .settings) (f .last) (f .wait) (f .at) (pick (isBelow (f .applied) p) p (f .applied)) (f .position) (pick (isBelow (f .applied) p) true (f .signalled)) (f .sent)
+    facts (f .settings) (f .last) (f .wait) (pick (isBelow (f .applied) p) p (f .applied)) (pick (isBelow (f .applied) p) true (f .signalled)) (f .status)
     (f .drained) (f .pending) (f .stalled) (f .stopped)
 
 raise-cell : (c : ProgressCell) (p : Lsn) (m : Moment)
@@ -108,7 +109,7 @@ early-facts s start h i Ended n e = simp e
 -- ---- a status
 
 -- the position is kept, and the signal
-status-cell : (b : Bool) (c : ProgressCell) (p : Lsn) (m : Moment)
+pub status-cell : (b : Bool) (c : ProgressCell) (p : Lsn) (m : Moment)
     → (pick b (reportedOf c p m .cell) c .applied ≡ c .applied) × (pick b (reportedOf c p m .cell) c .signalled ≡ c .signalled)
 unfolding reportedOf
 status-cell true c p m = (refl, refl)
@@ -117,7 +118,7 @@ status-cell false c p m = (refl, refl)
 -- a status was sent now
 abbrev pub with-status : Moment → Facts → Facts
 with-status m f =
-    facts (f .settings) m (f .wait) m (f .applied) (f .applied) (f .signalled) true (f .drained) (f .pending) (f .stalled) (f .stopped)
+    facts (f .settings) m (f .wait) (f .applied) (f .signalled) (lastStatus true (f .applied) m) (f .drained) (f .pending) (f .stalled) (f .stopped)
 
 pub confirmed-facts : (r : Run) (m : Moment) → factsBy (confirmed (accepted m r)) ≡ with-status m (factsBy r)
 confirmed-facts r m =
@@ -129,22 +130,23 @@ confirmed-facts r m =
 -- a step was accepted
 abbrev pub at-moment : Moment → Facts → Facts
 at-moment m f =
-    facts (f .settings) m (f .wait) (f .at) (f .applied) (f .position) (f .signalled) (f .sent) (f .drained) (f .pending) (f .stalled) (f .stopped)
+    facts (f .settings) m (f .wait) (f .applied) (f .signalled) (f .status) (f .drained) (f .pending) (f .stalled) (f .stopped)
 
 -- so many are drained
 abbrev pub with-drained : ℕ → Facts → Facts
 with-drained d f =
-    facts (f .settings) (f .last) (f .wait) (f .at) (f .applied) (f .position) (f .signalled) (f .sent) d (f .pending) (f .stalled) (f .stopped)
+    facts (f .settings) (f .last) (f .wait) (f .applied) (f .signalled) (f .status) d (f .pending) (f .stalled) (f .stopped)
 
 -- the wait begins
 abbrev pub with-wait : Moment → Facts → Facts
 with-wait m f =
-    facts (f .settings) m m (f .at) (f .applied) (f .position) false (f .sent) (f .drained) (pick (f .sent) (isBelow (f .position) (f .applied)) true) (f .stalled) (f .stopped)
+    facts (f .settings) m m (f .applied) false (f .status) (f .drained) (pick (f .status .sent) (isBelow (f .status .position) (f .applied)) true)
+    (f .stalled) (f .stopped)
 
 -- an event is offered, at its first try or not, StoppedAt or not
 abbrev pub with-offer : Bool → Bool → Facts → Facts
 with-offer stalled stopped f =
-    facts (f .settings) (f .last) (f .wait) (f .at) (f .applied) (f .position) (f .signalled) (f .sent) (f .drained) (f .pending) stalled stopped
+    facts (f .settings) (f .last) (f .wait) (f .applied) (f .signalled) (f .status) (f .drained) (f .pending) stalled stopped
 
 -- ---- agreement, by state
 

@@ -1,29 +1,27 @@
 -- What was handed on is the plain reading: behind any list of calls, by what holds then (Kept). Condition3 takes both theorems.
 use mathlib.Core.Path.{_≡_, refl, sym, ap, _∙_}
-use mathlib.Core.Bool.{Bool, true, false}
-use mathlib.Core.List.{List, [], _∷_, _++_}
+use mathlib.Core.Bool.{Bool}
+use mathlib.Core.List.{List, [], _∷_}
 use mathlib.Core.Logic.{inl, inr}
 use Prim.Native.Nat.{ℕ, _≤_}
 use native.Mathlib.Omega.{arith}
 use borrow.Author.Tests.{ltb-true, ltb-false}
-use lib.ListN.{take, drop}
+use lib.ListN.{take}
 use lib.Dec.{ltb}
-use Rattle.wire.specs.Bytes.{pick}
 use Rattle.wire.proofs.Laws.{by-test}
-use Rattle.stream.specs.Cut.{Cut, cutOf}
-use Rattle.stream.proofs.Laws.{cut-nothing}
+use Rattle.stream.specs.Cut.{cutOf}
 use Rattle.lsn.specs.declared.Lsn.{Lsn}
 use Rattle.worker.specs.declared.Settings.{Settings}
 use Rattle.worker.specs.declared.State.{State}
 use Rattle.worker.specs.declared.State.the-variants.{Opening, Turn, Drain, Reading, Waiting, Handling, Offering, Ended}
 use Rattle.claims.specs.Happened.{Happened}
-use Rattle.claims.specs.Plain.{Msg, Told, wholeOnes, behindOpening, given, spanOf, behindByte, acceptedOnes, takenOf, plainOf}
-use Rattle.claims.specs.Begins.{isClosed, NoneClosed}
+use Rattle.claims.specs.Plain.{Msg, Told, wholeOnes, spanOf, behindByte, acceptedOnes, takenOf, plainOf}
+use Rattle.claims.specs.Begins.{NoneClosed}
 use Rattle.claims.specs.Calls.{Call, step, report, Played, playOne, playAll, played, boundsOf}
 use Rattle.claims.specs.HandsOn.{NoQueueCloses, Hands-on, Events-begin}
-use Rattle.claims.proofs.Account.{Account}
-use Rattle.claims.proofs.Begins.{plain-agree}
-use Rattle.claims.proofs.Course.{all-of, last-of, read-off, Over, none-last, nothing-offered, before-reads, going-reads, held-reads, offers-reads}
+use Rattle.claims.proofs.Account.{Account, none-taken}
+use Rattle.claims.proofs.Begins.{closed-more, plain-agree}
+use Rattle.claims.proofs.Course.{read-off, Over, nothing-reads, before-reads, going-reads, held-reads, offers-reads}
 use Rattle.claims.proofs.Kept.{played-stood}
 use Rattle.claims.proofs.Standing.{Setup, setup, Goings, Placed, Standing, limit, stop, message-of}
 
@@ -37,14 +35,6 @@ module _ (s : Setup) where
   abbrev Reads : List Told → List Happened → Type 0
   Reads ts es = es ≡ plainOf (boundsOf (s .settings)) (s .opening) (s .bytes) ts
 
-  no-events : all-of (stop s) (s .opening) [] ≡ []
-  unfolding given behindOpening
-  no-events = by (s .opening)
-    where
-      by : (b : Bool) → given (stop s) (pick b (behindOpening []) []) ≡ []
-      by true = refl
-      by false = refl
-
   -- the account is the plain reading's
   account-reads : {t : ℕ} {ts : List Told} {ms : List Msg} {ws : List Told} {es : List Happened} → Account (limit s) (s .bytes) t ts ms ws
       → Over (stop s) (s .opening) ms ws es → Reads ts es
@@ -56,17 +46,10 @@ module _ (s : Setup) where
       (o ∙
       by-test (ltb 0 (spanOf ms))
       (λ h. ap (read-off (stop s) (s .opening) ms) (sym (a .since (ltb-true _ _ h))))
-      (λ h.
-      let l : last-of (stop s) (s .opening) ms ≡ [] =
-      none-last (stop s) (s .opening) ms (ap (all-of (stop s) (s .opening)) (no-span ms (ltb-false _ _ h)) ∙ no-events) in
-      rw (l, nothing-offered false (drop 1 ws), nothing-offered false (drop 1 (acceptedOnes (behindByte (spanOf ms) ts))))))
-
-  none-read : (ts : List Told) → takenOf ts ≡ 0 → Reads ts []
-  unfolding plainOf wholeOnes
-  none-read ts e =
-      let c : wholeOnes (cutOf (limit s) (take (takenOf ts) (s .bytes)) .items) ≡ [] =
-      ap (λ (k : ℕ). wholeOnes (cutOf (limit s) (take k (s .bytes)) .items)) e ∙ ap (λ (u : Cut). wholeOnes (u .items)) (cut-nothing (limit s)) in
-      sym (rw c (rw no-events (nothing-offered false _)))
+      (λ h. rw (no-span ms (ltb-false _ _ h)) (sym (nothing ws) ∙ nothing (acceptedOnes (behindByte (spanOf []) ts)))))
+    where
+      nothing : (vs : List Told) → Over (stop s) (s .opening) [] vs []
+      nothing = nothing-reads (stop s) (s .opening)
 
   module _ (z : Played) (q : NoneClosed (z .told)) where
     going-read : Goings s (z .run .reader) (z .payload) (z .taken) (z .told) (z .events) → Reads (z .told) (z .events)
@@ -83,7 +66,7 @@ module _ (s : Setup) where
     placed-read Ended o = account-reads (o .account) (o .course q)
 
     standing-read : (x : State) → Standing s x z → Reads (z .told) (z .events)
-    standing-read x (inl h) = h .none ∙ none-read (z .told) (h .untaken)
+    standing-read x (inl h) = h .none ∙ account-reads (none-taken (limit s) (s .bytes) (h .untaken)) (nothing-reads (stop s) (s .opening) [])
     standing-read x (inr b) = placed-read x b
 
 -- no queue closes, so the steps tell of none
@@ -91,10 +74,6 @@ told-closed : (bytes : List ℕ) (cs : List Call) (z : Played) → NoQueueCloses
 unfolding playAll
 told-closed bytes [] z q h = h
 told-closed bytes (step i n out ∷ cs) z q h = told-closed bytes cs (playOne bytes z (step i n out)) (q .1) (closed-more (z .told) _ h (q .0))
-  where
-    closed-more : (ts : List Told) (x : Told) → NoneClosed ts → isClosed (x .queue) ≡ false → NoneClosed (ts ++ (x ∷ []))
-    closed-more [] x a b = (b, tt)
-    closed-more (t ∷ ts) x a b = (a .0, closed-more ts x (a .1) b)
 told-closed bytes (report position moment ∷ cs) z q h = told-closed bytes cs (playOne bytes z (report position moment)) q h
 
 played-closed : (s : Settings) (opening : Bool) (start : Lsn) (bytes p : List ℕ) (cs : List Call) → NoQueueCloses cs

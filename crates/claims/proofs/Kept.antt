@@ -22,7 +22,7 @@ use Rattle.worker.specs.Run.{freshRun}
 use Rattle.worker.specs.Step.{Lent, badMoment, isEnded, refusedWith, stepOf}
 use Rattle.worker.specs.Opening.{reportOf}
 use Rattle.claims.specs.Plain.{isRefusedEarly, given, takenOf}
-use Rattle.claims.specs.Calls.{Call, step, report, Played, lentTo, playOne, playAll, played}
+use Rattle.claims.specs.Calls.{Call, step, report, Played, lentTo, playOne, playAll, begun, played}
 use Rattle.claims.specs.Table.{say, nothing, sayOf, isBadMoment}
 use Rattle.claims.proofs.Answers.{refused-answers}
 use Rattle.claims.proofs.Course.{nothing-offered}
@@ -30,6 +30,7 @@ use Rattle.claims.proofs.Facts.{Facts, factsBy, factsOf, fresh-facts, e
 use Rattle.claims.proofs.Standing.{Setup, setup, Placed, Standing, limit, no-base, early-still}
 use Rattle.claims.proofs.Rows.{Next, Row, either, opening-next, turn-next, drain-next, reading-next, waiting-next, handling-next, offering-next}
 
+-- what the run remembers is what the calls tell, and the reader and the events stand by its state
 pub record Stood (s : Setup) (z : Played) : Type 0 where
   pub agrees : Agrees (z .run .state) (factsBy (z .run)) (factsOf (s .settings) (s .start) (z .past))
   pub stands : Standing s (z .run .state) z
@@ -91,10 +92,6 @@ calls-stood s (report p m ∷ cs) z w =
 
 -- ---- on a fresh run, in Opening or already open
 
-abbrev first : Settings → Bool → Lsn → List ℕ → Played
-first s opening start p =
-    record { run = freshRun s (pick opening Opening Turn) start; payload = p; taken = 0; told = []; past = []; events = []; written = [] }
-
 first-agrees : (s : Settings) (opening : Bool) (start : Lsn)
     → Agrees (pick opening Opening Turn) (factsBy (freshRun s (pick opening Opening Turn) start)) (factsOf s start [])
 first-agrees s true start = fresh-facts s Opening start
@@ -102,7 +99,7 @@ first-agrees s false start = fresh-facts s Turn start
 
 -- with a payload buffer as long as the limit
 first-placed : (s : Settings) (opening : Bool) (start : Lsn) (bytes p : List ℕ) → limitOf (s .«max_message_size») ≤ length p
-    → Placed (setup s opening start bytes) (pick opening Opening Turn) (first s opening start p)
+    → Placed (setup s opening start bytes) (pick opening Opening Turn) (begun s opening start p)
 unfolding freshRun given
 first-placed s true start bytes p h = record { ms = []; ws = []; base = no-base p h; course = λ q. record { begun = refl; none = refl; yet = λ ns. refl } }
 first-placed s false start bytes p h =
@@ -112,7 +109,7 @@ pub played-stood : (s : Settings) (opening : Bool) (start : Lsn) (bytes p : List
     → Stood (setup s opening start bytes) (played s opening start bytes p cs)
 unfolding played freshRun takenOf
 played-stood s opening start bytes p cs =
-    calls-stood (setup s opening start bytes) cs (first s opening start p)
+    calls-stood (setup s opening start bytes) cs (begun s opening start p)
     (record {
       agrees = first-agrees s opening start;
       stands =

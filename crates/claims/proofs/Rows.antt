@@ -48,7 +48,7 @@ use Rattle.claims.specs.Happened.{Happened, happenedBy}
 use Rattle.claims.specs.Happened as H
 use Rattle.claims.specs.Plain.{Msg, Gives, gives, reaching, dataGives, payloadGives, isCutOff, isFull, byQueue}
 use Rattle.claims.specs.Begins.{isClosed}
-use Rattle.claims.specs.Past.{Past, a-step, confirmedOf, hasSent, pendingOf, signalledOf, drainedOf, fullBefore, stoppedNext}
+use Rattle.claims.specs.Past.{Past, a-step, confirmedOf, stoppedNext}
 use Rattle.claims.specs.Calls.{Played, stepped, lentTo}
 use Rattle.claims.specs.Table.{nothing, done, status, Say, say, isPassed, isIdle, statusIf, readSay, openingSay, readingSay, waitingSay, lastOr, lastMessage, boundaryRefusal, copyDataSay, behindOffer, againSay, tableOf, writtenBy, Answers}
 use Rattle.claims.proofs.Answers.{handing-answers, refused-answers, done-answers, status-answers}
@@ -134,54 +134,35 @@ module _ (s : Setup) (z : Played) (i : Input) (n : ℕ) (out : List ℕ) where
   abbrev There : Course → Type 0
   There C = Stand s C (r .reader) p (z .taken + 0) (z .told ++ (tell i 0 0 ∷ [])) (z .events ++ [])
 
-  abbrev Gone : Course
-  Gone = Going (stop s) (s .opening)
+  -- the events of all messages are handed on
+  abbrev AllHanded : Course
+  AllHanded = Going (stop s) (s .opening)
 
   module _ (e : factsBy r ≡ factsOf (s .settings) (s .start) past) where
     -- ---- tests, by the run and by the calls
 
+    -- what is remembered is what is told, part by part
+    part : {A : Type 0} (f : Facts → A) → f (factsBy r) ≡ f (factsOf (s .settings) (s .start) past)
+    part f = ap f e
+
     settings-is : r .settings ≡ s .settings
     unfolding factsOf
-    settings-is = ap (λ (f : Facts). f .settings) e
+    settings-is = part (λ f. f .settings)
 
     applied-is : r .progress .applied ≡ confirmedOf (s .start) past
     unfolding factsOf
-    applied-is = ap (λ (f : Facts). f .applied) e
-
-    drained-is : r .drained ≡ drainedOf past
-    unfolding factsOf
-    drained-is = ap (λ (f : Facts). f .drained) e
-
-    pending-is : r .pending ≡ pendingOf (s .start) past
-    unfolding factsOf
-    pending-is = ap (λ (f : Facts). f .pending) e
-
-    signalled-is : r .progress .signalled ≡ signalledOf (s .start) past
-    unfolding factsOf
-    signalled-is = ap (λ (f : Facts). f .signalled) e
-
-    stopped-is : isStoppedAt (r .offer .event) ≡ stoppedNext past
-    unfolding factsOf
-    stopped-is = ap (λ (f : Facts). f .stopped) e
-
-    full-is : r .offer .stalled ≡ fullBefore past
-    unfolding factsOf
-    full-is = ap (λ (f : Facts). f .stalled) e
+    applied-is = part (λ f. f .applied)
 
     passed-is : (x : State) → intervalPassed (in-state x) ≡ isPassed (s .settings) past i
     unfolding factsOf
-    passed-is x = ap (λ (f : Facts). leb (f .settings .«status_interval») (sinceOf (i .moment) (f .at))) e
-
-    due-is : (x : State) → statusDue (in-state x) ≡ pick (hasSent past) (isPassed (s .settings) past i) true
-    unfolding factsOf
-    due-is x = ap (λ (f : Facts). pick (f .sent) (leb (f .settings .«status_interval») (sinceOf (i .moment) (f .at))) true) e
+    passed-is x = part (λ f. leb (f .settings .«status_interval») (sinceOf (i .moment) (f .status .at)))
 
     abbrev idle : Bool
     idle = leb (r .settings .«idle_wakeup_interval») (sinceOf (i .moment) (r .clock .«wait_began»))
 
     idle-is : idle ≡ isIdle (s .settings) past i
     unfolding factsOf
-    idle-is = ap (λ (f : Facts). leb (f .settings .«idle_wakeup_interval») (sinceOf (i .moment) (f .wait))) e
+    idle-is = part (λ f. leb (f .settings .«idle_wakeup_interval») (sinceOf (i .moment) (f .wait)))
 
     -- what is remembered and told is as it was, but for the step's moment
     same : at-moment (i .moment) (factsBy r) ≡ at-moment (i .moment) (factsOf (s .settings) (s .start) past)
@@ -200,63 +181,57 @@ module _ (s : Setup) (z : Played) (i : Input) (n : ℕ) (out : List ℕ) where
     abbrev read-in : State → Run
     read-in st = withReader (x .1) (in-state st)
 
-    -- an outcome that takes what was read, as f says by what the reader answered
-    abbrev read-say : (R.Said → Say) → Say
-    read-say f = readSay (limit s) (take (z .taken) (s .bytes)) (l .unread) (i .ended) f
+    -- an outcome that takes what was read answers as f says of the reader's answer
+    record Read (from : State) (f : R.Said → Say) (o : Outcome) : Type 0 where
+      row : Next from (readSay (limit s) (take (z .taken) (s .bytes)) (l .unread) (i .ended) f) (having (x .2) (x .3) o)
 
-    abbrev Read : State → (R.Said → Say) → Outcome → Type 0
-    Read from f o = Next from (read-say f) (having (x .2) (x .3) o)
-
-    read-answers : {C : Course} → Here C → (f : R.Said → Say) (a : R.Said) (o : Outcome) → x .0 ≡ a → o .refusal ≡ f a .refusal
+    took : {C : Course} {from : State} {f : R.Said → Say} {o : Outcome} → Here C → (a : R.Said) → x .0 ≡ a → o .refusal ≡ f a .refusal
         → (o .written, o .out) ≡ writtenBy (f a .writing) (confirmedOf (s .start) past) (i .«client_time») out
-        → Answered (read-say f) (having (x .2) (x .3) o)
-    read-answers b f a o h hr hw =
+        → Agreed from (having (x .2) (x .3) o) → Placed s (o .run .state) (stepped z i (having (x .2) (x .3) o)) → Read from f o
+    took {C} {from} {f} b a h hr hw ag pl =
         let y : Reads (limit s) (take (z .taken) (s .bytes)) (l .unread) (i .ended) p x =
         rw same-read at
         (read-is-cut (s .settings .«max_message_size») (take (z .taken) (s .bytes)) (l .unread) (i .ended) (r .reader) p (b .base .room) (b .base .stands)) in
         let q = sym h ∙ y .answer in
         record {
-          refusal = hr ∙ ap (λ (g : R.Said). f g .refusal) q;
-          taken = y .taken;
-          payload = y .buffer;
-          output = hw ∙ ap (λ (g : R.Said). writtenBy (f g .writing) (confirmedOf (s .start) past) (i .«client_time») out) q;
+          row =
+              next
+              (record {
+                refusal = hr ∙ ap (λ (g : R.Said). f g .refusal) q;
+                taken = y .taken;
+                payload = y .buffer;
+                output = hw ∙ ap (λ (g : R.Said). writtenBy (f g .writing) (confirmedOf (s .start) past) (i .«client_time») out) q;
+              })
+              ag pl;
         }
 
     -- ---- Opening
 
     pub opening-next : Here (Before (stop s) (s .opening)) → Row Opening
     unfolding stateOf openingOf factsOf
-    opening-next b = by (x .0) refl
+    opening-next b = by (x .0) refl .row
       where
         by-tag : (tag k : ℕ) → x .0 ≡ R.whole tag k → (c d : Bool) → isCopyBothResponse tag ≡ c → isError tag ≡ d
             → Read Opening openingSay
             (pick c (moved (withState Turn (read-in Opening)) l)
             (pick d (endedWith 19 (withWhole (wholeOf tag k false) (read-in Opening)) l) (moved (read-in Opening) l)))
         by-tag tag k h true d ec ed =
-            next (read-answers b openingSay (R.whole tag k) (moved (withState Turn (read-in Opening)) l) h (simp ec) (simp ec)) same
-            (read-whole b n i x same-read 0 tag k h (λ a. before-goes _ _ _ a ec))
+            took b (R.whole tag k) h (simp ec) (simp ec) same (read-whole b n i x same-read 0 tag k h (λ a. before-goes _ _ _ a ec))
         by-tag tag k h false true ec ed =
-            next
-            (read-answers b openingSay (R.whole tag k) (endedWith 19 (withWhole (wholeOf tag k false) (read-in Opening)) l) h (simp (ec, ed)) (simp (ec, ed)))
-            tt (read-last b n i x same-read 19 tag k h (λ a. before-error _ _ _ a ec ed))
+            took b (R.whole tag k) h (simp (ec, ed)) (simp (ec, ed)) tt (read-last b n i x same-read 19 tag k h (λ a. before-error _ _ _ a ec ed))
         by-tag tag k h false false ec ed =
-            next (read-answers b openingSay (R.whole tag k) (moved (read-in Opening) l) h (simp (ec, ed)) (simp (ec, ed))) same
-            (read-whole b n i x same-read 0 tag k h (λ a. before-skips _ _ _ a ec ed))
+            took b (R.whole tag k) h (simp (ec, ed)) (simp (ec, ed)) same (read-whole b n i x same-read 0 tag k h (λ a. before-skips _ _ _ a ec ed))
 
         by : (a : R.Said) → x .0 ≡ a → Read Opening openingSay (openingBy a (read-in Opening) l)
-        by R.more h =
-            next (read-answers b openingSay R.more (moved (read-in Opening) l) h refl refl) same
-            (read-more b n i x same-read 0 h (before-on _ _ (tell i 0 (x .2))))
+        by R.more h = took b R.more h refl refl same (read-more b n i x same-read 0 h (before-on _ _ (tell i 0 (x .2))))
         by (R.whole tag k) h = by-tag tag k h (isCopyBothResponse tag) (isError tag) refl refl
-        by (R.refused k) h =
-            next (read-answers b openingSay (R.refused k) (endedWith k (read-in Opening) l) h refl refl) tt
-            (read-refused b n i x same-read k k h (before-over _ _ (tell i k (x .2))))
+        by (R.refused k) h = took b (R.refused k) h refl refl tt (read-refused b n i x same-read k k h (before-over _ _ (tell i k (x .2))))
 
-    -- ---- Turn, Drain, Reading, Waiting: the events of all messages are handed on
+    -- ---- Turn, Drain, Reading, Waiting
 
-    module _ (b : Here Gone) where
+    module _ (b : Here AllHanded) where
       -- no byte is taken, and nothing handed on
-      stays : There Gone
+      stays : There AllHanded
       stays = goes-still i 0 b
 
       -- .. and a CopyDone ends the run
@@ -266,7 +241,7 @@ module _ (s : Setup) (z : Played) (i : Input) (n : ℕ) (out : List ℕ) where
       pub turn-next : Row Turn
       unfolding stateOf turnOf statusOf factsOf
       turn-next =
-          rw (← due-is Turn)
+          rw (← part (λ f. pick (f .status .sent) (leb (f .settings .«status_interval») (sinceOf (i .moment) (f .status .at))) true))
           (status-if (statusDue (in-state Turn))
           (next (status-answers false Drain (withDrained 0 (in-state Turn)) applied-is)
           (confirmed-facts (withDrained 0 r) (i .moment) ∙ ap (λ (f : Facts). with-status (i .moment) (with-drained 0 f)) e) stays)
@@ -275,7 +250,7 @@ module _ (s : Setup) (z : Played) (i : Input) (n : ℕ) (out : List ℕ) where
       pub drain-next : Row Drain
       unfolding stateOf drainOf lookedOf factsOf
       drain-next =
-          rw (← drained-is)
+          rw (← part (λ f. f .drained))
           (either (both (ltb (r .drained) 256) (leb 5 (length (l .unread))))
           (λ a. next (handing-answers _ _) (same, under (ltb (r .drained) 256) (leb 5 (length (l .unread))) refl a) stays)
           (λ a.
@@ -287,7 +262,7 @@ module _ (s : Setup) (z : Played) (i : Input) (n : ℕ) (out : List ℕ) where
           under true d f g = ltb-true _ _ f
           under false d f g = impossible cc
 
-      more-goes : x .0 ≡ R.more → Stand s Gone (x .1) (x .3) (z .taken + x .2) (z .told ++ (tell i 0 (x .2) ∷ [])) (z .events ++ [])
+      more-goes : x .0 ≡ R.more → Stand s AllHanded (x .1) (x .3) (z .taken + x .2) (z .told ++ (tell i 0 (x .2) ∷ [])) (z .events ++ [])
       more-goes h = read-more b n i x same-read 0 h (going-on _ _ (tell i 0 (x .2)))
 
       whole-holds : (in-wait : Bool) (tag k : ℕ) → x .0 ≡ R.whole tag k
@@ -299,20 +274,20 @@ module _ (s : Setup) (z : Played) (i : Input) (n : ℕ) (out : List ℕ) where
 
       pub reading-next : r .drained < 256 → Row Reading
       unfolding stateOf readingOf factsOf
-      reading-next d = by (x .0) refl
+      reading-next d = by (x .0) refl .row
         where
           -- no counter of so few wraps
           one-drained : more (r .drained) 1 ≡ r .drained + 1
           one-drained = let w : r .drained + 1 < 2 ^ 64 = omega arith in mod-eq-of-lt w
 
           by : (a : R.Said) → x .0 ≡ a → Read Reading readingSay (readingBy a (read-in Reading) l)
-          by R.more h = next (read-answers b readingSay R.more (moved (read-in Reading) l) h refl refl) (same, d) (more-goes h)
+          by R.more h = took b R.more h refl refl (same, d) (more-goes h)
           by (R.whole tag k) h =
-              next (read-answers b readingSay (R.whole tag k) (readingBy (R.whole tag k) (read-in Reading) l) h refl refl)
+              took b (R.whole tag k) h refl refl
               (ap (λ (m : ℕ). with-drained m (at-moment (i .moment) (factsBy r))) one-drained
               ∙ ap (λ (f : Facts). with-drained (f .drained + 1) (at-moment (i .moment) f)) e)
               (whole-holds false tag k h)
-          by (R.refused k) h = next (read-answers b readingSay (R.refused k) (endedWith k (read-in Reading) l) h refl refl) tt (refused-ends k h)
+          by (R.refused k) h = took b (R.refused k) h refl refl tt (refused-ends k h)
 
       -- a status, and the wait ends
       wakes : Next Waiting (say 0 (status false)) (statusOf false Turn (in-state Waiting) i l)
@@ -329,26 +304,23 @@ module _ (s : Setup) (z : Played) (i : Input) (n : ℕ) (out : List ℕ) where
         where
           by : (c : Bool) → Read Waiting (waitingSay c) (pick c (statusOf false Turn (read-in Waiting) i l) (moved (read-in Waiting) l))
           by true =
-              next
-              (read-answers b (waitingSay true) R.more (statusOf false Turn (read-in Waiting) i l) h refl
-              (status-answers {i = i} {l = l} false Turn (read-in Waiting) applied-is .output))
+              took b R.more h refl (status-answers {i = i} {l = l} false Turn (read-in Waiting) applied-is .output)
               (confirmed-facts (withReader (x .1) r) (i .moment) ∙ ap (with-status (i .moment)) e)
               (more-goes h)
-          by false = next (read-answers b (waitingSay false) R.more (moved (read-in Waiting) l) h refl refl) same (more-goes h)
-      waiting-read (R.whole tag k) h =
-          next (read-answers b (waitingSay idle) (R.whole tag k) (waitingBy (R.whole tag k) (read-in Waiting) i l) h refl refl) same (whole-holds true tag k h)
-      waiting-read (R.refused k) h = next (read-answers b (waitingSay idle) (R.refused k) (endedWith k (read-in Waiting) l) h refl refl) tt (refused-ends k h)
+          by false = took b R.more h refl refl same (more-goes h)
+      waiting-read (R.whole tag k) h = took b (R.whole tag k) h refl refl same (whole-holds true tag k h)
+      waiting-read (R.refused k) h = took b (R.refused k) h refl refl tt (refused-ends k h)
 
       pub waiting-next : Row Waiting
       unfolding stateOf waitingOf factsOf
       waiting-next =
-          rw (← pending-is, ← signalled-is, ← passed-is Waiting, ← idle-is)
+          rw (← part (λ f. f .pending), ← part (λ f. f .signalled), ← passed-is Waiting, ← idle-is)
           (either (i .stop) (λ a. done-next Waiting)
           (λ a.
           either (both (r .pending) (intervalPassed (in-state Waiting))) (λ c. wakes)
           (λ c.
           either (unless (r .pending) (r .progress .signalled)) (λ d. next (handing-answers _ _) same stays)
-          (λ d. either (isReadable i l) (λ f. waiting-read (x .0) refl) (λ f. idle-next)))))
+          (λ d. either (isReadable i l) (λ f. waiting-read (x .0) refl .row) (λ f. idle-next)))))
 
     -- ---- Handling
 
@@ -461,10 +433,10 @@ module _ (s : Setup) (z : Played) (i : Input) (n : ℕ) (out : List ℕ) where
       behind-next : (ev : Event) (m : Metrics) → isFull (i .queue) ≡ false → Takes ev
           → Next Offering (behindOffer past) (nextOf ev (withMetrics m (in-state Offering)) l)
       unfolding factsOf
-      behind-next ev m nf t = rw (← stopped-is) (by (isStoppedAt (r .offer .event)) (r .offer .stops) (r .whole .«in_wait») refl refl)
+      behind-next ev m nf t = rw (← part (λ f. f .stopped)) (by (isStoppedAt (r .offer .event)) (r .offer .stops) (r .whole .«in_wait») refl refl)
         where
           goes : isStoppedAt (r .offer .event) ≡ false → r .offer .stops ≡ false
-              → Stand s Gone (r .reader) p (z .taken + 0) (z .told ++ (tell i 0 0 ∷ [])) (z .events ++ happenedBy ev p)
+              → Stand s AllHanded (r .reader) p (z .taken + 0) (z .told ++ (tell i 0 0 ∷ [])) (z .events ++ happenedBy ev p)
           goes hc hd = still i 0 b (λ a h. let k = t a in rw (k .0) (hands-and-goes _ _ _ h (k .2) (k .1) hd hc))
 
           by : (c d in-wait : Bool) → isStoppedAt (r .offer .event) ≡ c → r .offer .stops ≡ d
@@ -548,5 +520,5 @@ module _ (s : Setup) (z : Played) (i : Input) (n : ℕ) (out : List ℕ) where
           by Closed f c = impossible cc
 
       pub offering-next : Row Offering
-      unfolding stateOf offeringOf
-      offering-next = rw (← full-is) (either (r .offer .stalled) again-next (first-next (i .queue) refl))
+      unfolding stateOf offeringOf factsOf
+      offering-next = rw (← part (λ f. f .stalled)) (either (r .offer .stalled) again-next (first-next (i .queue) refl))

@@ -1,4 +1,4 @@
--- How many bytes a stream's whole messages have, and which byte a read that finishes one took last.
+-- How many bytes a stream's whole messages have, and which byte a read that finishes one took last: Standing takes both.
 use mathlib.Core.Path.{_≡_, refl, ap, _∙_}
 use mathlib.Core.Bool.{Bool, true, false}
 use mathlib.Core.List.{List, [], _∷_, _++_}

@@ -33,8 +33,9 @@ use Rattle.claims.specs.Plain.{Msg, Told, wholeOnes, spanOf, takenOf, is
 use Rattle.claims.specs.Begins.{isClosed, NoneClosed}
 use Rattle.worker.specs.Step.{refusedWith}
 use Rattle.claims.specs.Calls.{Played, stepped, lentTo, boundsOf}
-use Rattle.claims.proofs.Account.{Account, grown, whole-at, same-ones, no-more, taken-more}
+use Rattle.claims.proofs.Account.{Account, grown, whole-at, same-ones, no-more, none-taken, taken-more}
 use Rattle.claims.proofs.Account as A
+use Rattle.claims.proofs.Begins.{closed-before}
 use Rattle.claims.proofs.Course.{Course, Before, Going, Held, Offers, Over, going-on, going-over}
 use Rattle.claims.proofs.Spans.{itemsOf, items-more, whole-items, whole-bad, span-more, cut-span, whole-answer}
 
@@ -45,10 +46,6 @@ tell i n k = record { stop = i .stop; queue = i .queue; refusal = n; taken = k }
 -- the message that a run remembers: its payload stands at the buffer's front
 abbrev pub message-of : Whole → List ℕ → Msg
 message-of w p = (w .tag, take (w .len) p)
-
-closed-before : (ts : List Told) (x : Told) → NoneClosed (ts ++ (x ∷ [])) → NoneClosed ts × (isClosed (x .queue) ≡ false)
-closed-before [] x q = (tt, q .0)
-closed-before (t ∷ ts) x q = let k = closed-before ts x (q .1) in ((q .0, k .0), k .1)
 
 -- how a run is begun, and the bytes that the server sends
 pub record Setup : Type 0 where
@@ -134,43 +131,48 @@ module _ {s : Setup} where
 
   -- ---- a step that takes no byte, and is refused with k (0 for none)
 
-  module _ {t : ℕ} {ts : List Told} (i : Input) (k : ℕ) where
-    module _ {rd : MessageReader} {p : List ℕ} where
-      base-still : {ms : List Msg} {ws : List Told} → Base s rd p t ts ms ws
-          → Base s rd p (t + 0) (ts ++ (tell i k 0 ∷ [])) ms (grown (tell i k 0) ws)
-      base-still b =
-          let q : t + 0 ≡ t = omega arith in
-          record { within = rw q (b .within); room = b .room; stands = rw q (b .stands); items = rw q (b .items); account = no-more (limit s) (s .bytes) (tell i k 0) refl (b .account) }
+  module _ {rd : MessageReader} {p : List ℕ} {t : ℕ} {ts : List Told} (i : Input) (k : ℕ) where
+    base-still : {ms : List Msg} {ws : List Told} → Base s rd p t ts ms ws
+        → Base s rd p (t + 0) (ts ++ (tell i k 0 ∷ [])) ms (grown (tell i k 0) ws)
+    base-still b =
+        let q : t + 0 ≡ t = omega arith in
+        record {
+          within = rw q (b .within);
+          room = b .room;
+          stands = rw q (b .stands);
+          items = rw q (b .items);
+          account = no-more (limit s) (s .bytes) (tell i k 0) refl (b .account);
+        }
 
-      module _ {C : Course} {es : List Happened} (b : Stand s C rd p t ts es) where
-        pub still : {D : Course} {fs : List Happened}
-            → (isClosed (i .queue) ≡ false → C (b .ms) (b .ws) es → D (b .ms) (grown (tell i k 0) (b .ws)) fs)
-            → Stand s D rd p (t + 0) (ts ++ (tell i k 0 ∷ [])) fs
-        still f =
-            record {
-              ms = b .ms;
-              ws = grown (tell i k 0) (b .ws);
-              base = base-still (b .base);
-              course = λ q. let a = closed-before ts (tell i k 0) q in f (a .1) (b .course (a .0));
-            }
+    module _ {C : Course} {es : List Happened} (b : Stand s C rd p t ts es) where
+      pub still : {D : Course} {fs : List Happened}
+          → (isClosed (i .queue) ≡ false → C (b .ms) (b .ws) es → D (b .ms) (grown (tell i k 0) (b .ws)) fs)
+          → Stand s D rd p (t + 0) (ts ++ (tell i k 0 ∷ [])) fs
+      still f =
+          record {
+            ms = b .ms;
+            ws = grown (tell i k 0) (b .ws);
+            base = base-still (b .base);
+            course = λ q. let a = closed-before ts (tell i k 0) q in f (a .1) (b .course (a .0));
+          }
 
-        pub still-ends : {fs : List Happened}
-            → (isClosed (i .queue) ≡ false → C (b .ms) (b .ws) es → Over (stop s) (s .opening) (b .ms) (grown (tell i k 0) (b .ws)) fs)
-            → Ends s (t + 0) (ts ++ (tell i k 0 ∷ [])) fs
-        still-ends f =
-            record {
-              ms = b .ms;
-              ws = grown (tell i k 0) (b .ws);
-              account = no-more (limit s) (s .bytes) (tell i k 0) refl (b .base .account);
-              course = λ q. let a = closed-before ts (tell i k 0) q in f (a .1) (b .course (a .0));
-            }
+      pub still-ends : {fs : List Happened}
+          → (isClosed (i .queue) ≡ false → C (b .ms) (b .ws) es → Over (stop s) (s .opening) (b .ms) (grown (tell i k 0) (b .ws)) fs)
+          → Ends s (t + 0) (ts ++ (tell i k 0 ∷ [])) fs
+      still-ends f =
+          record {
+            ms = b .ms;
+            ws = grown (tell i k 0) (b .ws);
+            account = no-more (limit s) (s .bytes) (tell i k 0) refl (b .base .account);
+            course = λ q. let a = closed-before ts (tell i k 0) q in f (a .1) (b .course (a .0));
+          }
 
-      module _ {es : List Happened} (b : Goings s rd p t ts es) where
-        pub goes-still : Goings s rd p (t + 0) (ts ++ (tell i k 0 ∷ [])) (es ++ [])
-        goes-still = still b (λ q. going-on _ _ (tell i k 0))
+    module _ {es : List Happened} (b : Goings s rd p t ts es) where
+      pub goes-still : Goings s rd p (t + 0) (ts ++ (tell i k 0 ∷ [])) (es ++ [])
+      goes-still = still b (λ q. going-on _ _ (tell i k 0))
 
-        pub goes-over : Ends s (t + 0) (ts ++ (tell i k 0 ∷ [])) (es ++ [])
-        goes-over = still-ends b (λ q. going-over _ _ (tell i k 0))
+      pub goes-over : Ends s (t + 0) (ts ++ (tell i k 0 ∷ [])) (es ++ [])
+      goes-over = still-ends b (λ q. going-over _ _ (tell i k 0))
 
   -- ---- a read of the next untaken bytes
 
@@ -302,7 +304,7 @@ module _ {s : Setup} where
   -- ---- before the first call
 
   pub no-base : (p : List ℕ) → limit s ≤ length p → Base s fresh p 0 [] [] []
-  unfolding feedAll itemsOf takenOf wholeOnes spanOf
+  unfolding feedAll itemsOf takenOf
   no-base p h =
       let f = fed-is-cut (s .settings .«max_message_size») (s .bytes) p h [] in
       record {
@@ -310,13 +312,7 @@ module _ {s : Setup} where
         room = h;
         stands = f .2;
         items = ap (λ (u : Cut). u .items) (cut-nothing (limit s));
-        account =
-            record {
-              sum = refl;
-              whole = ap (λ (u : Cut). wholeOnes (u .items)) (cut-nothing (limit s));
-              span = omega arith;
-              since = λ h. absurd (omega arith);
-            };
+        account = none-taken (limit s) (s .bytes) refl;
       }
 
 -- ---- a step refused with 2 to 5 changes nothing

@@ -1,4 +1,4 @@
--- Any list of calls on a fresh run: condition 3's "Take any list of steps and reports".
+-- Any list of calls on a fresh run: condition 3's "Take any list of steps and reports". Table and HandsOn say what holds behind it.
 use Prim.Native.Nat.{ℕ, _+_}
 use mathlib.Core.Bool.{Bool}
 use mathlib.Core.List.{List, [], _∷_, _++_}
@@ -75,12 +75,14 @@ unfoldable pub playAll : List ℕ → Played → List Call → Played
 playAll bytes s [] = s
 playAll bytes s (c ∷ cs) = playAll bytes (playOne bytes s c) cs
 
--- on a fresh run, in Opening or already open
+-- before the first call: a fresh run, in Opening or already open
+abbrev pub begun : Settings → Bool → Lsn → List ℕ → Played
+begun s opening start payload =
+    record { run = freshRun s (pick opening Opening Turn) start; payload = payload; taken = 0; told = []; past = []; events = []; written = [] }
+
+-- on a fresh run
 unfoldable pub played : Settings → Bool → Lsn → List ℕ → List ℕ → List Call → Played
-played s opening start bytes payload cs =
-    playAll bytes
-    (record { run = freshRun s (pick opening Opening Turn) start; payload = payload; taken = 0; told = []; past = []; events = []; written = [] })
-    cs
+played s opening start bytes payload cs = playAll bytes (begun s opening start payload) cs
 
 -- what the plain reading is told of the settings
 abbrev pub boundsOf : Settings → Bounds

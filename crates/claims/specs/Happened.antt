@@ -1,4 +1,4 @@
--- Events as document 01 compares them: "by kind, numbers and the bytes their parts name at handing on".
+-- Events as document 01 compares them: "by kind, numbers and the bytes their parts name at handing on". Plain gives them, Calls collects them.
 use Prim.Native.Nat.{ℕ}
 use mathlib.Core.Bool.{Bool}
 use mathlib.Core.List.{List, [], _∷_}

@@ -1,5 +1,5 @@
 -- What the calls so far tell, in the words in which document 01 tests a step: "the last accepted", "status interval passed", "some drained",
--- "pending", "signalled", "first try". The newest call stands first.
+-- "pending", "signalled", "first try". The newest call stands first. Table makes its tests with these.
 use Prim.Native.Nat.{ℕ, _+_}
 use mathlib.Core.Bool.{Bool, true, false}
 use mathlib.Core.List.{List, [], _∷_}

@@ -1,5 +1,6 @@
 -- The plain reading: document 01, "Its plain reading is fed the settings, whether the run began in Opening or already open, the server bytes
 -- and each step's stop and queue, with the refusal and taken count that this document gives the step." It knows no run and no reader.
+-- HandsOn holds the events handed on against it.
 use Prim.Native.Nat.{ℕ, _+_, _-_}
 use mathlib.Core.Bool.{Bool, true, false}
 use mathlib.Core.List.{List, [], _∷_, _++_}

@@ -119,9 +119,13 @@ pub record WrongTurns : Type 0 where
   pub header-kept : broken .events ≡ H.begin 1 (pos 0) 7 ∷ []
   pub wait-broken : broken .written ≡ statusUpdate 0 (pos 0) false ∷ [] ∷ statusUpdate 0 (pos 0) false ∷ statusUpdate 0 (pos 0) false ∷ replicate 4 []
 
--- each by computing the definitions
+-- all that the cases compute
+unfoldable pub computed : Unit {0}
+unfolding be beFrom beBytes put fieldAt signed unsigned framed frontOf cutFrom cutOf payloadOf judgedOf headerOf readOf copyData copyDone statusBody statusUpdate copyDataOf xlogData keepAlive boundaryOf beginBytes raiseOf lookedOf reportedOf freshRun statusOf openingOf turnOf drainOf readingOf waitingOf handlingOf stalledOf offeringOf stateOf stepOf wholeOnes behindOpening given spanOf behindByte acceptedOnes offered takenOf plainOf playAll played steps refusals commitBytes
+computed = tt
+
 pub run-cases : RunCases
-unfolding be beFrom beBytes put fieldAt signed unsigned framed frontOf cutFrom cutOf payloadOf judgedOf headerOf readOf copyData copyDone statusBody statusUpdate copyDataOf xlogData keepAlive boundaryOf beginBytes raiseOf lookedOf reportedOf freshRun statusOf openingOf turnOf drainOf readingOf waitingOf handlingOf stalledOf offeringOf stateOf stepOf wholeOnes behindOpening given spanOf behindByte acceptedOnes offered takenOf plainOf playAll played steps refusals
+unfolding computed
 run-cases =
     record {
       keepalive-then-end = refl;
@@ -135,9 +139,8 @@ run-cases =
       begin-read-early = refl;
     }
 
--- each by computing the definitions
 pub wrong-turns : WrongTurns
-unfolding be beFrom beBytes put fieldAt signed unsigned framed frontOf cutFrom cutOf payloadOf judgedOf headerOf readOf copyData copyDone statusBody statusUpdate copyDataOf xlogData keepAlive boundaryOf beginBytes commitBytes raiseOf lookedOf reportedOf freshRun statusOf openingOf turnOf drainOf readingOf waitingOf handlingOf stalledOf offeringOf stateOf stepOf wholeOnes behindOpening given spanOf behindByte acceptedOnes offered takenOf plainOf playAll played steps
+unfolding computed
 wrong-turns =
     record {
       commit-goes-on = refl;
