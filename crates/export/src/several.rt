@@ -1,24 +1,14 @@
 // Steps one after another with the same input, over a run's words.
 ghost use mathlib.Core.Path.{_≡_};
-ghost use Prim.Native.Nat.{min};
 ghost use Rattle.advance.specs.Advance.{twice, advanceOf};
 ghost use Rattle.worker.specs.Answer.{lent};
 ghost use Rattle.worker.specs.Step.{stepOf};
 ghost use Rattle.words.specs.Answers.{inputOf, steppedWords};
 ghost use Rattle.words.specs.Words.{runOf};
 use crate::rufflesquash_step;
+use wire::store::least;
 use words::answers::tells;
 use words::answers::with_taken;
-
-fn least(taken: u64, len: usize) -> usize
-    ensures { λ r. ⌜ r ≡ min taken len ⌝ }
-{
-    if taken < len as u64 {
-        taken as usize
-    } else {
-        len
-    }
-}
 
 // A second step where the first told nothing.
 fn two_steps(
@@ -53,7 +43,7 @@ fn two_steps(
         return;
     }
     let taken = first[1];
-    let rest = &unread[least(taken, unread.len())..];
+    let rest = &unread[least(taken as usize, unread.len())..];
     rufflesquash_step(
         run,
         moment,
@@ -102,7 +92,7 @@ pub(crate) fn four_steps(
         return;
     }
     let taken = first[1];
-    let rest = &unread[least(taken, unread.len())..];
+    let rest = &unread[least(taken as usize, unread.len())..];
     two_steps(
         run,
         moment,

@@ -41,7 +41,7 @@ status-written p t b out q r h e = written-out (statusUpdate p t b) out q r (ome
 pub having-same : (k : ℕ) (p : List ℕ) {a b : Outcome} → a ≡ b → having k p a ≡ having k p b
 having-same k p e = ap (λ (x : Outcome). having k p x) e
 
--- the fourth of five by four tests
+-- the fourth of five by four tests; over variables, since rewriting in the definition itself takes too long
 fourth : {A : Type 0} (a b c d : Bool) (v w x y z : A) → a ≡ false → b ≡ false → c ≡ false → d ≡ true
     → pick a v (pick b w (pick c x (pick d y z))) ≡ y
 fourth a b c d v w x y z p q r s = rw (p, q, r, s)
