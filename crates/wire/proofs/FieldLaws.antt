@@ -14,7 +14,7 @@ use lib.IntN.{ℤ, pos, negsuc}
 use lib.Signed.{mag}
 use lib.Dec.{leb, ltb}
 use lib.Pow.{areBytes}
-use borrow.Author.Tests.{lt-ltb, le-ltb, le-leb, ltb-true, ltb-false, leb-true}
+use borrow.Author.Tests.{lt-ltb, le-ltb, le-leb, lt-leb, ltb-true, ltb-false, leb-true}
 use Rattle.wire.specs.Bytes.{be, beFrom, beBytes, at}
 use Rattle.wire.specs.Field.{fieldAt, signed, unsigned, valueOf}
 use Rattle.wire.specs.Int.{half, int, intAt, intBytes}
@@ -126,6 +126,10 @@ field-within n s i v e =
 pub field-whole : (n : ℕ) (s : List ℕ) (i : ℕ) → i + n ≤ length s → fieldAt n s i ≡ some (be (at s i n))
 unfolding fieldAt
 field-whole n s i h = simp (le-leb _ _ h)
+
+pub field-cut : (n : ℕ) (s : List ℕ) (i : ℕ) → length s < i + n → fieldAt n s i ≡ none
+unfolding fieldAt
+field-cut n s i h = simp (lt-leb _ _ h)
 
 pub int-whole : (n : ℕ) (s : List ℕ) (i : ℕ) → i + n ≤ length s → intAt n s i ≡ some (int n (be (at s i n)))
 int-whole n s i h = rw (field-whole n s i h)
