@@ -8,6 +8,7 @@ ghost use Rattle.error.specs.Writer.{writing, outcome, counted};
 ghost use Rattle.config.specs.Code.{commaAt};
 ghost use Rattle.config.specs.OptionValue.{quoted, doubled, optionValue};
 use error::Counted;
+use error::INPUT_LIMIT;
 use error::Refusal;
 use error::Written;
 
@@ -132,7 +133,7 @@ pub fn place(out: &mut [u8], to: usize, names: &[&[u8]]) -> usize
 pub fn to_option_value(names: &[&[u8]], out: &mut [u8]) -> Written
     ensures { λ r. ⌜ (outcome r, now (out .exit)) ≡ writing (total (now (names .entry))) (optionValue (now (names .entry))) (now (out .entry)) ⌝ }
 {
-    let Counted::Fits(_) = error::inputs_len(names, 1048576) else {
+    let Counted::Fits(_) = error::inputs_len(names, INPUT_LIMIT) else {
         return Written::Refused(Refusal::InputTooLong);
     };
     let Counted::Fits(_) = count(names, out.len()) else {

@@ -1,4 +1,4 @@
--- The three ways out of a writer, lengths within a room, and names counted one by one.
+-- Refusals have numbers; the three ways out of a writer, lengths within a room, and names counted one by one.
 use mathlib.Core.Path.{_≡_, refl}
 use mathlib.Core.List.{List}
 use Prim.Native.Nat.{ℕ, _+_, _≤_, _<_}
@@ -13,30 +13,64 @@ use denote.Ref.{RefT}
 use Rattle.wire.specs.Bytes.{pick, put, placed}
 use Rattle.wire.proofs.Laws.{placed-fits, impossible}
 use Rattle.error.specs.Inputs.{total, none, nameAt}
-use Rattle.error.specs.Writer.{writing, counted}
+use Rattle.error.specs.Refusal.{numberOf}
+use Rattle.error.specs.Writer.{inputLimit, writing, counted}
+use Rattle.error.specs.declared.Refusal.{Refusal}
 use Rattle.error.specs.declared.Counted.the-variants.{Fits, Over}
 
-pub too-long : (inputs : ℕ) (text out : List ℕ) → 1048576 < inputs → ((25, 0), out) ≡ writing inputs text out
+-- ---- numbers
+
+-- no refusal has the number 0, which stands for none
+pub numbered : (r : Refusal) → numberOf r ≡ 0 → ⊥
+numbered Refusal.IntervalTooLong e = omega arith
+numbered Refusal.RunEnded e = omega arith
+numbered Refusal.PayloadBufferTooShort e = omega arith
+numbered Refusal.OutputTooShort e = omega arith
+numbered Refusal.MomentOutOfOrder e = omega arith
+numbered Refusal.InvalidLength e = omega arith
+numbered Refusal.MessageTooLarge e = omega arith
+numbered Refusal.EofInHeader e = omega arith
+numbered Refusal.EofInPayload e = omega arith
+numbered Refusal.EmptyCopyData e = omega arith
+numbered Refusal.XLogDataTooShort e = omega arith
+numbered Refusal.KeepaliveTooShort e = omega arith
+numbered Refusal.UnknownCopyData e = omega arith
+numbered Refusal.TruncatedI8 e = omega arith
+numbered Refusal.TruncatedI32 e = omega arith
+numbered Refusal.TruncatedI64 e = omega arith
+numbered Refusal.UnterminatedPrefix e = omega arith
+numbered Refusal.ContentTooShort e = omega arith
+numbered Refusal.ServerError e = omega arith
+numbered Refusal.MalformedDataRow e = omega arith
+numbered Refusal.AuthRequestTooShort e = omega arith
+numbered Refusal.MissingSlash e = omega arith
+numbered Refusal.InvalidHighPart e = omega arith
+numbered Refusal.InvalidLowPart e = omega arith
+numbered Refusal.InputTooLong e = omega arith
+
+-- ---- the three ways out of a writer
+
+pub too-long : (inputs : ℕ) (text out : List ℕ) → inputLimit < inputs → ((25, 0), out) ≡ writing inputs text out
 unfolding writing
 too-long inputs text out h = simp (lt-ltb _ _ h)
 
-pub no-room : (inputs : ℕ) (text out : List ℕ) → inputs ≤ 1048576 → length out < length text → ((4, 0), out) ≡ writing inputs text out
+pub no-room : (inputs : ℕ) (text out : List ℕ) → inputs ≤ inputLimit → length out < length text → ((4, 0), out) ≡ writing inputs text out
 unfolding writing
 no-room inputs text out h k = simp (le-ltb _ _ h, lt-ltb _ _ k)
 
-pub wrote : (inputs : ℕ) (text out q : List ℕ) (n : ℕ) → inputs ≤ 1048576 → length text ≡ n → n ≤ length out → q ≡ put out 0 text → ((0, n), q) ≡ writing inputs text out
+pub wrote : (inputs : ℕ) (text out q : List ℕ) (n : ℕ) → inputs ≤ inputLimit → length text ≡ n → n ≤ length out → q ≡ put out 0 text → ((0, n), q) ≡ writing inputs text out
 unfolding writing
 wrote inputs text out q n h e k p =
     let f : length text ≤ length out = omega arith in
     rw (← e, p) (simp (le-ltb _ _ h, le-ltb _ _ f))
 
 -- the same of a text that was placed
-pub wrote-placed : (inputs : ℕ) (text out : List ℕ) {q : List ℕ} {n r : ℕ} → inputs ≤ 1048576 → length text ≡ n → n ≤ length out → (r, q) ≡ placed out 0 text
+pub wrote-placed : (inputs : ℕ) (text out : List ℕ) {q : List ℕ} {n r : ℕ} → inputs ≤ inputLimit → length text ≡ n → n ≤ length out → (r, q) ≡ placed out 0 text
     → ((0, n), q) ≡ writing inputs text out
 wrote-placed inputs text out {q} {n} h e k p = wrote inputs text out q n h e k (placed-fits out 0 text (omega arith) p .1)
 
 -- .. and of which the place behind it is answered
-pub wrote-to : (inputs : ℕ) (text out : List ℕ) {q : List ℕ} {r : ℕ} → inputs ≤ 1048576 → length text ≤ length out → (r, q) ≡ placed out 0 text
+pub wrote-to : (inputs : ℕ) (text out : List ℕ) {q : List ℕ} {r : ℕ} → inputs ≤ inputLimit → length text ≤ length out → (r, q) ≡ placed out 0 text
     → ((0, r), q) ≡ writing inputs text out
 wrote-to inputs text out {q} {r} h k p =
     let w = placed-fits out 0 text (omega arith) p in

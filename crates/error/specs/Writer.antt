@@ -15,11 +15,15 @@ abbrev pub outcome : Written → ℕ × ℕ
 outcome (Wrote n) = (0, n)
 outcome (Refused r) = (numberOf r, 0)
 
+-- the most bytes that a writer's lent inputs may have together (25)
+abbrev pub inputLimit : ℕ
+inputLimit = 1048576
+
 -- a text for the output of a call whose lent inputs have so many bytes together: 25, then 4, leave the output as it was; else the
 -- text stands at its front
 unfoldable pub writing : ℕ → List ℕ → List ℕ → (ℕ × ℕ) × List ℕ
 writing inputs text out =
-    pick (ltb 1048576 inputs) ((25, 0), out)
+    pick (ltb inputLimit inputs) ((25, 0), out)
     (pick (ltb (length out) (length text)) ((4, 0), out)
     ((0, length text), put out 0 text))
 

@@ -30,7 +30,7 @@ pub enum Refusal {
     MissingSlash, // a position text has no slash
     InvalidHighPart, // the part before the slash is no hexadecimal number of 64 bits
     InvalidLowPart, // the part behind the slash is no hexadecimal number of 64 bits
-    InputTooLong, // the call's lent inputs are together above 1,048,576 bytes
+    InputTooLong, // the call's lent inputs are together above their limit
 }
 
 // The kinds of the Rust's PgWireError that these refusals have, its ParseLsnError, and one that only the caller can bring about.
@@ -42,6 +42,9 @@ pub enum Kind {
     MessageTooLarge,
     ParseLsn,
 }
+
+// The most bytes that a writer's lent inputs may have together.
+pub const INPUT_LIMIT: usize = 1048576;
 
 // What a writer answers: how many bytes it wrote, or why it wrote none.
 pub enum Written {

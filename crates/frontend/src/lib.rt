@@ -9,6 +9,7 @@ ghost use Rattle.error.specs.Writer.{writing, outcome};
 ghost use Rattle.frontend.specs.Code.{header, strings};
 ghost use Rattle.frontend.specs.Frontend.{query, copyData, copyDone, terminate, statusBody, statusUpdate, startup};
 use error::Counted;
+use error::INPUT_LIMIT;
 use error::Refusal;
 use error::Written;
 use lsn::Lsn;
@@ -26,7 +27,7 @@ fn place_header(out: &mut [u8], tag: u8, n: usize) -> usize
 fn write_framed(tag: u8, payload: &[u8], out: &mut [u8]) -> Written
     ensures { λ r. ⌜ (outcome r, now (out .exit)) ≡ writing (length (now (payload .entry))) (framed tag (now (payload .entry))) (now (out .entry)) ⌝ }
 {
-    if 1048576 < payload.len() {
+    if INPUT_LIMIT < payload.len() {
         return Written::Refused(Refusal::InputTooLong);
     }
     let n = payload.len() + 5;
@@ -41,7 +42,7 @@ fn write_framed(tag: u8, payload: &[u8], out: &mut [u8]) -> Written
 pub fn write_query(text: &[u8], out: &mut [u8]) -> Written
     ensures { λ r. ⌜ (outcome r, now (out .exit)) ≡ writing (length (now (text .entry))) (query (now (text .entry))) (now (out .entry)) ⌝ }
 {
-    if 1048576 < text.len() {
+    if INPUT_LIMIT < text.len() {
         return Written::Refused(Refusal::InputTooLong);
     }
     let n = text.len() + 6;
@@ -133,7 +134,7 @@ fn place_strings(out: &mut [u8], at: usize, texts: &[&[u8]]) -> usize
 pub fn write_startup(version: i32, texts: &[&[u8]], out: &mut [u8]) -> Written
     ensures { λ r. ⌜ (outcome r, now (out .exit)) ≡ writing (total (now (texts .entry))) (startup version (now (texts .entry))) (now (out .entry)) ⌝ }
 {
-    let Counted::Fits(sum) = error::inputs_len(texts, 1048576) else {
+    let Counted::Fits(sum) = error::inputs_len(texts, INPUT_LIMIT) else {
         return Written::Refused(Refusal::InputTooLong);
     };
     let odd = texts.len() % 2;

@@ -9,6 +9,7 @@ ghost use Rattle.error.specs.Writer.{writing, counted};
 ghost use Rattle.lossy.specs.Lossy.{lossyOf, shown, lossyOutcome};
 ghost use Rattle.lossy.specs.Code.{cutOf};
 use error::Counted;
+use error::INPUT_LIMIT;
 use error::Refusal;
 
 // What the lossy writer answers.
@@ -79,7 +80,7 @@ pub fn place(out: &mut [u8], to: usize, text: &[u8]) -> usize
 pub fn write_lossy(text: &[u8], out: &mut [u8]) -> Lossy
     ensures { λ r. ⌜ (lossyOutcome r, now (out .exit)) ≡ writing (length (now (text .entry))) (lossyOf (now (text .entry))) (now (out .entry)) ⌝ }
 {
-    if 1048576 < text.len() {
+    if INPUT_LIMIT < text.len() {
         return Lossy::Refused(Refusal::InputTooLong);
     }
     let Counted::Fits(n) = count(text, out.len()) else {

@@ -6,7 +6,7 @@ use Prim.Native.Nat.{ℕ, _+_, _≤_}
 use native.Mathlib.Omega.{arith}
 use lib.ListN.{length, getD, length-append}
 use borrow.Author.Tests.{le-ltb}
-use Rattle.error.specs.Writer.{writing}
+use Rattle.error.specs.Writer.{inputLimit, writing}
 use Rattle.lossy.specs.Lossy.{lossyOf, partsOf, shownAll}
 use Rattle.lossy.specs.WellFormed.{table, rowOf, matched}
 use Rattle.messages.specs.declared.Field.{Field}
@@ -29,7 +29,7 @@ pub coded-same : {a b c d : List ℕ} → a ≡ c → b ≡ d → coded (lossyOf
 coded-same e f = rw (e, f)
 
 -- a text that a writer wrote, its inputs within the limit, is the error's text, by what is given
-pub answered : (fields : List Field) (payload out : List ℕ) (m c : Bool) (n : ℕ) {x : (ℕ × ℕ) × List ℕ} {text : List ℕ} → n ≤ 1048576 → length payload ≤ 1048576
+pub answered : (fields : List Field) (payload out : List ℕ) (m c : Bool) (n : ℕ) {x : (ℕ × ℕ) × List ℕ} {text : List ℕ} → n ≤ inputLimit → length payload ≤ inputLimit
     → getD fields 2 absent .given ≡ m → getD fields 1 absent .given ≡ c → text ≡ textBy m c (named payload (getD fields 2 absent)) (named payload (getD fields 1 absent))
     → x ≡ writing n text out → x ≡ writing (length payload) (errorText fields payload) out
 unfolding writing errorText

@@ -9,6 +9,7 @@ ghost use Rattle.messages.specs.Fields.{fieldsOf, indexed, replaced, nam
 ghost use Rattle.messages.specs.ErrorText.{errorText, coded};
 ghost use Rattle.messages.specs.Auth.{authOf, authOutcome};
 use error::Counted;
+use error::INPUT_LIMIT;
 use error::Refusal;
 use lossy::Lossy;
 use wire::field::I32Field;
@@ -185,7 +186,7 @@ fn with_code(text: &[u8], code: &[u8], out: &mut [u8]) -> Lossy
 pub fn to_error_string(fields: ErrorFields, payload: &[u8], out: &mut [u8]) -> Lossy
     ensures { λ r. ⌜ (lossyOutcome r, now (out .exit)) ≡ writing (length (now (payload .entry))) (errorText (fields .fields) (now (payload .entry))) (now (out .entry)) ⌝ }
 {
-    if 1048576 < payload.len() {
+    if INPUT_LIMIT < payload.len() {
         return Lossy::Refused(Refusal::InputTooLong);
     }
     let m = fields.fields[ErrorFields::MESSAGE];

@@ -11,6 +11,7 @@ use Rattle.wire.specs.Bytes.{pick, at}
 use Rattle.query.specs.Row.{columnAt, columnsFrom, also, nth, countOf, columnOf}
 use Rattle.error.specs.Refusal.{numberOf}
 use Rattle.error.specs.declared.Refusal.{Refusal}
+use Rattle.error.proofs.Laws.{numbered}
 use Rattle.query.specs.Code.{pickedOf}
 use Rattle.query.specs.Fold.{row, refused, fresh, rowAnswer}
 use Rattle.query.specs.declared.simple.SimpleQuery.{SimpleQuery}
@@ -104,34 +105,6 @@ one-picked none i = refl
 one-picked (some cs) i = refl
 
 -- ---- a row's message
-
--- no refusal has the number 0, which stands for none
-numbered : (r : Refusal) → numberOf r ≡ 0 → ⊥
-numbered Refusal.IntervalTooLong e = omega arith
-numbered Refusal.RunEnded e = omega arith
-numbered Refusal.PayloadBufferTooShort e = omega arith
-numbered Refusal.OutputTooShort e = omega arith
-numbered Refusal.MomentOutOfOrder e = omega arith
-numbered Refusal.InvalidLength e = omega arith
-numbered Refusal.MessageTooLarge e = omega arith
-numbered Refusal.EofInHeader e = omega arith
-numbered Refusal.EofInPayload e = omega arith
-numbered Refusal.EmptyCopyData e = omega arith
-numbered Refusal.XLogDataTooShort e = omega arith
-numbered Refusal.KeepaliveTooShort e = omega arith
-numbered Refusal.UnknownCopyData e = omega arith
-numbered Refusal.TruncatedI8 e = omega arith
-numbered Refusal.TruncatedI32 e = omega arith
-numbered Refusal.TruncatedI64 e = omega arith
-numbered Refusal.UnterminatedPrefix e = omega arith
-numbered Refusal.ContentTooShort e = omega arith
-numbered Refusal.ServerError e = omega arith
-numbered Refusal.MalformedDataRow e = omega arith
-numbered Refusal.AuthRequestTooShort e = omega arith
-numbered Refusal.MissingSlash e = omega arith
-numbered Refusal.InvalidHighPart e = omega arith
-numbered Refusal.InvalidLowPart e = omega arith
-numbered Refusal.InputTooLong e = omega arith
 
 pub row-handed : (q : SimpleQuery) (r : Option (List Column)) (n : ℕ) → (0, n) ≡ countOf r → (q, row n) ≡ rowAnswer q r
 row-handed q none n e = let z : _≡_ {A = ℕ} 0 20 = ap (λ (p : ℕ × ℕ). p .0) e in absurd (omega arith)

@@ -1,6 +1,7 @@
 -- The names are counted, then the value, and where both are within their limits it is filled in.
 use Rattle.config.specs.OptionValue.{optionValue}
 use Rattle.error.specs.Inputs.{total}
+use Rattle.error.specs.Writer.{inputLimit}
 use Rattle.error.proofs.Laws.{too-long, no-room, wrote-to, counted-fits, counted-over}
 use Prim.Native.Nat.{_≤_}
 use mathlib.Core.Path.{sym, _∙_}
@@ -11,7 +12,7 @@ use Rattle.config.proofs.to_option_value.Statement.{statement}
 use Rattle.config.proofs.to_option_value.Tie as tie
 
 -- the names were counted, and behind them the value
-names-counted : (c : tie.After-enum-told) → total (c .before .before .before .before .args .names .now) ≤ 1048576
+names-counted : (c : tie.After-enum-told) → total (c .before .before .before .before .args .names .now) ≤ inputLimit
 names-counted c = let f = counted-fits _ _ _ (sym (c .before .before .inputs-len .ensures) ∙ c .enum-told .given .1) in omega arith
 
 value-counted : (c : tie.After-enum-told3) → let a = c .before .before .before .before .before .before .before .args in length (optionValue (a .names .now)) ≤ length (a .out .now)

@@ -5,6 +5,7 @@ use Rattle.frontend.proofs.Laws.{startup-front, length-startup}
 use Rattle.wire.specs.Bytes.{beBytes}
 use Rattle.wire.proofs.Pieces.{Filling, filling-room, filling-next, filling-last}
 use Rattle.error.specs.Inputs.{total}
+use Rattle.error.specs.Writer.{inputLimit}
 use Rattle.error.proofs.Laws.{too-long, no-room, wrote-placed, counted-fits, counted-over}
 use Rattle.frontend.specs.Frontend.{startup}
 use Rattle.frontend.specs.Code.{strings}
@@ -18,7 +19,7 @@ use Rattle.frontend.proofs.write_startup.Statement.{statement}
 use Rattle.frontend.proofs.write_startup.Tie as tie
 
 -- the texts were counted
-counted : (c : tie.After-known-told) → let n = c .before .sum .given .0 .0 in (total (c .before .before .before .before .before .args .texts .now) ≡ n) × (n ≤ 1048576)
+counted : (c : tie.After-known-told) → let n = c .before .sum .given .0 .0 in (total (c .before .before .before .before .before .args .texts .now) ≡ n) × (n ≤ inputLimit)
 counted c = counted-fits _ _ _ (sym (c .before .before .before .inputs-len .ensures) ∙ c .before .sum .given .1)
 
 -- .. and have room
