@@ -17,23 +17,31 @@ head-with-requires : tie.Need-head-with-requires
 head-with-requires c κs = simp length-take (omega arith)
 
 returns : tie.Need-returns
-returns c = header-more (c .before .before .before .before .before .before .before .before .before .args .limit) (c .before .before .before .before .before .before .before .before .before .args .r) (c .before .before .before .before .before .before .before .before .before .args .unread .now) (c .before .before .before .before .before .before .before .before .before .args .ended) (c .before .before .before .before .before .before .before .before .before .args .payload .now) (c .before .before .before .before .before .before .least .result) (c .before .before .before .head-with .result) (c .before .before .before .before .before .before .least .ensures) (c .before .before .before .head-with .ensures) _ _ (c .before .lacking .ensures) (c .at-byte .ensures) (c .before .before .if1 .taken)
+returns c =
+    let h = c .before .before .before in
+    header-more _ _ _ _ _ _ _ (h .before .before .before .least .ensures) (h .head-with .ensures) _ _ (c .before .lacking .ensures) (c .at-byte .ensures) (c .before .before .if1 .taken)
 
 add-t13 : tie.Need-add-t13
 add-t13 c =
-    let a = c .before .before .before .before .before .before .before .before .before .before .before .before .before .before .args in
-    let k = c .before .before .before .before .before .before .before .before .before .before .before .least in
-    let j = c .before .before .before .before .judge in
-    let v = take (length (a .unread .now) - k .result) (drop (k .result) (a .unread .now)) in
-    let e : j .result .taken ≤ length v = rw (ap (λ (x : Result). x .2) (j .ensures)) (judged-taken (a .limit) _ v (a .payload .now)) in
+    let j = c .before .before .before .before in
+    let k = j .before .before .before .before .before .before .before in
+    let s = k .before .before .before in
+    let a = s .args in
+    let n = k .least .result in
+    let v = take (length (a .unread .now) - n) (drop n (a .unread .now)) in
+    let e : j .judge .result .taken ≤ length v = rw (ap (λ (x : Result). x .2) (j .judge .ensures)) (judged-taken (a .limit) _ v (a .payload .now)) in
     let m = min-le-right (5 - a .r .filled) (length (a .unread .now)) in
-    let l : length v ≡ length (a .unread .now) - k .result = simp (length-take, length-drop) (omega arith) in
-    omega (arith, e, c .before .before .before .before .before .before .before .before .before .before .before .before .before .before .good)
+    let l : length v ≡ length (a .unread .now) - n = simp (length-take, length-drop) (omega arith) in
+    omega (arith, e, s .good)
 
 returns-2 : tie.Need-returns-2
 returns-2 c =
-    let a = c .before .before .before .before .before .before .before .before .before .before .before .before .before .before .args in
-    header-whole (c .before .before .before .before .before .before .before .before .before .before .before .before .before .before .args .limit) (c .before .before .before .before .before .before .before .before .before .before .before .before .before .before .args .r) (c .before .before .before .before .before .before .before .before .before .before .before .before .before .before .args .unread .now) (c .before .before .before .before .before .before .before .before .before .before .before .before .before .before .args .ended) (c .before .before .before .before .before .before .before .before .before .before .before .before .before .before .args .payload .now) (c .before .before .before .before .before .before .before .before .before .before .before .least .result) (c .before .before .before .before .before .before .before .before .head-with .result) (c .before .before .before .before .before .before .before .before .before .before .before .least .ensures) (c .before .before .before .before .before .before .before .before .head-with .ensures) (length (a .unread .now) - c .before .before .before .before .before .before .before .before .before .before .before .least .result) _ (omega arith) (c .before .before .before .before .judge .ensures) (c .before .before .before .before .before .before .before .if1 .left)
+    let j = c .before .before .before .before in
+    let i = j .before .before .before in
+    let h = i .before in
+    let k = h .before .before .before in
+    let a = k .before .before .before .args in
+    header-whole _ _ _ _ _ (k .least .result) _ (k .least .ensures) (h .head-with .ensures) (length (a .unread .now) - k .least .result) _ (omega arith) (j .judge .ensures) (i .if1 .left)
 
 pub fill-header-spec : {M : Type 1} → statement M
 fill-header-spec =

@@ -15,11 +15,17 @@ returns-2 c = rw (← c .before .before .limit-of .ensures) (simp (le-ltb _ _ (c
 
 returns-3 : tie.Need-returns-3
 unfolding readOf
-returns-3 c = rw (← c .before .before .before .before .before .before .before .before .limit-of .ensures) (simp (le-ltb _ _ (c .before .before .before .before .before .before .before .if1 .left), c .before .before .before .before .before .before .if2 .left, lt-ltb _ _ (c .before .before .before .before .if3 .taken)) (c .before .before .fill-header .ensures))
+returns-3 c =
+    let i = c .before .before .before .before in
+    let j = i .before .before in
+    rw (← j .before .before .limit-of .ensures) (simp (le-ltb _ _ (j .before .if1 .left), j .if2 .left, lt-ltb _ _ (i .if3 .taken)) (c .before .before .fill-header .ensures))
 
 returns-4 : tie.Need-returns-4
 unfolding readOf
-returns-4 c = rw (← c .before .before .before .before .before .before .before .before .limit-of .ensures) (simp (le-ltb _ _ (c .before .before .before .before .before .before .before .if1 .left), c .before .before .before .before .before .before .if2 .left, le-ltb _ _ (c .before .before .before .before .if3 .left)) (c .before .before .fill-payload .ensures))
+returns-4 c =
+    let i = c .before .before .before .before in
+    let j = i .before .before in
+    rw (← j .before .before .limit-of .ensures) (simp (le-ltb _ _ (j .before .if1 .left), j .if2 .left, le-ltb _ _ (i .if3 .left)) (c .before .before .fill-payload .ensures))
 
 pub read-spec : {M : Type 1} → statement M
 read-spec =
