@@ -222,29 +222,22 @@ module _ (setting : ℕ) (rest u : List ℕ) (e : Bool) (r : MessageReader) (p :
 
   still-header : length rest < 5 → length (rest ++ u) < 5 → Local limit rest u e p x
   still-header l h =
-      let n : length (rest ++ u) ≡ length rest + length u = length-append rest u in
-      let f : r .filled ≡ length rest = H .filled in
-      let k : length u ≡ min (5 - r .filled) (length u) = omega arith in
+      let n = length-append rest u in
+      let f = H .filled in
       let t : take (length u) u ≡ u = take-length u in
       let hd : List ℕ = put (r .header) (r .filled) u in
-      let eh : hd ≡ put (r .header) (r .filled) (take (length u) u) = ap (put (r .header) (r .filled)) (sym t) in
-      let g : r .filled + length u < 5 = omega arith in
-      let m : r .filled < 5 = omega arith in
-      let ex = read-in-header setting r u e p big (H .going) m ∙ sym (header-more (limitOf setting) r u e p (length u) hd k eh _ _ refl refl g) in
-      let ec : cutOf (limitOf setting) (rest ++ u) ≡ ended (rest ++ u) header = cut-in-header (limitOf setting) (rest ++ u) (header-front (limitOf setting) (rest ++ u) h) in
-      let w : take (length (rest ++ u)) hd ≡ rest ++ u = rw n (head-is l u (omega arith)) in
-      let i : take 5 (rest ++ u) ≡ rest ++ u = take-all 5 (rest ++ u) (omega arith) in
+      let k : length u ≡ min (5 - r .filled) (length u) = omega arith in
+      let ex = read-in-header setting r u e p big (H .going) (omega arith) ∙ sym (header-more limit r u e p (length u) hd k (ap (put (r .header) (r .filled)) (sym t)) _ _ refl refl (omega arith)) in
+      let ec : cutOf limit (rest ++ u) ≡ ended (rest ++ u) header = cut-in-header limit (rest ++ u) (header-front limit (rest ++ u) h) in
       let z : length (rest ++ u) - 5 ≡ 0 = omega arith in
-      let d : drop 5 (rest ++ u) ≡ [] = drop-of-length-le (rest ++ u) {i = 5} (omega arith) in
-      let q : length (r .header) ≡ 5 = H .five in
-      local (limitOf setting) rest u e p _ _ _ _ _ _ ec ex refl (omega arith) (omega arith) (sym (put-none p 0)) _ (ap (λ (y : List ℕ). cutOf (limitOf setting) (rest ++ y)) t ∙ ec)
+      local limit rest u e p _ _ _ _ _ _ ec ex refl (omega arith) (omega arith) (sym (put-none p 0)) _ (ap (λ (y : List ℕ). cutOf limit (rest ++ y)) t ∙ ec)
       (record {
         going = refl;
         filled = omega arith;
-        five = length-put (r .header) u (r .filled) (omega arith) ∙ q;
-        head = w ∙ sym i;
+        five = length-put (r .header) u (r .filled) (omega (arith, H .five)) ∙ H .five;
+        head = rw n (head-is l u (omega arith)) ∙ sym (take-all 5 (rest ++ u) (omega arith));
         size = λ y. absurd (omega arith);
-        front = rw (z, d);
+        front = rw (z, drop-of-length-le (rest ++ u) {i = 5} (omega arith));
       })
       (sym (nothing-yet 8 (length u) e p refl))
 
@@ -269,24 +262,20 @@ module _ (setting : ℕ) (rest u : List ℕ) (e : Bool) (r : MessageReader) (p :
     behind-five : drop k u ≡ drop 5 s
     behind-five = sym (drop-seam rest u 5 (omega arith))
 
-    judged : x ≡ later k (judgedOf (limitOf setting) (take 5 s) (drop 5 s) p)
+    judged : x ≡ later k (judgedOf limit (take 5 s) (drop 5 s) p)
     judged =
-        let n : length (rest ++ u) ≡ length rest + length u = length-append rest u in
-        let f : r .filled ≡ length rest = H .filled in
-        let j : ℕ = 5 - length rest in
-        let ek : j ≡ min (5 - r .filled) (length u) = omega arith in
-        let hd : List ℕ = put (r .header) (r .filled) (take j u) in
-        let tl : length (take j u) ≡ j = length-take-le j u (omega arith) in
-        let q : length (r .header) ≡ 5 = H .five in
-        let hl : length hd ≡ 5 = length-put (r .header) (take j u) (r .filled) (omega arith) ∙ q in
-        let z : length rest + length (take j u) ≡ 5 = omega arith in
-        let a : take 5 hd ≡ rest ++ take j u = rw z at (head-is l (take j u) (omega arith)) in
-        let eh : take 5 (rest ++ u) ≡ hd = sym (first-five j refl) ∙ (sym a ∙ take-all 5 hd (omega arith)) in
-        let g : 5 ≤ r .filled + j = omega arith in
-        let m : r .filled < 5 = omega arith in
-        read-in-header setting r u e p big (H .going) m
-        ∙ (header-judged (limitOf setting) r u e p j (take 5 (rest ++ u)) ek eh g
-        ∙ ap (λ (t : List ℕ). later j (judgedOf (limitOf setting) (take 5 (rest ++ u)) t p)) behind-five)
+        let n = length-append rest u in
+        let f = H .filled in
+        let q = H .five in
+        let ek : k ≡ min (5 - r .filled) (length u) = omega arith in
+        let hd : List ℕ = put (r .header) (r .filled) (take k u) in
+        let tl : length (take k u) ≡ k = length-take-le k u enough in
+        let hl : length hd ≡ 5 = length-put (r .header) (take k u) (r .filled) (omega arith) ∙ q in
+        let z : length rest + length (take k u) ≡ 5 = omega arith in
+        let a : take 5 hd ≡ rest ++ take k u = rw z at (head-is l (take k u) (omega arith)) in
+        let eh : take 5 s ≡ hd = sym (first-five k refl) ∙ (sym a ∙ take-all 5 hd (omega arith)) in
+        read-in-header setting r u e p big (H .going) (omega arith)
+        ∙ (header-judged limit r u e p k (take 5 s) ek eh (omega arith) ∙ ap (λ (t : List ℕ). later k (judgedOf limit (take 5 s) t p)) behind-five)
 
     field : lengthField s ≡ lengthField (take 5 s)
     field = sym (length-field-take s)
