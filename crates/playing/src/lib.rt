@@ -16,8 +16,8 @@ use worker::Verdict;
 // The longest intervals: no status is ever due.
 fn settings() -> Settings {
     Settings {
-        status_interval: 86400000000000,
-        idle_wakeup_interval: 86400000000000,
+        status_interval: worker::session::LONGEST_INTERVAL,
+        idle_wakeup_interval: worker::session::LONGEST_INTERVAL,
         max_message_size: 65536,
         has_stop: false,
         stop_at_lsn: Lsn::from_u64(0),

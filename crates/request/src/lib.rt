@@ -8,6 +8,7 @@ ghost use Rattle.error.specs.Writer.{writing, outcome};
 ghost use Rattle.frontend.specs.Frontend.{query};
 ghost use Rattle.request.specs.Request.{startReplication, endText};
 use error::Counted;
+use error::INPUT_LIMIT;
 use error::Refusal;
 use error::Written;
 use lsn::Lsn;
@@ -69,10 +70,10 @@ pub fn start_replication(
 ) -> Written
     ensures { λ r. ⌜ (outcome r, now (out .exit)) ≡ writing (length (now (slot .entry)) + total (now (publications .entry))) (query (startReplication binary (now (slot .entry)) (now (publications .entry)) position)) (now (out .entry)) ⌝ }
 {
-    if 1048576 < slot.len() {
+    if INPUT_LIMIT < slot.len() {
         return Written::Refused(Refusal::InputTooLong);
     }
-    let Counted::Fits(_) = error::inputs_len(publications, 1048576 - slot.len()) else {
+    let Counted::Fits(_) = error::inputs_len(publications, INPUT_LIMIT - slot.len()) else {
         return Written::Refused(Refusal::InputTooLong);
     };
     let Counted::Fits(names) = config::count(publications, out.len()) else {

@@ -65,13 +65,16 @@ fn fresh_run(settings: Settings, state: State, start: Lsn) -> Run
     }
 }
 
+// Of the status and the idle interval.
+pub const LONGEST_INTERVAL: u64 = 86400000000000;
+
 fn bad_interval(settings: Settings) -> bool
     ensures { λ r. ⌜ r ≡ badInterval settings ⌝ }
 {
-    if 86400000000000 < settings.status_interval {
+    if LONGEST_INTERVAL < settings.status_interval {
         return true;
     }
-    86400000000000 < settings.idle_wakeup_interval
+    LONGEST_INTERVAL < settings.idle_wakeup_interval
 }
 
 // Confirmations begin from the start, whatever position the query asks for.

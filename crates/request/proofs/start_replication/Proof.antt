@@ -5,6 +5,7 @@ use Prim.Native.Nat.{_+_, _≤_}
 use native.Mathlib.Omega.{arith}
 use lib.ListN.{length}
 use Rattle.error.specs.Inputs.{total}
+use Rattle.error.specs.Writer.{inputLimit}
 use Rattle.error.proofs.Laws.{too-long, no-room, wrote-placed, counted-fits, counted-over}
 use Rattle.frontend.specs.Frontend.{query}
 use Rattle.request.specs.Request.{startReplication}
@@ -17,7 +18,7 @@ abbrev start : tie.After-enum-told → tie.Start
 start c = c .before .before .before .before .before .before
 
 -- the inputs together are within 25's bound
-inputs-fit : (c : tie.After-enum-told) → length (start c .args .slot .now) + total (start c .args .publications .now) ≤ 1048576
+inputs-fit : (c : tie.After-enum-told) → length (start c .args .slot .now) + total (start c .args .publications .now) ≤ inputLimit
 inputs-fit c =
     let t = counted-fits _ _ _ (sym (c .before .before .inputs-len .ensures) ∙ c .enum-told .given .1) in
     omega (arith, c .before .before .before .if1 .left)
