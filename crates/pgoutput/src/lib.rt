@@ -101,8 +101,8 @@ fn message_at(bytes: &[u8], at: usize) -> Boundary
     if FIRST_NEGATIVE_32 <= n {
         return Boundary::Refused(Refusal::ContentTooShort);
     }
-    let rest = reader::rest_at(bytes, count + 4);
-    if rest.len < n as usize {
+    let content = reader::place_at(bytes, count + 4);
+    if reader::left_at(bytes, content) < n as usize {
         return Boundary::Refused(Refusal::ContentTooShort);
     }
     Boundary::Message {
@@ -110,7 +110,7 @@ fn message_at(bytes: &[u8], at: usize) -> Boundary
         lsn: Lsn(lsn),
         prefix_from: from,
         prefix_len: len,
-        content_from: rest.from,
+        content_from: content,
         content_len: n as usize,
     }
 }

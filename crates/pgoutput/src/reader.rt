@@ -16,12 +16,6 @@ pub struct Reader<'a> {
     pub place: usize,
 }
 
-// The bytes behind a place: where they begin, and how many.
-pub struct Rest {
-    pub from: usize,
-    pub len: usize,
-}
-
 // ---- on the data and a place
 
 fn zero_from(bytes: &[u8], at: usize) -> Found
@@ -87,6 +81,7 @@ pub fn take_zero<'a>(r: Reader<'a>) -> Found
     zero_from(r.bytes, r.place)
 }
 
+// How many bytes stand from the place on.
 pub fn left<'a>(r: Reader<'a>) -> usize
     ensures { λ n. ⌜ n ≡ length (now (r .entry .bytes)) - r .entry .place ⌝ }
 {
@@ -125,12 +120,14 @@ pub fn zero_at(bytes: &[u8], at: usize) -> Found
     take_zero(new(bytes, at))
 }
 
-pub fn rest_at(bytes: &[u8], at: usize) -> Rest
-    ensures { λ r. ⌜ (r .from ≡ at) × (r .len ≡ length (now (bytes .entry)) - at) ⌝ }
+pub fn place_at(bytes: &[u8], at: usize) -> usize
+    ensures { λ r. ⌜ r ≡ at ⌝ }
 {
-    let r = new(bytes, at);
-    Rest {
-        from: place(r),
-        len: left(r),
-    }
+    place(new(bytes, at))
+}
+
+pub fn left_at(bytes: &[u8], at: usize) -> usize
+    ensures { λ r. ⌜ r ≡ length (now (bytes .entry)) - at ⌝ }
+{
+    left(new(bytes, at))
 }

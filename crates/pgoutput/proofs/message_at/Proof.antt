@@ -82,27 +82,30 @@ returns-5 c =
     let l = lsn-before p in
     simp (flags-read (flags-before l), lsn-read l, prefix-read p, count-read n, le-leb _ _ (c .if1 .taken))
 
-add-rest-at : tie.Need-add-rest-at
-add-rest-at c = let h = field-within 4 _ _ _ (count-read (c .before)) in omega arith
+add-place-at : tie.Need-add-place-at
+add-place-at c = let h = field-within 4 _ _ _ (count-read (c .before)) in omega arith
 
 returns-6 : tie.Need-returns-6
 returns-6 c =
     let n = c .before .before .before .before in
     let p = prefix-before n in
     let l = lsn-before p in
-    simp (flags-read (flags-before l), lsn-read l, prefix-read p, count-read n, lt-leb _ _ (c .before .before .before .if1 .left), lt-ltb _ _ (rw (c .before .before .rest-at .ensures .1) at (c .if2 .taken)))
+    let left = rw (c .before .left-at .ensures, c .before .before .place-at .ensures) at (c .if2 .taken) in
+    simp (flags-read (flags-before l), lsn-read l, prefix-read p, count-read n, lt-leb _ _ (c .before .before .before .if1 .left), lt-ltb _ _ left)
 
 returns-7 : tie.Need-returns-7
 returns-7 c =
     let n = c .before .before .before .before in
     let p = prefix-before n in
     let l = lsn-before p in
-    let v = message-values _ _ _ _ _ _ (flags-read (flags-before l)) (lsn-read l) (prefix-read p) (count-read n) (c .before .before .before .if1 .left) (rw (c .before .before .rest-at .ensures .1) at (c .if2 .left)) in
-    rw (c .before .before .rest-at .ensures .0) (sym v)
+    let place = c .before .before .place-at .ensures in
+    let left = rw (c .before .left-at .ensures, place) at (c .if2 .left) in
+    let v = message-values _ _ _ _ _ _ (flags-read (flags-before l)) (lsn-read l) (prefix-read p) (count-read n) (c .before .before .before .if1 .left) left in
+    rw place (sym v)
 
 pub message-at-spec : {M : Type 1} → statement M
 message-at-spec =
     tie.close
     (tie.spec (search needs) (search needs) (search needs) returns add-u64-at (search needs) (search needs) (search needs) returns-2
     add-from (search needs) (search needs) (search needs) returns-3 add-count add-count-2 (search needs) (search needs) (search needs)
-    returns-4 returns-5 add-rest-at (search needs) (search needs) returns-6 (search needs) returns-7)
+    returns-4 returns-5 add-place-at (search needs) (search needs) (search needs) returns-6 (search needs) returns-7)

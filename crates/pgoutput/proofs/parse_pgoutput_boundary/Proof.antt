@@ -5,19 +5,19 @@ use Rattle.pgoutput.proofs.parse_pgoutput_boundary.Statement.{statement
 use Rattle.pgoutput.proofs.parse_pgoutput_boundary.Tie as tie
 
 returns : tie.Need-returns
-returns c = no-data (c .before .before .args .bytes .now) (c .if1 .taken)
+returns c = no-data _ (c .if1 .taken)
 
 returns-2 : tie.Need-returns-2
-returns-2 c = by-b _ (c .before .before .before .before .before .args .bytes .now) (c .before .before .before .if1 .left) (c .before .if2 .taken) (c .begin-at .ensures)
+returns-2 c = by-b _ _ (c .before .before .before .if1 .left) (c .before .if2 .taken) (c .begin-at .ensures)
 
 returns-3 : tie.Need-returns-3
-returns-3 c = by-c _ (c .before .before .before .before .before .before .args .bytes .now) (c .before .before .before .before .if1 .left) (c .before .before .if2 .left) (c .before .if3 .taken) (c .commit-at .ensures)
+returns-3 c = by-c _ _ (c .before .before .before .before .if1 .left) (c .before .before .if2 .left) (c .before .if3 .taken) (c .commit-at .ensures)
 
 returns-4 : tie.Need-returns-4
-returns-4 c = by-m _ (c .before .before .before .before .before .before .before .args .bytes .now) (c .before .before .before .before .before .if1 .left) (c .before .before .before .if2 .left) (c .before .before .if3 .left) (c .before .if4 .taken) (c .message-at .ensures)
+returns-4 c = by-m _ _ (c .before .before .before .before .before .if1 .left) (c .before .before .before .if2 .left) (c .before .before .if3 .left) (c .before .if4 .taken) (c .message-at .ensures)
 
 returns-5 : tie.Need-returns-5
-returns-5 c = by-other (c .before .before .before .before .before .before .args .bytes .now) (c .before .before .before .before .if1 .left) (c .before .before .if2 .left) (c .before .if3 .left) (c .if4 .left)
+returns-5 c = by-other _ (c .before .before .before .before .if1 .left) (c .before .before .if2 .left) (c .before .if3 .left) (c .if4 .left)
 
 pub parse-pgoutput-boundary-spec : {M : Type 1} → statement M
 parse-pgoutput-boundary-spec =
