@@ -32,7 +32,7 @@ Course = List Msg → List Told → List Happened → Type 0
 abbrev pub front : List Msg → List Msg
 front ms = take (length ms - 1) ms
 
-pub front-of : (ms : List Msg) (m : Msg) → front (ms ++ (m ∷ [])) ≡ ms
+front-of : (ms : List Msg) (m : Msg) → front (ms ++ (m ∷ [])) ≡ ms
 front-of ms m =
     let l : length (ms ++ (m ∷ [])) ≡ length ms + 1 = length-append ms (m ∷ []) in
     let e : length (ms ++ (m ∷ [])) - 1 ≡ length ms = omega arith in
@@ -43,7 +43,7 @@ unfolding offered
 nothing-offered full [] = refl
 nothing-offered full (u ∷ us) = refl
 
-pub none-later : (es : List Happened) (full : Bool) → offered es full [] ≡ []
+none-later : (es : List Happened) (full : Bool) → offered es full [] ≡ []
 unfolding offered
 none-later [] full = refl
 none-later (e ∷ es) full = refl
@@ -151,7 +151,9 @@ module _ (stop : Option ℕ) (opening : Bool) where
     pub event : happenedBy (o .event) p ≡ e ∷ []
     pub last : last-of ms ≡ gone ++ (e ∷ following o)
     pub handed : es ≡ all-of (front ms) ++ gone
+    -- whatever steps follow hand on what is gone, and the rest as it is offered to them
     pub law : (us : List Told) → offered (gone ++ (e ∷ following o)) false (drop 1 (ws ++ us)) ≡ gone ++ offered (e ∷ following o) (o .stalled) us
+    -- where StoppedAt neither follows nor is offered, the reading goes on behind the message
     pub goes : o .stops ≡ false → isStoppedAt (o .event) ≡ false → Goes ms
 
   -- Ended: what was handed on is what the plain reading reads off
@@ -164,6 +166,7 @@ module _ (stop : Option ℕ) (opening : Bool) where
   none-over : (ms : List Msg) (ws : List Told) (es : List Happened) → es ≡ [] → all-of ms ≡ [] → Over ms ws es
   none-over ms ws es h e = h ∙ (sym e ∙ settled-all ms ws (none-settled ms ws (none-last ms e)))
 
+  -- before the first message
   pub nothing-reads : (ws : List Told) → Over [] ws []
   unfolding given behindOpening
   nothing-reads ws = none-over [] ws [] refl (by opening)

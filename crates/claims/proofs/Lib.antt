@@ -1,12 +1,12 @@
-pub mod Confirms
 pub mod Begins
+pub mod Spans
 pub mod Account
 pub mod Course
-pub mod Spans
 pub mod Standing
 pub mod Facts
 pub mod Answers
 pub mod Rows
 pub mod Kept
 pub mod HandsOn
+pub mod Confirms
 pub mod Condition3

@@ -1,6 +1,6 @@
 -- One step answers as the table says, and keeps what holds behind any list of calls. The step's definition is walked once, in the order of
--- document 01's table: each row gives its answer (Table), what the run then remembers (Facts), and where the
--- reader and the events then stand (Standing). Kept puts the rows together.
+-- document 01's table: each row gives its answer (Answers), what the run then remembers (Facts), and where the reader and the events then stand
+-- (Standing, Course). Kept puts the rows together.
 use mathlib.Core.Path.{_≡_, refl, sym, ap, _∙_}
 use mathlib.Core.Bool.{Bool, true, false, not}
 use mathlib.Core.List.{List, [], _∷_, _++_}
@@ -74,6 +74,7 @@ reaching-is true z position e =
 
 -- a step on what calls have left, with so many of the next untaken bytes and an output
 module _ (s : Setup) (z : Played) (i : Input) (n : ℕ) (out : List ℕ) where
+  -- as the definitions of the step and of the table name them
   abbrev r : Run
   r = z .run
 
@@ -101,11 +102,13 @@ module _ (s : Setup) (z : Played) (i : Input) (n : ℕ) (out : List ℕ) where
   Agreed from o =
       Agrees (o .run .state) (factsBy (o .run)) (factsOf (s .settings) (s .start) (a-step i from (o .run .state) (o .refusal) (o .written) ∷ past))
 
+  -- .. and the reader and the events stand by the state that the step left
   pub record Next (from : State) (y : Say) (o : Outcome) : Type 0 where
     pub answers : Answered y o
     pub agrees : Agreed from o
     pub stands : Standing s (o .run .state) (stepped z i o)
 
+  -- past the tests 2 to 5 the payload buffer is long enough
   next : {from : State} {y : Say} {o : Outcome} → Answered y o → Agreed from o → Placed s (o .run .state) (stepped z i o) → Next from y o
   next a f b = record { answers = a; agrees = f; stands = inr b }
 
@@ -113,6 +116,7 @@ module _ (s : Setup) (z : Played) (i : Input) (n : ℕ) (out : List ℕ) where
   abbrev said : State → Say
   said x = tableOf x (s .settings) (s .start) past i (take (z .taken) (s .bytes)) (l .unread)
 
+  -- the row of a state
   abbrev pub Row : State → Type 0
   Row x = Next x (said x) (stateOf x (in-state x) i l)
 
@@ -122,6 +126,7 @@ module _ (s : Setup) (z : Played) (i : Input) (n : ℕ) (out : List ℕ) where
   either true f g = f refl
   either false f g = g refl
 
+  -- .. a status where a test holds
   status-if : {from : State} (c : Bool) {o o' : Outcome} → Next from (say 0 (status false)) o → Next from (say 0 nothing) o'
       → Next from (say 0 (statusIf c)) (pick c o o')
   status-if true a b = a
@@ -185,6 +190,7 @@ module _ (s : Setup) (z : Played) (i : Input) (n : ℕ) (out : List ℕ) where
     record Read (from : State) (f : R.Said → Say) (o : Outcome) : Type 0 where
       row : Next from (readSay (limit s) (take (z .taken) (s .bytes)) (l .unread) (i .ended) f) (having (x .2) (x .3) o)
 
+    -- the reader's answer is a: the step's refusal and output by it, and what holds behind
     took : {C : Course} {from : State} {f : R.Said → Say} {o : Outcome} → Here C → (a : R.Said) → x .0 ≡ a → o .refusal ≡ f a .refusal
         → (o .written, o .out) ≡ writtenBy (f a .writing) (confirmedOf (s .start) past) (i .«client_time») out
         → Agreed from (having (x .2) (x .3) o) → Placed s (o .run .state) (stepped z i (having (x .2) (x .3) o)) → Read from f o
