@@ -1,5 +1,5 @@
 -- Two plain readings of the same server bytes: the events of one begin the other's, whatever their steps. And both begin what all bytes give.
--- HandsOn says the first of two lists of calls.
+-- HandsOn states the former for two lists of calls.
 use mathlib.Core.Path.{_≡_}
 use mathlib.Core.Bool.{Bool, true, false}
 use mathlib.Core.List.{List, [], _∷_, _++_}
