@@ -2,7 +2,7 @@
 use mathlib.Core.Path.{_≡_, refl, sym, ap, _∙_}
 use mathlib.Core.Bool.{Bool, true, false}
 use mathlib.Core.List.{List, [], _∷_, append-nil}
-use Prim.Native.Nat.{ℕ, zero, suc, _+_, _-_, _≤_, _<_, min}
+use Prim.Native.Nat.{ℕ, _+_, _-_, _≤_, _<_, min}
 use native.Mathlib.Omega.{arith}
 use lib.IntN.{ℤ}
 use lib.ListN.{length, getD, take, drop, length-drop, drop-of-length-le, take-append-drop}
@@ -415,8 +415,4 @@ applies-room r m q p o a h =
     let k : limit ≤ p = ltb-false _ _ (room .0) in
     let l : a .len ≤ limit = ltb-false _ _ (fits .0) in
     let n : a .len ≡ 0 → ⊥ = eqb-false _ _ (x .0) in
-    (positive (a .len) n, omega arith)
-  where
-    positive : (n : ℕ) → (n ≡ 0 → ⊥) → 0 < n
-    positive zero h = absurd (h refl)
-    positive (suc n) h = omega arith
+    (omega arith, omega arith)
