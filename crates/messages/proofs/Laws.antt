@@ -6,7 +6,7 @@ use Prim.Native.Nat.{ℕ, zero, suc, _+_, _-_, _≤_, _<_}
 use native.Mathlib.Nat.{not-suc-le-zero, le-of-suc-le-suc}
 use native.Mathlib.Numerals.{add-one, one-add}
 use native.Mathlib.Omega.{arith}
-use lib.ListN.{length, drop, getD, length-drop, length-set}
+use lib.ListN.{length, drop, getD, replicate, length-drop, length-set}
 use lib.Seq.{drop-cons, drop-drop}
 use lib.Dec.{eqb}
 use borrow.Author.Tests.{eq-eqb, ne-eqb, eqb-true, eqb-false}
@@ -101,7 +101,7 @@ after [] fs es = []
 after (l ∷ ls) [] es = []
 after (l ∷ ls) (f ∷ fs) es = lastOf l f es ∷ after ls fs es
 
-pub after-start : (s : List ℕ) → after letters (absent ∷ absent ∷ absent ∷ absent ∷ absent ∷ absent ∷ absent ∷ absent ∷ absent ∷ absent ∷ absent ∷ absent ∷ absent ∷ absent ∷ absent ∷ []) (unread s 0) ≡ fieldsOf s
+pub after-start : (s : List ℕ) → after letters (replicate 15 absent) (unread s 0) ≡ fieldsOf s
 unfolding after fieldsOf
 after-start s = rw (← unread-start s)
 
