@@ -11,29 +11,14 @@ use Rattle.moment.specs.declared.Moment.{Moment}
 use Rattle.progress.specs.Progress.{noMoment}
 use Rattle.worker.specs.declared.Input.{Input}
 use Rattle.worker.specs.declared.State.{State}
-use Rattle.worker.specs.declared.State.the-variants.{Opening, Turn, Drain, Reading, Waiting, Handling, Offering, Ended}
-use Rattle.worker.specs.Run.{lsn}
+use Rattle.worker.specs.declared.State.the-variants.{Turn, Drain, Reading, Waiting, Handling, Offering}
+use Rattle.worker.specs.Run.{isIn, lsn}
 use Rattle.claims.specs.Plain.{isRefusedEarly, isFull}
 
 -- a step: its input, the state that it found and the one that it left, its refusal (0 for none), and how many bytes it wrote; or a report
 pub data Past : Type 0 where
   a-step : Input → State → State → ℕ → ℕ → Past
   a-report : Lsn → Past
-
--- ---- states
-
-abbrev pub stateNumber : State → ℕ
-stateNumber Opening = 0
-stateNumber Turn = 1
-stateNumber Drain = 2
-stateNumber Reading = 3
-stateNumber Waiting = 4
-stateNumber Handling = 5
-stateNumber Offering = 6
-stateNumber Ended = 7
-
-abbrev pub isIn : State → State → Bool
-isIn a b = eqb (stateNumber a) (stateNumber b)
 
 -- a step went from a to b
 abbrev pub went : State → State → State → State → Bool

@@ -6,19 +6,16 @@ use mathlib.Core.Option.{Option, some, none}
 use Prim.Native.Nat.{ℕ}
 use lib.ListN.{take, replicate}
 use lib.IntN.{pos}
-use Rattle.wire.specs.Bytes.{be, beFrom, beBytes}
-use Rattle.wire.specs.Field.{fieldAt, signed, unsigned}
 use Rattle.wire.specs.Find.{indexOf}
-use Rattle.stream.specs.Message.{framed, frontOf}
-use Rattle.stream.specs.Cut.{cutFrom, cutOf}
-use Rattle.replication.specs.CopyData.{copyDataOf, xlogData}
-use Rattle.pgoutput.specs.Boundary.{boundaryOf, beginBytes, commitBytes, messageBytes}
+use Rattle.stream.specs.Message.{framed}
+use Rattle.replication.specs.CopyData.{xlogData}
+use Rattle.pgoutput.specs.Boundary.{messageBytes}
 use Rattle.worker.specs.declared.Queue.{Queue}
 use Rattle.worker.specs.declared.Queue.the-variants.{Free, Full}
 use Rattle.claims.specs.Happened.{Happened}
 use Rattle.claims.specs.Happened as H
-use Rattle.claims.specs.Plain.{Told, wholeOnes, behindOpening, given, spanOf, behindByte, acceptedOnes, offered, takenOf, plainOf}
-use Rattle.claims.specs.RunCases.{keepAliveBytes, beginAt, commitAt}
+use Rattle.claims.specs.Plain.{Told, plainOf}
+use Rattle.claims.specs.RunCases.{keepAliveBytes, beginAt, commitAt, computed}
 
 -- ---- steps
 
@@ -120,7 +117,7 @@ pub record PlainCases : Type 0 where
 
 -- each by computing the definitions
 pub plain-cases : PlainCases
-unfolding be beFrom beBytes fieldAt signed unsigned indexOf framed frontOf cutFrom cutOf copyDataOf xlogData boundaryOf beginBytes commitBytes messageBytes wholeOnes behindOpening given spanOf behindByte acceptedOnes offered takenOf plainOf
+unfolding computed indexOf messageBytes
 plain-cases =
     record {
       counts-add-up = refl;

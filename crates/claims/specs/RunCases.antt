@@ -124,6 +124,7 @@ unfoldable pub computed : Unit {0}
 unfolding be beFrom beBytes put fieldAt signed unsigned framed frontOf cutFrom cutOf payloadOf judgedOf headerOf readOf copyData copyDone statusBody statusUpdate copyDataOf xlogData keepAlive boundaryOf beginBytes raiseOf lookedOf reportedOf freshRun statusOf openingOf turnOf drainOf readingOf waitingOf handlingOf stalledOf offeringOf stateOf stepOf wholeOnes behindOpening given spanOf behindByte acceptedOnes offered takenOf plainOf playAll played steps refusals commitBytes
 computed = tt
 
+-- each by computing the definitions
 pub run-cases : RunCases
 unfolding computed
 run-cases =
@@ -139,6 +140,7 @@ run-cases =
       begin-read-early = refl;
     }
 
+-- likewise
 pub wrong-turns : WrongTurns
 unfolding computed
 wrong-turns =

@@ -19,7 +19,8 @@ ghost use Rattle.worker.specs.Run.{lsn};
 ghost use Rattle.worker.specs.Step.{stepOf};
 ghost use Rattle.export.specs.NextWords.{nextWords};
 ghost use Rattle.words.specs.Answers.{queueOf, inputOf, steppedWords, openedWords, alreadyOpenWords, errorWords};
-ghost use Rattle.words.specs.Words.{moment as momentOf, stateWord, settingsOf, metricsWords, lastStatusWords, runOf, wordsOf};
+ghost use Rattle.worker.specs.Run.{stateNumber};
+ghost use Rattle.words.specs.Words.{moment as momentOf, settingsOf, metricsWords, lastStatusWords, runOf, wordsOf};
 use lsn::Lsn;
 use moment::Moment;
 use schedule::NextStep;
@@ -196,7 +197,7 @@ pub extern "C" fn rufflesquash_next_step(
 // 0 Opening, 1 Turn, 2 Drain, 3 Reading, 4 Waiting, 5 Handling, 6 Offering, 7 Ended.
 #[no_mangle]
 pub extern "C" fn rufflesquash_state(run: &[u64; 48]) -> u64
-    ensures { λ r. ⌜ r ≡ stateWord (runOf (now (run .entry)) .state) ⌝ }
+    ensures { λ r. ⌜ r ≡ stateNumber (runOf (now (run .entry)) .state) ⌝ }
 {
     let w = *run;
     state_word(state_of(w[7]))

@@ -6,7 +6,8 @@ use lib.ListN.{getD}
 use Rattle.progress.specs.declared.ProgressCell.{ProgressCell}
 use Rattle.worker.specs.declared.Run.{Run}
 use Rattle.words.specs.Cells.{cellOf}
-use Rattle.words.specs.Words.{flagWord, stateWord, headerWords, eventWords, metricsWords, progressWords, wordsOf}
+use Rattle.worker.specs.Run.{stateNumber}
+use Rattle.words.specs.Words.{flagWord, headerWords, eventWords, metricsWords, progressWords, wordsOf}
 use Rattle.words.proofs.RoundTrip.{progress-back}
 
 pub words-are : (r : Run) {f1 f2 f3 s f4 f5 f6 f7 f8 t f9 f10 f11 : ℕ} {e h : List ℕ}
@@ -14,7 +15,7 @@ pub words-are : (r : Run) {f1 f2 f3 s f4 f5 f6 f7 f8 t f9 f10 f11 : ℕ} {e h : 
     → f1 ≡ flagWord (r .settings .«has_stop»)
     → f2 ≡ flagWord (r .settings .timing)
     → f3 ≡ flagWord (r .settings .binary)
-    → s ≡ stateWord (r .state)
+    → s ≡ stateNumber (r .state)
     → h ≡ headerWords (r .reader .header)
     → f4 ≡ flagWord (r .reader .refused)
     → f5 ≡ flagWord (r .progress .signalled)

@@ -2,7 +2,7 @@
 use mathlib.Core.Path.{_≡_, refl, ap, _∙_}
 use mathlib.Core.Bool.{Bool, true, false}
 use mathlib.Core.List.{List, [], _∷_}
-use Prim.Native.Nat.{ℕ, zero, suc, _*_, _-_, _<_, _≤_, _%_, _^_}
+use Prim.Native.Nat.{ℕ, zero, suc, _<_, _%_, _^_}
 use native.Mathlib.Omega.{arith}
 use lib.ListN.{length, getD}
 use Rattle.wire.specs.Int.{half}
@@ -20,8 +20,8 @@ use Rattle.worker.specs.declared.Settings.{Settings}
 use Rattle.worker.specs.declared.State.{State}
 use Rattle.worker.specs.declared.State.the-variants.{Opening, Turn, Drain, Reading, Waiting, Handling, Offering, Ended}
 use Rattle.worker.specs.declared.Whole.{Whole}
-use Rattle.worker.specs.Run.{lastStatus, wholeOf, offer, run}
-use Rattle.words.specs.Words.{flagOf, flagWord, byteOf, stateOf, stateWord, eventOf, partsOf, eventWords, settingsOf, settingsWords, HeaderFits, EventFits, Round-trip}
+use Rattle.worker.specs.Run.{stateNumber, lastStatus, wholeOf, offer, run}
+use Rattle.words.specs.Words.{flagOf, flagWord, byteOf, stateOf, eventOf, partsOf, eventWords, settingsOf, settingsWords, HeaderFits, EventFits, Round-trip}
 
 flag-back : (b : Bool) → flagOf (flagWord b) ≡ b
 flag-back true = refl
@@ -33,7 +33,7 @@ byte-back a h = omega arith
 xid-back : (a : ℕ) → a < 2 ^ 32 → a % 2 ^ 32 ≡ a
 xid-back a h = omega arith
 
-state-back : (s : State) → stateOf (stateWord s) ≡ s
+state-back : (s : State) → stateOf (stateNumber s) ≡ s
 unfolding stateOf
 state-back Opening = refl
 state-back Turn = refl

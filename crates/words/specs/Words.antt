@@ -23,7 +23,7 @@ use Rattle.worker.specs.declared.LastStatus.{LastStatus}
 use Rattle.worker.specs.declared.Whole.{Whole}
 use Rattle.worker.specs.declared.Offer.{Offer}
 use Rattle.worker.specs.declared.Run.{Run}
-use Rattle.worker.specs.Run.{lsn, clock, lastStatus, wholeOf, offer, run}
+use Rattle.worker.specs.Run.{stateNumber, lsn, clock, lastStatus, wholeOf, offer, run}
 
 -- ---- one word
 
@@ -41,7 +41,7 @@ byteOf n = n % 256
 abbrev pub moment : ℕ → Moment
 moment n = record { 0 = n }
 
--- every other word is Ended
+-- back from a state's number; every other word is Ended
 unfoldable pub stateOf : ℕ → State
 stateOf n =
     pick (eqb n 0) Opening
@@ -52,16 +52,6 @@ stateOf n =
     (pick (eqb n 5) Handling
     (pick (eqb n 6) Offering
     Ended))))))
-
-abbrev pub stateWord : State → ℕ
-stateWord Opening = 0
-stateWord Turn = 1
-stateWord Drain = 2
-stateWord Reading = 3
-stateWord Waiting = 4
-stateWord Handling = 5
-stateWord Offering = 6
-stateWord Ended = 7
 
 -- ---- an event: its kind and six numbers
 
@@ -186,7 +176,7 @@ metricsWords m =
 abbrev pub wordsOf : Run → List ℕ
 wordsOf r =
     settingsWords (r .settings)
-    ++ (stateWord (r .state)
+    ++ (stateNumber (r .state)
     ∷ (readerWords (r .reader)
     ++ (clockWords (r .clock)
     ++ (progressWords (r .progress)

@@ -1,6 +1,7 @@
 // A run as 48 words, and the run that any words stand for.
 ghost use mathlib.Core.Path.{_≡_};
-ghost use Rattle.words.specs.Words.{stateOf, stateWord, settingsOf, readerOf, clockOf, progressOf, lastStatusOf, wholeMessageOf, offerOf, metricsOf, runOf, metricsWords, lastStatusWords, wordsOf, headerWords, HeaderFits};
+ghost use Rattle.worker.specs.Run.{stateNumber};
+ghost use Rattle.words.specs.Words.{stateOf, settingsOf, readerOf, clockOf, progressOf, lastStatusOf, wholeMessageOf, offerOf, metricsOf, runOf, metricsWords, lastStatusWords, wordsOf, headerWords, HeaderFits};
 use crate::event::event_of;
 use crate::event::event_words;
 use crate::word::byte_of;
@@ -44,7 +45,7 @@ pub fn state_of(n: u64) -> State
 }
 
 pub fn state_word(state: State) -> u64
-    ensures { λ r. ⌜ r ≡ stateWord state ⌝ }
+    ensures { λ r. ⌜ r ≡ stateNumber state ⌝ }
 {
     match state {
         State::Opening => 0,

@@ -1,6 +1,7 @@
 -- A run and the single changes of it. Document 01, "Events and confirmations".
 use Prim.Native.Nat.{ℕ, _/_}
 use mathlib.Core.Bool.{Bool, false}
+use lib.Dec.{eqb}
 use Rattle.framing.specs.declared.MessageReader.{MessageReader}
 use Rattle.framing.specs.Read.{fresh}
 use Rattle.lsn.specs.declared.Lsn.{Lsn}
@@ -11,6 +12,7 @@ use Rattle.progress.specs.declared.ProgressCell.{ProgressCell}
 use Rattle.progress.specs.Progress.{cell, noMoment}
 use Rattle.worker.specs.declared.Settings.{Settings}
 use Rattle.worker.specs.declared.State.{State}
+use Rattle.worker.specs.declared.State.the-variants.{Opening, Turn, Drain, Reading, Waiting, Handling, Offering, Ended}
 use Rattle.worker.specs.declared.Clock.{Clock}
 use Rattle.worker.specs.declared.LastStatus.{LastStatus}
 use Rattle.worker.specs.declared.Whole.{Whole}
@@ -18,6 +20,25 @@ use Rattle.worker.specs.declared.Offer.{Offer}
 use Rattle.worker.specs.declared.Event.{Event}
 use Rattle.worker.specs.declared.Event.the-variants.{Nothing}
 use Rattle.worker.specs.declared.Run.{Run}
+
+-- ---- states
+
+-- a state's row in the step table; Ended stands behind them
+abbrev pub stateNumber : State → ℕ
+stateNumber Opening = 0
+stateNumber Turn = 1
+stateNumber Drain = 2
+stateNumber Reading = 3
+stateNumber Waiting = 4
+stateNumber Handling = 5
+stateNumber Offering = 6
+stateNumber Ended = 7
+
+-- one state is the other
+abbrev pub isIn : State → State → Bool
+isIn a b = eqb (stateNumber a) (stateNumber b)
+
+-- ---- parts
 
 abbrev pub lsn : ℕ → Lsn
 lsn v = record { 0 = v }
