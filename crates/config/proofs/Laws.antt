@@ -12,7 +12,7 @@ use mathlib.Core.Bool.{false}
 use borrow.Author.Tests.{eq-eqb, ne-eqb}
 use denote.Ref.{RefT}
 use Rattle.config.specs.OptionValue.{quoted, doubled, following, optionValue}
-use Rattle.error.specs.Inputs.{none, nameAt}
+use Rattle.error.specs.Inputs.{noName, nameAt}
 use Rattle.config.specs.Code.{commaAt, listed}
 
 pub quote : (c : ℕ) → c ≡ 39 → quoted c ≡ c ∷ c ∷ []
@@ -49,7 +49,7 @@ pub listed-next : (names : List (RefT (List ℕ))) (i : ℕ) → i < length name
 unfolding listed optionValue following
 listed-next [] i h = absurd (not-suc-le-zero h)
 listed-next (n ∷ ns) zero h = refl
-listed-next (n ∷ ns) (suc i) h = rw (add-one, drop-cons (n ∷ ns) (suc i) none h) (simp later)
+listed-next (n ∷ ns) (suc i) h = rw (add-one, drop-cons (n ∷ ns) (suc i) noName h) (simp later)
 
 pub listed-length : (names : List (RefT (List ℕ))) (i : ℕ) → i < length names
     → length (listed i names) ≡ length (commaAt i) + (length (doubled (nameAt names i)) + length (listed (i + 1) names))

@@ -1,4 +1,5 @@
--- The value of an option that lists names: document 01, "`to_option_value` doubles each single quote and joins names with commas".
+-- The value of an option that lists names, the Rust's `to_option_value`: quotes are doubled, and a comma parts two names. SCOPE 2.7; 01, "Texts
+-- and positions". ReadBack.antt has the server's reading of it.
 use Prim.Native.Nat.{ℕ}
 use mathlib.Core.List.{List, [], _∷_, _++_}
 use lib.Dec.{eqb}
@@ -14,7 +15,7 @@ unfoldable pub doubled : List ℕ → List ℕ
 doubled [] = []
 doubled (c ∷ s) = quoted c ++ doubled s
 
--- the names behind the first, a comma before each
+-- the names after the first, a comma before each
 unfoldable pub following : List (RefT (List ℕ)) → List ℕ
 following [] = []
 following (n ∷ ns) = 44 ∷ (doubled (now n) ++ following ns)

@@ -4,13 +4,14 @@ ghost use Prim.Native.Nat.{_+_, _≤_};
 ghost use lib.ListN.{length};
 ghost use Rattle.wire.specs.Bytes.{placed};
 ghost use Rattle.error.specs.Inputs.{total};
-ghost use Rattle.error.specs.Writer.{writing, outcome, counted};
+ghost use Rattle.error.specs.Writer.{writing, outcome, counted, countOf};
 ghost use Rattle.config.specs.Code.{commaAt};
 ghost use Rattle.config.specs.OptionValue.{quoted, doubled, optionValue};
 use error::Counted;
 use error::INPUT_LIMIT;
 use error::Refusal;
 use error::Written;
+use wire::store::NOWHERE;
 
 // How many bytes a byte of a name takes.
 fn width(c: u8) -> usize
@@ -20,7 +21,7 @@ fn width(c: u8) -> usize
 }
 
 fn count_name(s: &[u8], room: usize) -> Counted
-    ensures { λ r. ⌜ r ≡ counted room (length (doubled (now (s .entry)))) ⌝ }
+    ensures { λ r. ⌜ countOf r ≡ counted room (length (doubled (now (s .entry)))) ⌝ }
 {
     let mut need: usize = 0;
     let mut i: usize = 0;
@@ -44,7 +45,7 @@ fn comma(i: usize) -> usize
 
 // The length of the value, where that is at most room.
 pub fn count(names: &[&[u8]], room: usize) -> Counted
-    ensures { λ r. ⌜ r ≡ counted room (length (optionValue (now (names .entry)))) ⌝ }
+    ensures { λ r. ⌜ countOf r ≡ counted room (length (optionValue (now (names .entry)))) ⌝ }
 {
     let mut need: usize = 0;
     let mut i: usize = 0;
@@ -63,7 +64,7 @@ pub fn count(names: &[&[u8]], room: usize) -> Counted
     Counted::Fits(need)
 }
 
-// The place behind a byte of a name.
+// The place after a byte of a name.
 fn put_byte(out: &mut [u8], at: usize, c: u8) -> usize
     requires { ⌜ at + length (quoted c) ≤ length (now out) ⌝ }
     ensures { λ r. ⌜ (r, now (out .exit)) ≡ placed (now (out .entry)) at (quoted c) ⌝ }
@@ -90,7 +91,7 @@ fn fill_name(out: &mut [u8], at: usize, s: &[u8]) -> usize
     to
 }
 
-// The place behind what stands before the i-th name.
+// The place after what stands before the i-th name.
 fn put_comma(out: &mut [u8], at: usize, i: usize) -> usize
     requires { ⌜ at + length (commaAt i) ≤ length (now out) ⌝ }
     ensures { λ r. ⌜ (r, now (out .exit)) ≡ placed (now (out .entry)) at (commaAt i) ⌝ }
@@ -117,15 +118,15 @@ fn fill(out: &mut [u8], at: usize, names: &[&[u8]]) -> usize
     to
 }
 
-// The place behind the value, written at `to` where it fits.
+// The place after the value, which is written at `to`; where it does not fit, NOWHERE, and nothing is written.
 pub fn place(out: &mut [u8], to: usize, names: &[&[u8]]) -> usize
     ensures { λ r. ⌜ (r, now (out .exit)) ≡ placed (now (out .entry)) to (optionValue (now (names .entry))) ⌝ }
 {
     if out.len() < to {
-        return to;
+        return NOWHERE;
     }
     let Counted::Fits(_) = count(names, out.len() - to) else {
-        return to;
+        return NOWHERE;
     };
     fill(out, to, names)
 }

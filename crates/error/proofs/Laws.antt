@@ -1,5 +1,6 @@
 -- Refusals have numbers; the three ways out of a writer, lengths within a room, and names counted one by one.
-use mathlib.Core.Path.{_≡_, refl}
+use mathlib.Core.Path.{_≡_, refl, sym, ap, _∙_}
+use mathlib.Core.Option.{Option, some, none}
 use mathlib.Core.List.{List}
 use Prim.Native.Nat.{ℕ, _+_, _≤_, _<_}
 use native.Mathlib.Numerals.{add-one}
@@ -12,10 +13,11 @@ use borrow.Author.Tests.{lt-ltb, le-ltb, le-leb, lt-leb, leb-true, leb-false}
 use denote.Ref.{RefT}
 use Rattle.wire.specs.Bytes.{pick, put, placed}
 use Rattle.wire.proofs.Laws.{placed-fits, impossible}
-use Rattle.error.specs.Inputs.{total, none, nameAt}
+use Rattle.error.specs.Inputs.{total, noName, nameAt}
 use Rattle.error.specs.Refusal.{numberOf}
-use Rattle.error.specs.Writer.{inputLimit, writing, counted}
+use Rattle.error.specs.Writer.{inputLimit, writing, counted, countOf}
 use Rattle.error.specs.declared.Refusal.{Refusal}
+use Rattle.error.specs.declared.Counted.{Counted}
 use Rattle.error.specs.declared.Counted.the-variants.{Fits, Over}
 
 -- ---- numbers
@@ -69,7 +71,7 @@ pub wrote-placed : (inputs : ℕ) (text out : List ℕ) {q : List ℕ} {n r : �
     → ((0, n), q) ≡ writing inputs text out
 wrote-placed inputs text out {q} {n} h e k p = wrote inputs text out q n h e k (placed-fits out 0 text (omega arith) p .1)
 
--- .. and of which the place behind it is answered
+-- .. and of which the place after it is answered
 pub wrote-to : (inputs : ℕ) (text out : List ℕ) {q : List ℕ} {r : ℕ} → inputs ≤ inputLimit → length text ≤ length out → (r, q) ≡ placed out 0 text
     → ((0, r), q) ≡ writing inputs text out
 wrote-to inputs text out {q} {r} h k p =
@@ -78,31 +80,31 @@ wrote-to inputs text out {q} {r} h k p =
 
 -- ---- a length within a room
 
-pub fits : (room n k : ℕ) → k ≡ n → k ≤ room → Fits k ≡ counted room n
+pub fits : (room n k : ℕ) → k ≡ n → k ≤ room → some k ≡ counted room n
 unfolding counted
 fits room n k e h = rw (← e) (simp (le-leb _ _ h))
 
-pub over : (room n : ℕ) → room < n → Over ≡ counted room n
+pub over : (room n : ℕ) → room < n → none ≡ counted room n
 unfolding counted
 over room n h = simp (lt-leb _ _ h)
 
--- what a count within a room says of the length
-pub counted-fits : (room n k : ℕ) → counted room n ≡ Fits k → (n ≡ k) × (k ≤ room)
+-- what an answer says of the length that was counted
+pub counted-fits : (room n k : ℕ) {r : Counted} → countOf r ≡ counted room n → r ≡ Fits k → (n ≡ k) × (k ≤ room)
 unfolding counted
-counted-fits room n k e = by (leb n room) refl e
+counted-fits room n k {r} p q = by (leb n room) refl (sym p ∙ ap countOf q)
   where
-    by : (t : Bool) → leb n room ≡ t → pick t (Fits n) Over ≡ Fits k → (n ≡ k) × (k ≤ room)
+    by : (t : Bool) → leb n room ≡ t → pick t (some n) none ≡ some k → (n ≡ k) × (k ≤ room)
     by true q p =
         let e : n ≡ k = cc in
         let l : n ≤ room = leb-true n room q in
         (e, omega arith)
     by false q p = impossible cc
 
-pub counted-over : (room n : ℕ) → counted room n ≡ Over → room < n
+pub counted-over : (room n : ℕ) {r : Counted} → countOf r ≡ counted room n → r ≡ Over → room < n
 unfolding counted
-counted-over room n e = by (leb n room) refl e
+counted-over room n {r} p q = by (leb n room) refl (sym p ∙ ap countOf q)
   where
-    by : (t : Bool) → leb n room ≡ t → pick t (Fits n) Over ≡ Over → room < n
+    by : (t : Bool) → leb n room ≡ t → pick t (some n) none ≡ none → room < n
     by true q p = impossible cc
     by false q p = leb-false n room q
 
@@ -110,7 +112,7 @@ counted-over room n e = by (leb n room) refl e
 
 pub total-next : (names : List (RefT (List ℕ))) (i : ℕ) → i < length names → total (drop i names) ≡ length (nameAt names i) + total (drop (i + 1) names)
 unfolding total
-total-next names i h = rw (add-one, drop-cons names i none h)
+total-next names i h = rw (add-one, drop-cons names i noName h)
 
 pub total-end : (names : List (RefT (List ℕ))) (i : ℕ) → length names ≤ i → total (drop i names) ≡ 0
 unfolding total

@@ -1,3 +1,4 @@
+pub mod Cases
 pub mod Inputs
 pub mod Refusal
 pub mod Writer

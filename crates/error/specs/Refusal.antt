@@ -1,14 +1,14 @@
--- Refusals: document 01's number of each ("Where each call turns back"), and the Rust's kind of each (error.rs).
+-- Refusals: the number of each (SCOPE 7.1; 01, "Where each call turns back"), and the Rust's kind of each (SCOPE 7.4; error.rs). Other crates
+-- number their own refusals from 26 on, each by a definition of its own.
 use Prim.Native.Nat.{ℕ}
-use mathlib.Core.Bool.{Bool}
+use mathlib.Core.List.{List, [], _∷_}
+use lib.ListN.{getD}
 use Rattle.error.specs.declared.Refusal.{Refusal}
 use Rattle.error.specs.declared.Refusal.the-variants.{IntervalTooLong, RunEnded, PayloadBufferTooShort, OutputTooShort, MomentOutOfOrder, InvalidLength, MessageTooLarge, EofInHeader, EofInPayload, EmptyCopyData, XLogDataTooShort, KeepaliveTooShort, UnknownCopyData, TruncatedI8, TruncatedI32, TruncatedI64, UnterminatedPrefix, ContentTooShort, ServerError, MalformedDataRow, AuthRequestTooShort, MissingSlash, InvalidHighPart, InvalidLowPart, InputTooLong}
 use Rattle.error.specs.declared.Kind.{Kind}
 use Rattle.error.specs.declared.Kind.the-variants.{Usage, Io, Protocol, Server, MessageTooLarge as TooLarge, ParseLsn}
-use lib.Dec.{leb, eqb}
-use Rattle.wire.specs.Bytes.{pick}
 
--- document 01's number
+-- the number of each
 abbrev pub numberOf : Refusal → ℕ
 numberOf IntervalTooLong = 1
 numberOf RunEnded = 2
@@ -36,27 +36,73 @@ numberOf InvalidHighPart = 23
 numberOf InvalidLowPart = 24
 numberOf InputTooLong = 25
 
--- the Rust's kind of error, by number; Usage is none of the Rust's: only a caller's own inputs bring it about
-unfoldable pub kindOf : ℕ → Kind
-kindOf n =
-    pick (leb n 5) Usage
-    (pick (leb n 6) Protocol
-    (pick (leb n 7) TooLarge
-    (pick (leb n 9) Io
-    (pick (leb n 18) Protocol
-    (pick (leb n 19) Server
-    (pick (leb n 21) Protocol
-    (pick (leb n 24) ParseLsn
-    Usage)))))))
+-- ---- kinds: the Rust's (error.rs), and Usage, which is none of the Rust's, since only a caller's own inputs bring it about
 
--- a number for each kind, to tell two apart
-abbrev pub codeOf : Kind → ℕ
-codeOf Usage = 0
-codeOf Io = 1
-codeOf Protocol = 2
-codeOf Server = 3
-codeOf TooLarge = 4
-codeOf ParseLsn = 5
+-- each has a number, from 1 on; 0 stands for none
+abbrev pub usage : ℕ
+usage = 1
 
-abbrev pub isKind : Kind → Kind → Bool
-isKind a b = eqb (codeOf a) (codeOf b)
+abbrev pub io : ℕ
+io = 2
+
+abbrev pub protocol : ℕ
+protocol = 3
+
+abbrev pub server : ℕ
+server = 4
+
+abbrev pub too-large : ℕ
+too-large = 5
+
+abbrev pub parse-lsn : ℕ
+parse-lsn = 6
+
+-- the number of an answer
+abbrev pub kindNumber : Kind → ℕ
+kindNumber Usage = usage
+kindNumber Io = io
+kindNumber Protocol = protocol
+kindNumber Server = server
+kindNumber TooLarge = too-large
+kindNumber ParseLsn = parse-lsn
+
+-- the kind of each refusal, by case
+abbrev pub kindOf : Refusal → ℕ
+kindOf IntervalTooLong = usage
+kindOf RunEnded = usage
+kindOf PayloadBufferTooShort = usage
+kindOf OutputTooShort = usage
+kindOf MomentOutOfOrder = usage
+kindOf InvalidLength = protocol
+kindOf MessageTooLarge = too-large
+kindOf EofInHeader = io
+kindOf EofInPayload = io
+kindOf EmptyCopyData = protocol
+kindOf XLogDataTooShort = protocol
+kindOf KeepaliveTooShort = protocol
+kindOf UnknownCopyData = protocol
+kindOf TruncatedI8 = protocol
+kindOf TruncatedI32 = protocol
+kindOf TruncatedI64 = protocol
+kindOf UnterminatedPrefix = protocol
+kindOf ContentTooShort = protocol
+kindOf ServerError = server
+kindOf MalformedDataRow = protocol
+kindOf AuthRequestTooShort = protocol
+kindOf MissingSlash = parse-lsn
+kindOf InvalidHighPart = parse-lsn
+kindOf InvalidLowPart = parse-lsn
+kindOf InputTooLong = usage
+
+-- the kinds by the refusals' numbers, from 0 on, which is no refusal
+abbrev pub kinds : List ℕ
+kinds =
+    0
+    ∷ usage ∷ usage ∷ usage ∷ usage ∷ usage
+    ∷ protocol ∷ too-large ∷ io ∷ io
+    ∷ protocol ∷ protocol ∷ protocol ∷ protocol ∷ protocol ∷ protocol ∷ protocol ∷ protocol ∷ protocol
+    ∷ server ∷ protocol ∷ protocol ∷ parse-lsn ∷ parse-lsn ∷ parse-lsn ∷ usage ∷ []
+
+-- the kind that a number has; 0 for a number that none of these refusals has
+abbrev pub kindAt : ℕ → ℕ
+kindAt n = getD kinds n 0

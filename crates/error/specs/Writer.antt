@@ -1,6 +1,7 @@
--- What every writer answers and leaves: document 01, "Where each call turns back", 4 and 25.
+-- What every writer answers and leaves: SCOPE 3.5; 01, "Where each call turns back", 4 and 25.
 use Prim.Native.Nat.{ℕ}
 use mathlib.Core.List.{List}
+use mathlib.Core.Option.{Option, some, none}
 use lib.ListN.{length}
 use lib.Dec.{leb, ltb}
 use Rattle.wire.specs.Bytes.{pick, put}
@@ -10,7 +11,7 @@ use Rattle.error.specs.declared.Written.the-variants.{Wrote, Refused}
 use Rattle.error.specs.declared.Counted.{Counted}
 use Rattle.error.specs.declared.Counted.the-variants.{Fits, Over}
 
--- document 01's number, 0 for none, and how many bytes were written
+-- the refusal's number, 0 for none, and how many bytes were written
 abbrev pub outcome : Written → ℕ × ℕ
 outcome (Wrote n) = (0, n)
 outcome (Refused r) = (numberOf r, 0)
@@ -28,5 +29,10 @@ writing inputs text out =
     ((0, length text), put out 0 text))
 
 -- a length n, where that is at most the room
-unfoldable pub counted : ℕ → ℕ → Counted
-counted room n = pick (leb n room) (Fits n) Over
+unfoldable pub counted : ℕ → ℕ → Option ℕ
+counted room n = pick (leb n room) (some n) none
+
+-- the values of an answer: the length, or none where it is over the room
+abbrev pub countOf : Counted → Option ℕ
+countOf (Fits n) = some n
+countOf Over = none

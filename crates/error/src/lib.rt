@@ -1,9 +1,10 @@
-// The refusals of document 01, the Rust's kinds of error over them, and the count of lent names that refusal 25 limits.
+// The refusals 1 to 25, the Rust's kind of error for each, and the count of lent names that refusal 25 limits. A crate whose own refusals have
+// further numbers declares an enum of its own, and offers a number and a kind for each of its cases as `Refusal` does here.
 ghost use mathlib.Core.Path.{_≡_};
+ghost use lib.Dec.{eqb};
 ghost use Rattle.error.specs.Inputs.{total};
-ghost use Rattle.error.specs.Writer.{counted};
-ghost use Rattle.error.specs.Refusal.{numberOf, kindOf, codeOf, isKind};
-ghost use Rattle.error.specs.declared.Kind.{Kind};
+ghost use Rattle.error.specs.Writer.{counted, countOf};
+ghost use Rattle.error.specs.Refusal.{numberOf, kindOf, kindAt, kindNumber, io, protocol, server, too-large};
 
 pub enum Refusal {
     IntervalTooLong, // an interval above its limit
@@ -16,8 +17,8 @@ pub enum Refusal {
     EofInHeader, // the input ended in a header
     EofInPayload, // the input ended in a payload
     EmptyCopyData, // a CopyData without a byte
-    XLogDataTooShort, // an XLogData with under 24 bytes behind its letter
-    KeepaliveTooShort, // a keepalive with under 17 bytes behind its letter
+    XLogDataTooShort, // an XLogData with under 24 bytes after its letter
+    KeepaliveTooShort, // a keepalive with under 17 bytes after its letter
     UnknownCopyData, // a CopyData of another letter
     TruncatedI8, // a field of 8 bits is cut
     TruncatedI32, // a field of 32 bits is cut
@@ -29,11 +30,11 @@ pub enum Refusal {
     AuthRequestTooShort, // an authentication request has under 4 bytes
     MissingSlash, // a position text has no slash
     InvalidHighPart, // the part before the slash is no hexadecimal number of 64 bits
-    InvalidLowPart, // the part behind the slash is no hexadecimal number of 64 bits
+    InvalidLowPart, // the part after the slash is no hexadecimal number of 64 bits
     InputTooLong, // the call's lent inputs are together above their limit
 }
 
-// The kinds of the Rust's PgWireError that these refusals have, its ParseLsnError, and one that only the caller can bring about.
+// The kinds of the Rust's PgWireError that refusals have, its ParseLsnError, and Usage, which only the caller's own inputs bring about.
 pub enum Kind {
     Usage,
     Io,
@@ -59,7 +60,7 @@ pub enum Counted {
 }
 
 impl Refusal {
-    // Document 01's number.
+    // The refusal's number.
     pub fn number(self) -> u8
         ensures { λ r. ⌜ r ≡ numberOf self ⌝ }
     {
@@ -93,84 +94,139 @@ impl Refusal {
     }
 
     pub fn kind(self) -> Kind
-        ensures { λ r. ⌜ r ≡ kindOf (numberOf self) ⌝ }
+        ensures { λ r. ⌜ kindNumber r ≡ kindOf self ⌝ }
     {
-        let n = self.number();
-        if n <= 5 {
-            Kind::Usage
-        } else if n <= 6 {
-            Kind::Protocol
-        } else if n <= 7 {
-            Kind::MessageTooLarge
-        } else if n <= 9 {
-            Kind::Io
-        } else if n <= 18 {
-            Kind::Protocol
-        } else if n <= 19 {
-            Kind::Server
-        } else if n <= 21 {
-            Kind::Protocol
-        } else if n <= 24 {
-            Kind::ParseLsn
-        } else {
-            Kind::Usage
+        match self {
+            Refusal::IntervalTooLong => Kind::Usage,
+            Refusal::RunEnded => Kind::Usage,
+            Refusal::PayloadBufferTooShort => Kind::Usage,
+            Refusal::OutputTooShort => Kind::Usage,
+            Refusal::MomentOutOfOrder => Kind::Usage,
+            Refusal::InvalidLength => Kind::Protocol,
+            Refusal::MessageTooLarge => Kind::MessageTooLarge,
+            Refusal::EofInHeader => Kind::Io,
+            Refusal::EofInPayload => Kind::Io,
+            Refusal::EmptyCopyData => Kind::Protocol,
+            Refusal::XLogDataTooShort => Kind::Protocol,
+            Refusal::KeepaliveTooShort => Kind::Protocol,
+            Refusal::UnknownCopyData => Kind::Protocol,
+            Refusal::TruncatedI8 => Kind::Protocol,
+            Refusal::TruncatedI32 => Kind::Protocol,
+            Refusal::TruncatedI64 => Kind::Protocol,
+            Refusal::UnterminatedPrefix => Kind::Protocol,
+            Refusal::ContentTooShort => Kind::Protocol,
+            Refusal::ServerError => Kind::Server,
+            Refusal::MalformedDataRow => Kind::Protocol,
+            Refusal::AuthRequestTooShort => Kind::Protocol,
+            Refusal::MissingSlash => Kind::ParseLsn,
+            Refusal::InvalidHighPart => Kind::ParseLsn,
+            Refusal::InvalidLowPart => Kind::ParseLsn,
+            Refusal::InputTooLong => Kind::Usage,
         }
     }
 
     pub fn is_kind(self, k: Kind) -> bool
-        ensures { λ r. ⌜ r ≡ isKind (kindOf (numberOf self)) k ⌝ }
+        ensures { λ r. ⌜ r ≡ eqb (kindOf self) (kindNumber k) ⌝ }
     {
-        code(self.kind()) == code(k)
+        self.kind().number() == k.number()
     }
 
     pub fn is_io(self) -> bool
-        ensures { λ r. ⌜ r ≡ isKind (kindOf (numberOf self)) Kind.Io ⌝ }
+        ensures { λ r. ⌜ r ≡ eqb (kindOf self) io ⌝ }
     {
         self.is_kind(Kind::Io)
     }
 
     pub fn is_protocol(self) -> bool
-        ensures { λ r. ⌜ r ≡ isKind (kindOf (numberOf self)) Kind.Protocol ⌝ }
+        ensures { λ r. ⌜ r ≡ eqb (kindOf self) protocol ⌝ }
     {
         self.is_kind(Kind::Protocol)
     }
 
     pub fn is_server(self) -> bool
-        ensures { λ r. ⌜ r ≡ isKind (kindOf (numberOf self)) Kind.Server ⌝ }
+        ensures { λ r. ⌜ r ≡ eqb (kindOf self) server ⌝ }
     {
         self.is_kind(Kind::Server)
     }
 
     pub fn is_message_too_large(self) -> bool
-        ensures { λ r. ⌜ r ≡ isKind (kindOf (numberOf self)) Kind.MessageTooLarge ⌝ }
+        ensures { λ r. ⌜ r ≡ eqb (kindOf self) too-large ⌝ }
     {
         self.is_kind(Kind::MessageTooLarge)
     }
 
-    // Whether a new connection may help: of the Rust's two such kinds no refusal is a task's.
+    // Whether a new connection may help.
     pub fn is_transient(self) -> bool
-        ensures { λ r. ⌜ r ≡ isKind (kindOf (numberOf self)) Kind.Io ⌝ }
+        ensures { λ r. ⌜ r ≡ eqb (kindOf self) io ⌝ }
     {
-        self.is_kind(Kind::Io)
+        self.kind().is_transient()
     }
 }
 
-fn code(k: Kind) -> u8
-    ensures { λ r. ⌜ r ≡ codeOf k ⌝ }
-{
-    match k {
-        Kind::Usage => 0,
-        Kind::Io => 1,
-        Kind::Protocol => 2,
-        Kind::Server => 3,
-        Kind::MessageTooLarge => 4,
-        Kind::ParseLsn => 5,
+impl Kind {
+    // A number of its own for each kind, from 1 on, so that 0 can stand for none.
+    pub fn number(self) -> u8
+        ensures { λ r. ⌜ r ≡ kindNumber self ⌝ }
+    {
+        match self {
+            Kind::Usage => 1,
+            Kind::Io => 2,
+            Kind::Protocol => 3,
+            Kind::Server => 4,
+            Kind::MessageTooLarge => 5,
+            Kind::ParseLsn => 6,
+        }
     }
+
+    // Whether a new connection may help. The Rust has two such kinds, and no refusal is of the other, a task's.
+    pub fn is_transient(self) -> bool
+        ensures { λ r. ⌜ r ≡ eqb (kindNumber self) io ⌝ }
+    {
+        self.number() == 2
+    }
+}
+
+// The kinds' numbers by the refusals' numbers, from 0 on, which is no refusal.
+const KINDS: [u8; 26] = [
+    0,
+    1,
+    1,
+    1,
+    1,
+    1,
+    3,
+    5,
+    2,
+    2,
+    3,
+    3,
+    3,
+    3,
+    3,
+    3,
+    3,
+    3,
+    3,
+    4,
+    3,
+    3,
+    6,
+    6,
+    6,
+    1,
+];
+
+// The number of the kind that a refusal's number has, 0 where no refusal of this crate has the number.
+pub fn kind_by_number(number: u8) -> u8
+    ensures { λ r. ⌜ r ≡ kindAt number ⌝ }
+{
+    let i = number as usize;
+    if i < 26 { KINDS[i] } else { 0 }
 }
 
 // The bytes of all names together, where they are at most room.
 pub fn inputs_len(names: &[&[u8]], room: usize) -> Counted
-    ensures { λ r. ⌜ r ≡ counted room (total (now (names .entry))) ⌝ }
+    ensures { λ r. ⌜ countOf r ≡ counted room (total (now (names .entry))) ⌝ }
 {
     let mut sum: usize = 0;
     let mut i: usize = 0;

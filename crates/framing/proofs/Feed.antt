@@ -49,7 +49,7 @@ header-judged limit r u e p k h ek eh l = rw (← ek, ← eh) (simp (le-ltb _ _ 
 
 -- ---- lists
 
--- the first bytes of a list and those behind
+-- the first bytes of a list and those after
 take-seam : (a b : List ℕ) (n : ℕ) → length a ≤ n → take n (a ++ b) ≡ a ++ take (n - length a) b
 take-seam a b n h =
     let e : length a + (n - length a) ≡ n = omega arith in
@@ -60,7 +60,7 @@ drop-seam a b n h =
     let e : length a + (n - length a) ≡ n = omega arith in
     ap (λ (k : ℕ). drop k (a ++ b)) (sym e) ∙ drop-append-add a b (n - length a)
 
--- a write behind bytes that are there is a write of all from the front
+-- a write after bytes that are there is a write of all from the front
 put-front : (p a v : List ℕ) (n : ℕ) → take n p ≡ a → n ≤ length p → put p n v ≡ put p 0 (a ++ v)
 unfolding put
 put-front p a v n e h =
@@ -129,7 +129,7 @@ no-end n m = by-test (eqb m 0) (λ t. simp t) (λ t. simp t)
 some-unread : (n m : ℕ) (e : Bool) → 0 < m → unfinished n m e ≡ more
 some-unread n m e h = let z : m ≡ 0 → ⊥ = λ q. omega arith in simp (ne-eqb _ _ z)
 
--- the cut of one message and nothing behind it
+-- the cut of one message and nothing after it
 cut-bad-alone : (limit : ℕ) (s : List ℕ) → length s ≡ 5 → frontOf limit s ≡ bad-length → cutOf limit s ≡ behind bad (ended [] header)
 cut-bad-alone limit s h f =
     let d : drop 5 s ≡ [] = drop-of-length-le s {i = 5} (omega arith) in

@@ -22,7 +22,7 @@ copied-all d src q r h e =
     let m : min (length src) (length d) ≡ length src = omega arith in
     ap (λ (x : ℕ × List ℕ). x .1) e ∙ rw (m, take-all (length src) src (omega arith))
 
--- the payload buffer behind the filled mark has room for what is taken
+-- the payload buffer after the filled mark has room for what is taken
 pub tail-fits : (u p : List ℕ) (k n have len : ℕ) → k ≡ min (n - have) (length u) → n ≡ min len (length p)
     → length (take k u) ≤ length (take (length p - have) (drop have p))
 tail-fits u p k n have len ek en =

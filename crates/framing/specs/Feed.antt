@@ -1,4 +1,4 @@
--- What feeding bytes to a reader gives, in the words of the cut of the bytes, and of no field of the reader.
+-- What a reader answers to the bytes that it is fed, by the cut of these bytes and by no field of the reader. SCOPE 3.3; 01, "Messages".
 use Prim.Native.Nat.{ℕ, _+_, _-_, _≤_}
 use mathlib.Core.Path.{_≡_}
 use mathlib.Core.Bool.{Bool, true, false}
@@ -12,25 +12,27 @@ use Rattle.stream.specs.Cut.{refused as bad}
 use Rattle.framing.specs.declared.MessageReader.{MessageReader}
 use Rattle.framing.specs.Read.{Said, more, whole, refused, fresh, limitOf, Result, unfinished, readOf}
 
--- ---- one read, by the cut of what the reader holds of a message and the unread bytes behind it
+-- ---- one read, by the cut of what the reader holds of a message and the unread bytes after it
 
--- the first item, or why there is none: the input's end is 8 in a header, 9 in a payload, where no byte is unread
+-- the answer where the cut finds no item: the input's end is 8 in a header and 9 in a payload, where no byte is unread
 abbrev pub endTold : Ending → ℕ → Bool → Said
 endTold header unread e = unfinished 8 unread e
 endTold payload unread e = unfinished 9 unread e
 endTold over unread e = refused 7
 
+-- the answer by the first item of the cut
 abbrev pub told : List Item → Ending → ℕ → Bool → Said
 told [] end unread e = endTold end unread e
 told (message tag p ∷ is) end unread e = whole tag (length p)
 told (bad ∷ is) end unread e = refused 6
 
--- how many bytes of s its first item has; where there is none, all of them, and of a message over the limit the header
+-- how many bytes of s are used where the cut finds no item: all of them, and of a message over the limit the header
 abbrev pub endSpan : Ending → List ℕ → ℕ
 endSpan header s = length s
 endSpan payload s = length s
 endSpan over s = 5
 
+-- how many bytes of s its first item has
 abbrev pub span : List Item → Ending → List ℕ → ℕ
 span [] end s = endSpan end s
 span (message tag p ∷ is) end s = 5 + length p
@@ -56,12 +58,13 @@ pub record Holds (s : List ℕ) (r : MessageReader) (p : List ℕ) : Type 0 wher
   pub size : 5 ≤ length s → r .«payload_len» ≡ lengthField s - 4
   pub front : take (length s - 5) p ≡ drop 5 s
 
--- a reader behind bytes that were cut so
+-- the reader after bytes whose cut ends so: it holds the rest s, or it remembers refusal 7
 abbrev pub standsBy : Ending → List ℕ → MessageReader → List ℕ → Type 0
 standsBy header s r p = Holds s r p
 standsBy payload s r p = Holds s r p
 standsBy over s r p = r .refused ≡ true
 
+-- the same of a cut
 abbrev pub Stands : Cut → MessageReader → List ℕ → Type 0
 Stands c r p = standsBy (c .ending) (c .rest) r p
 
@@ -71,7 +74,7 @@ itemOf more p = []
 itemOf (whole tag n) p = message tag (take n p) ∷ []
 itemOf (refused n) p = pick (eqb n 6) (bad ∷ []) []
 
--- a read, after the bytes b: its answer, what it took, the whole buffer, where the reader then stands, and what it hands on
+-- a read of the unread bytes u, after the bytes b: its answer, what it takes, the whole buffer, the reader after it, and what it hands on
 pub record Reads (limit : ℕ) (b u : List ℕ) (e : Bool) (p : List ℕ) (x : Result) : Type 0 where
   pub answer : let s = cutOf limit b .rest ++ u in let c = cutOf limit s in x .0 ≡ told (c .items) (c .ending) (length u) e
   pub taken : let s = cutOf limit b .rest ++ u in let c = cutOf limit s in x .2 ≡ span (c .items) (c .ending) s - length (cutOf limit b .rest)
@@ -97,13 +100,13 @@ feedOne setting bytes f o =
     let x : Result = readOf setting (f .1) (take (o .unread) (drop (f .2) bytes)) (o .ended) (f .3) in
     (f .0 ++ itemOf (x .0) (x .3), x .1, f .2 + x .2, x .3)
 
--- offer behind offer
+-- offer after offer
 unfoldable pub feedAll : ℕ → List ℕ → Fed → List Offer → Fed
 feedAll setting bytes f [] = f
 feedAll setting bytes f (o ∷ os) = feedAll setting bytes (feedOne setting bytes f o) os
 
--- however bytes are offered to a fresh reader with a buffer as long as the limit: what was handed on are the items of the cut of the bytes
--- taken, and the reader stands behind them
+-- however bytes are offered to a fresh reader with a buffer as long as the limit: what it hands on are the items of the cut of the bytes that
+-- it took, and it holds the rest of that cut
 abbrev pub Fed-is-cut : Type 0
 Fed-is-cut =
     (setting : ℕ) (bytes p : List ℕ) → limitOf setting ≤ length p → (os : List Offer)
@@ -111,7 +114,7 @@ Fed-is-cut =
     let c = cutOf (limitOf setting) (take (f .2) bytes) in
     (f .0 ≡ c .items) × (f .2 ≤ length bytes) × Stands c (f .1) (f .3) × (length (f .3) ≡ length p)
 
--- .. and the next read is as the cut says
+-- the next read of such a reader answers, takes and stores what the cut says
 abbrev pub Read-is-cut : Type 0
 Read-is-cut =
     (setting : ℕ) (b u : List ℕ) (e : Bool) (r : MessageReader) (p : List ℕ) → limitOf setting ≤ length p

@@ -1,4 +1,4 @@
--- One read: document 01, "`MessageReader::read` is the reference", with refusals 3 and 6 to 9.
+-- One read of the Rust's `MessageReader::read`, with refusals 3 and 6 to 9. SCOPE 3.2, 3.3, 3.4; 01, "Messages".
 use Prim.Native.Nat.{ℕ, _+_, _-_, min}
 use mathlib.Core.Bool.{Bool, true, false}
 use mathlib.Core.List.{List, [], _∷_}
@@ -12,7 +12,7 @@ use Rattle.framing.specs.declared.MessageReader.{MessageReader}
 use Rattle.framing.specs.declared.Answer.{Answer}
 use Rattle.framing.specs.declared.Answer.the-variants.{More, Whole, Refused}
 
--- what an answer says: more bytes are needed; a message is whole, its tag and its payload's length; or document 01's number
+-- what an answer says: more bytes are needed; a message is whole, its tag and its payload's length; or 01's number of a refusal
 pub data Said : Type 0 where
   more : Said
   whole : ℕ → ℕ → Said
@@ -23,7 +23,7 @@ saidBy More = more
 saidBy (Whole tag n) = whole tag n
 saidBy (Refused r) = refused (numberOf r)
 
--- "the limit is the smaller of the setting and 1,073,741,824"
+-- the limit: the setting, and at most 1 GiB
 abbrev pub limitOf : ℕ → ℕ
 limitOf setting = min setting 1073741824
 
@@ -54,7 +54,8 @@ later k s = (s .0, s .1, k + s .2, s .3)
 abbrev pub unfinished : ℕ → ℕ → Bool → Said
 unfinished n unread e = pick (eqb unread 0) (pick e (refused n) more) more
 
--- the payload bytes that are lacking, stored from the filled mark onward. A reader that no call made is held to the buffer's length
+-- the payload bytes that the message lacks, put into the buffer after those that are there. A reader that no call made is held to the buffer's
+-- length
 unfoldable pub payloadOf : MessageReader → List ℕ → Bool → List ℕ → Result
 payloadOf r u e p =
     let n : ℕ = min (r .«payload_len») (length p) in
@@ -65,7 +66,7 @@ payloadOf r u e p =
     (pick (ltb (have + k) n) (unfinished 9 (length u) e, at-byte (r .header) (r .filled + k) (r .«payload_len»), k, put p have (take k u))
     (whole tag n, fresh, k, put p have (take k u)))
 
--- a whole header: its length is judged, and the payload begins; these bytes were read now, so the input's end does not count
+-- a whole header: its length is judged, and the payload begins. Bytes were read in this call, so the input's end does not count
 unfoldable pub judgedOf : ℕ → List ℕ → List ℕ → List ℕ → Result
 judgedOf limit h u p =
     let n : ℕ = lengthField h in
@@ -74,7 +75,7 @@ judgedOf limit h u p =
     (pick (ltb limit (n - 4)) (refused 7, shut, 0, p)
     (payloadOf (at-byte h 5 (n - 4)) u false p)))
 
--- the header bytes that are lacking
+-- the header bytes that the message lacks
 unfoldable pub headerOf : ℕ → MessageReader → List ℕ → Bool → List ℕ → Result
 headerOf limit r u e p =
     let k : ℕ = min (5 - r .filled) (length u) in

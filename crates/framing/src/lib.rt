@@ -17,8 +17,8 @@ pub const MAX_MESSAGE_SIZE: usize = 1073741824;
 
 const FIRST_NEGATIVE: usize = wire::field::FIRST_NEGATIVE_32 as usize;
 
-// What is there of a message: its header bytes, how many bytes came, header and payload together, the payload's length once the header is
-// there, and whether a message over the limit was met.
+// What a reader holds of a message: its header bytes, how many bytes came, header and payload together, the payload's length once the header
+// is there, and whether a message over the limit was met.
 pub struct MessageReader {
     pub header: [u8; 5],
     pub filled: usize,
@@ -51,7 +51,7 @@ impl MessageReader {
     }
 }
 
-// The smaller of the setting and the largest limit.
+// A setting above the largest limit counts as that limit.
 pub fn limit_of(setting: usize) -> usize
     ensures { λ r. ⌜ r ≡ limitOf setting ⌝ }
 {
@@ -108,7 +108,7 @@ fn length_of(header: &[u8; 5]) -> u32
     }
 }
 
-// The bytes over the header from `from` on.
+// The header with the bytes written over it from `from` on.
 fn head_with(header: [u8; 5], from: usize, src: &[u8]) -> [u8; 5]
     requires { ⌜ from + length (now src) ≤ 5 ⌝ }
     ensures { λ r. ⌜ r ≡ put header from (now (src .entry)) ⌝ }
@@ -124,7 +124,7 @@ fn behind_header(filled: usize) -> usize
     if filled < 5 { 0 } else { filled - 5 }
 }
 
-// The payload bytes that are lacking, stored from the filled mark onward.
+// Takes the payload bytes that the message lacks. The tail of the buffer, from the filled mark on, is lent to the copying leaf.
 fn fill_payload(r: MessageReader, unread: &[u8], ended: bool, payload: &mut [u8]) -> ReadStep
     ensures { λ s. ⌜ (saidBy (s .answer), s .reader, s .taken, now (payload .exit)) ≡ payloadOf r (now (unread .entry)) ended (now (payload .entry)) ⌝ }
 {
@@ -157,7 +157,7 @@ fn fill_payload(r: MessageReader, unread: &[u8], ended: bool, payload: &mut [u8]
     }
 }
 
-// A whole header: its length is judged, and the payload begins.
+// Judges the length of a whole header, and begins the payload.
 fn judge(limit: usize, header: [u8; 5], unread: &[u8], payload: &mut [u8]) -> ReadStep
     ensures { λ s. ⌜ (saidBy (s .answer), s .reader, s .taken, now (payload .exit)) ≡ judgedOf limit header (now (unread .entry)) (now (payload .entry)) ⌝ }
 {
@@ -186,7 +186,7 @@ fn judge(limit: usize, header: [u8; 5], unread: &[u8], payload: &mut [u8]) -> Re
     fill_payload(at_byte(header, 5, n - 4), unread, false, payload)
 }
 
-// The header bytes that are lacking.
+// Takes the header bytes that the message lacks.
 fn fill_header(
     limit: usize,
     r: MessageReader,
@@ -219,7 +219,7 @@ fn fill_header(
 }
 
 impl MessageReader {
-    // Takes of the unread bytes what the message still lacks. A whole message's payload stands at the buffer's front.
+    // Takes unread bytes up to the end of the message. A whole message's payload stands at the buffer's front.
     pub fn read(
         self,
         max_message_size: usize,

@@ -14,7 +14,7 @@ use Rattle.wire.specs.Int.{intBytes}
 use Rattle.wire.proofs.Laws.{length-beBytes}
 use Rattle.wire.proofs.FieldLaws.{beBytes-one}
 use Rattle.wire.proofs.Pieces.{Filling, filling-start, filling-next}
-use Rattle.error.specs.Inputs.{total, none, nameAt}
+use Rattle.error.specs.Inputs.{total, noName, nameAt}
 use Rattle.stream.specs.Message.{framed}
 use Rattle.frontend.specs.Frontend.{query, flag, statusBody, pairs, startup}
 use Rattle.frontend.specs.Code.{header, strings}
@@ -57,11 +57,11 @@ pub length-status : (p : ℕ) (t : ℤ) (r : Bool) → length (statusBody p t r)
 unfolding statusBody
 length-status p t r = simp (length-append, length-beBytes)
 
--- ---- texts with a zero byte behind each
+-- ---- texts with a zero byte after each
 
 pub strings-next : (texts : List (RefT (List ℕ))) (i : ℕ) → i < length texts → strings (drop i texts) ≡ nameAt texts i ++ (beBytes 1 0 ++ strings (drop (i + 1) texts))
 unfolding strings beBytes
-strings-next texts i h = rw (add-one, drop-cons texts i none h)
+strings-next texts i h = rw (add-one, drop-cons texts i noName h)
 
 pub strings-end : (texts : List (RefT (List ℕ))) (i : ℕ) → length texts ≤ i → strings (drop i texts) ≡ []
 unfolding strings

@@ -68,14 +68,14 @@ module _ (version : ℤ) (texts : List (RefT (List ℕ))) where
       let n : length (startup version texts) ≡ length b + 4 = length-append (beBytes 4 (length b + 4)) b ∙ omega (arith, length-beBytes 4 (length b + 4)) in
       rw (append-assoc (beBytes 4 (length b + 4)) b rest, n) (field-read 4 (beBytes 4 (length b + 4) ++ (b ++ rest)) 0 (length b + 4) (b ++ rest) (omega arith) (omega arith) refl .0)
 
-  -- behind it stand the version and the texts
+  -- after it stand the version and the texts
   fields-back : mag version < half 4 → (intAt 4 (startup version texts) 4 ≡ some version) × (drop 8 (startup version texts) ≡ pairs texts)
   unfolding startup
   fields-back h =
       let b : List ℕ = intBytes 4 version ++ pairs texts in
       int-read 4 (startup version texts) 4 (omega arith) version (pairs texts) h (drop-at (beBytes 4 (length b + 4)) b 4 (length-beBytes 4 (length b + 4)))
 
-  -- a startup message of texts without zero bytes and of names that are not empty is read back, with the bytes behind it
+  -- a startup message of texts without zero bytes and of names that are not empty is read back, with the bytes after it
   pub startup-back : (rest : List ℕ) → mag version < half 4 → Sendable texts → length (startup version texts) < half 4
       → startupOf (startup version texts ++ rest) ≡ some (record { version = version; parameters = paired texts; rest = rest })
   unfolding startupOf

@@ -1,4 +1,4 @@
--- The messages as the code goes through them: a header, and texts one behind the other.
+-- The messages as the code goes through them: a header, and texts one after the other.
 use Prim.Native.Nat.{ℕ, _+_}
 use mathlib.Core.List.{List, [], _∷_, _++_}
 use denote.Ref.{RefT, now}
@@ -8,7 +8,7 @@ use Rattle.wire.specs.Bytes.{beBytes}
 unfoldable pub header : ℕ → ℕ → List ℕ
 header tag n = tag ∷ beBytes 4 (n + 4)
 
--- the texts, each with a zero byte behind it
+-- the texts, each with a zero byte after it
 unfoldable pub strings : List (RefT (List ℕ)) → List ℕ
 strings [] = []
 strings (t ∷ ts) = now t ++ (0 ∷ strings ts)

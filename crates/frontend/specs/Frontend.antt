@@ -1,5 +1,6 @@
 -- The messages that a client sends: PostgreSQL documentation, "Message Formats" (Query, CopyData, CopyDone, Terminate, StartupMessage), and
--- "Streaming Replication Protocol" (Standby status update). A String ends in a zero byte.
+-- "Streaming Replication Protocol" (Standby status update). A String ends in a zero byte. SCOPE 3.6, 3.7; 01, "Messages". ReadBack.antt
+-- has the reader of these messages.
 use Prim.Native.Nat.{ℕ, _+_}
 use mathlib.Core.Bool.{Bool, true, false}
 use mathlib.Core.List.{List, [], _∷_, _++_}
@@ -30,8 +31,8 @@ abbrev pub flag : Bool → ℕ
 flag true = 1
 flag false = 0
 
--- Standby status update: Byte1('r'), Int64 written, Int64 flushed, Int64 applied, Int64 client time, Byte1 reply. Document 01: the position
--- three times
+-- Standby status update: Byte1('r'), Int64 written, Int64 flushed, Int64 applied, Int64 client time, Byte1 reply. The one position
+-- stands for all three
 unfoldable pub statusBody : ℕ → ℤ → Bool → List ℕ
 statusBody position time reply =
     114 ∷ (beBytes 8 position
@@ -44,7 +45,7 @@ statusBody position time reply =
 unfoldable pub statusUpdate : ℕ → ℤ → Bool → List ℕ
 statusUpdate position time reply = copyData (statusBody position time reply)
 
--- names and values in turn, a zero byte behind the last pair. A name without a value has the empty one
+-- names and values in turn, a zero byte after the last pair. A name without a value has the empty one
 unfoldable pub pairs : List (RefT (List ℕ)) → List ℕ
 pairs [] = 0 ∷ []
 pairs (name ∷ []) = now name ++ (0 ∷ 0 ∷ 0 ∷ [])

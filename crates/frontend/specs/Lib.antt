@@ -1,3 +1,5 @@
 pub mod Code
 pub mod Frontend
 pub mod Startup
+pub mod ReadBack
+pub mod Cases

@@ -1,5 +1,5 @@
 -- A startup message read back: PostgreSQL documentation, "Message Formats" (StartupMessage). Int32 length, Int32 version, then names and
--- values in turn, each a String; a zero byte as a terminator behind the last pair.
+-- values in turn, each a String; a zero byte as a terminator after the last pair. SCOPE 3.6; 01, "Messages".
 use mathlib.Core.Path.{_≡_}
 use mathlib.Core.List.{List, [], _∷_}
 use mathlib.Core.Option.{Option, some, none}
@@ -12,25 +12,23 @@ use Rattle.wire.specs.Bytes.{pick}
 use Rattle.wire.specs.Field.{andThen, fieldAt}
 use Rattle.wire.specs.Int.{isNegative, intAt}
 use Rattle.wire.specs.Find.{indexOf, NoZero}
-use Rattle.wire.specs.declared.find.Found.{Found}
-use Rattle.wire.specs.declared.find.Found.the-variants.{At, Nothing}
 
--- what a startup message says, and the bytes behind it
+-- what a startup message says, and the bytes after it
 pub record Startup : Type 0 where
   pub version : ℤ
   pub parameters : List (List ℕ × List ℕ)
   pub rest : List ℕ
 
--- a String at the front: the bytes before the first zero byte, and those behind it
-abbrev pub stringBy : List ℕ → Found → Option (List ℕ × List ℕ)
-stringBy s Nothing = none
-stringBy s (At i) = some (take i s, drop (i + 1) s)
+-- a String at the front: the bytes before the first zero byte, and those after it
+abbrev pub stringBy : List ℕ → Option ℕ → Option (List ℕ × List ℕ)
+stringBy s none = none
+stringBy s (some i) = some (take i s, drop (i + 1) s)
 
--- .. where there is one
+-- the String at the front, where a zero byte ends one
 unfoldable pub stringOf : List ℕ → Option (List ℕ × List ℕ)
 stringOf s = stringBy s (indexOf 0 s)
 
--- by a name and the bytes behind it: an empty name is the terminator, behind which nothing stands; any other has a value
+-- by a name and the bytes after it: an empty name is the terminator, after which nothing stands; any other has a value
 abbrev pub pairBy : List ℕ → List ℕ → (List ℕ → Option (List (List ℕ × List ℕ))) → Option (List (List ℕ × List ℕ))
 pairBy [] [] go = some []
 pairBy [] (b ∷ s) go = none
@@ -45,14 +43,14 @@ pairsFrom (suc n) s = andThen (stringOf s) (λ name. pairBy (name .0) (name .1) 
 unfoldable pub pairsOf : List ℕ → Option (List (List ℕ × List ℕ))
 pairsOf s = pairsFrom (length s) s
 
--- by the bytes of a message, its length field with them, and those behind it
+-- by the bytes of a message, its length field with them, and those after it
 abbrev pub startupBy : List ℕ → List ℕ → Option Startup
 startupBy m rest =
     andThen (intAt 4 m 4) (λ version.
     andThen (pairsOf (drop 8 m)) (λ pairs.
     some (record { version = version; parameters = pairs; rest = rest })))
 
--- a message of as many bytes as its length field says, which is no negative number
+-- a startup message at the front: as many bytes as its length field says, which is no negative number
 unfoldable pub startupOf : List ℕ → Option Startup
 startupOf s =
     andThen (fieldAt 4 s 0) (λ n.

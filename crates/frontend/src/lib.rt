@@ -14,7 +14,7 @@ use error::Refusal;
 use error::Written;
 use lsn::Lsn;
 
-// The place behind a header, which stands at the front.
+// Places a header at the front, and answers the place after it.
 fn place_header(out: &mut [u8], tag: u8, n: usize) -> usize
     requires { ⌜ n + 5 ≤ length (now out) ⌝ }
     ensures { λ r. ⌜ (r, now (out .exit)) ≡ placed (now (out .entry)) 0 (header tag n) ⌝ }
@@ -73,7 +73,7 @@ pub fn write_terminate(out: &mut [u8]) -> Written
     write_framed(b'X', b"", out)
 }
 
-// The place behind the body of a status update.
+// Places the body of a status update, and answers the place after it.
 fn place_status(out: &mut [u8], to: usize, position: u64, client_time: i64, reply: bool) -> usize
     requires { ⌜ to + 34 ≤ length (now out) ⌝ }
     ensures { λ r. ⌜ (r, now (out .exit)) ≡ placed (now (out .entry)) to (statusBody position «client_time» reply) ⌝ }
@@ -114,7 +114,7 @@ pub fn write_status_update(position: Lsn, client_time: i64, reply: bool, out: &m
     Written::Wrote(39)
 }
 
-// The place behind the texts, each with a zero byte behind it.
+// Places the texts, each with a zero byte after it, and answers the place after the last.
 fn place_strings(out: &mut [u8], at: usize, texts: &[&[u8]]) -> usize
     requires { ⌜ at + length (strings (now texts)) ≤ length (now out) ⌝ }
     ensures { λ r. ⌜ (r, now (out .exit)) ≡ placed (now (out .entry)) at (strings (now (texts .entry))) ⌝ }
@@ -130,7 +130,7 @@ fn place_strings(out: &mut [u8], at: usize, texts: &[&[u8]]) -> usize
     to
 }
 
-// Names and values in turn.
+// The texts are names and values in turn.
 pub fn write_startup(version: i32, texts: &[&[u8]], out: &mut [u8]) -> Written
     ensures { λ r. ⌜ (outcome r, now (out .exit)) ≡ writing (total (now (texts .entry))) (startup version (now (texts .entry))) (now (out .entry)) ⌝ }
 {

@@ -1,4 +1,4 @@
--- Laws of lossy text: it is what its first part becomes and then the lossy text behind that part, however far the parts are counted.
+-- Laws of lossy text: it is what its first part becomes and then the lossy text after that part, however far the parts are counted.
 use mathlib.Core.Path.{_≡_, refl, ap}
 use mathlib.Core.Bool.{Bool, true, false}
 use mathlib.Core.List.{List, [], _∷_, _++_}
@@ -18,7 +18,7 @@ bytes-either true x = refl
 bytes-either false x = refl
 
 -- such a part is so many bytes of the front
-part-size : (row : List Range) (s : List ℕ) → (n : ℕ) × (1 ≤ n) × (bytesOf (partBy row s) ≡ take n s)
+pub part-size : (row : List Range) (s : List ℕ) → (n : ℕ) × (1 ≤ n) × (bytesOf (partBy row s) ≡ take n s)
 part-size [] s = (1, omega arith, refl)
 part-size (r ∷ row) s = go (matched (r ∷ row) s)
   where

@@ -1,3 +1,5 @@
 pub mod Laws
 mod Table
 mod Turns
+pub mod Parts
+pub mod Encoding

@@ -13,23 +13,23 @@ use borrow.Author.Tests.{le-leb, lt-leb}
 use Rattle.wire.specs.Bytes.{pick}
 use Rattle.lossy.specs.WellFormed.{Range, within, table, rowOf, matched}
 use Rattle.lossy.specs.Lossy.{well, ill, partBy}
-use Rattle.lossy.specs.Code.{behindFirst, firstIn, cutOf, PartAt}
+use Rattle.lossy.specs.Code.{behindFirst, firstIn, partFound, PartAt}
 
 -- ---- the row of a byte
 
--- the byte stands behind the first ranges of all the rows
+-- the byte stands after the first ranges of all the rows
 abbrev pub Behind : List (List Range) → ℕ → Type 0
 Behind [] b = Unit {0}
 Behind ([] ∷ rows) b = Behind rows b
 Behind ((r ∷ rs) ∷ rows) b = (r .high < b) × Behind rows b
 
--- .. before them
+-- the byte stands before the first ranges of all the rows
 abbrev pub Before : List (List Range) → ℕ → Type 0
 Before [] b = Unit {0}
 Before ([] ∷ rows) b = Before rows b
 Before ((r ∷ rs) ∷ rows) b = (b < r .low) × Before rows b
 
--- .. in that of the next row
+-- the byte is in the first range of the next row
 abbrev pub Here : List (List Range) → ℕ → Type 0
 Here [] b = ⊥
 Here ([] ∷ rows) b = ⊥
@@ -94,7 +94,7 @@ unfolding matched
 matched-first r rs [] = refl
 matched-first r rs (b ∷ s) = refl
 
-matched-fits : (rs : List Range) (s : List ℕ) → matched rs s ≤ length s
+pub matched-fits : (rs : List Range) (s : List ℕ) → matched rs s ≤ length s
 unfolding matched
 matched-fits [] s = omega arith
 matched-fits (r ∷ rs) [] = omega arith
@@ -109,7 +109,7 @@ matched-ends rs s i n h e =
     let m : matched rs (drop i s) ≤ length s - i = simp length-drop at (matched-fits rs (drop i s)) in
     omega arith
 
--- .. the first k ranges of a row: none is left, the next byte is in the next range, or not
+-- the first k ranges of a row: none is left, the next byte is in the next range, or it is not
 pub matched-end : (k : ℕ) (rs : List Range) (s : List ℕ) → k ≡ 0 → 0 ≡ matched (take k rs) s
 unfolding matched
 matched-end k rs s e = rw e
@@ -133,14 +133,14 @@ pub matched-stop : (k at : ℕ) (r : Range) (rs : List Range) (s : List ℕ) {t 
     → 0 ≡ matched (take k (r ∷ rs)) (drop at s)
 matched-stop k at r rs s {t} h e y = rw (matched-turn k at (at + 1) r rs s t h refl e, y)
 
--- ---- the part at a place, by the ranges behind its first byte
+-- ---- the part at a place, by the ranges after its first byte
 
 part-ill : (row rs : List Range) (s : List ℕ) → (false, rs) ≡ behindFirst row → partBy row s ≡ ill (take 1 s)
 part-ill [] rs s e = refl
 part-ill (r ∷ row) rs s e = let z : false ≡ true = ap (λ (p : Bool × List Range). p .0) e in cc
 
 part-begun : (row rs : List Range) (b : ℕ) (s : List ℕ) (n : ℕ) → Own row b → (true, rs) ≡ behindFirst row → n ≡ matched rs s
-    → partBy row (b ∷ s) ≡ cutOf (record { len = 1 + n; well = eqb n (length rs) }) (b ∷ s)
+    → partBy row (b ∷ s) ≡ partFound (record { len = 1 + n; well = eqb n (length rs) }) (b ∷ s)
 part-begun [] rs b s n o e m = let z : true ≡ false = ap (λ (p : Bool × List Range). p .0) e in cc
 part-begun (r ∷ row) rs b s n o e m =
     let q : rs ≡ row = ap (λ (p : Bool × List Range). p .1) e in

@@ -1,4 +1,4 @@
--- A turn of the loops: a part that was found, and the lossy text behind it.
+-- A turn of the loops: a part that was found, and the lossy text after it.
 use mathlib.Core.Path.{_≡_, refl, ap, _∙_}
 use mathlib.Core.Bool.{Bool, true, false}
 use mathlib.Core.List.{List, _∷_, _++_}
@@ -9,12 +9,12 @@ use lib.Seq.{drop-cons, drop-drop, length-take-le}
 use Rattle.wire.specs.Bytes.{pick}
 use Rattle.lossy.specs.WellFormed.{table, rowOf}
 use Rattle.lossy.specs.Lossy.{Part, well, ill, partBy, bytesOf, shown, lossyOf}
-use Rattle.lossy.specs.Code.{cutOf, PartAt}
+use Rattle.lossy.specs.Code.{partFound, PartAt}
 use Rattle.lossy.specs.declared.part.Part.{Part as Cut}
 use Rattle.lossy.proofs.Laws.{bytes-either, lossy-next}
 
 -- what a part that was found becomes has so many bytes
-shown-length : (p : Cut) (s : List ℕ) → p .len ≤ length s → length (shown (cutOf p s)) ≡ pick (p .well) (p .len) 3
+shown-length : (p : Cut) (s : List ℕ) → p .len ≤ length s → length (shown (partFound p s)) ≡ pick (p .well) (p .len) 3
 shown-length p s h = go (p .well)
   where
     go : (t : Bool) → length (shown (pick t (well (take (p .len) s)) (ill (take (p .len) s)))) ≡ pick t (p .len) 3
@@ -25,9 +25,9 @@ module _ (s : List ℕ) (i : ℕ) (p : Cut) (h : i < length s) (a : PartAt s i p
   rest : p .len ≤ length (drop i s)
   rest = let e : i + p .len ≤ length s = a .ends in simp length-drop (omega arith)
 
-  pub lossy-turn : lossyOf (drop i s) ≡ shown (cutOf p (drop i s)) ++ lossyOf (drop (i + p .len) s)
+  pub lossy-turn : lossyOf (drop i s) ≡ shown (partFound p (drop i s)) ++ lossyOf (drop (i + p .len) s)
   lossy-turn =
-      let n : length (bytesOf (cutOf p (drop i s))) ≡ p .len = ap length (bytes-either (p .well) (take (p .len) (drop i s))) ∙ length-take-le (p .len) (drop i s) rest in
+      let n : length (bytesOf (partFound p (drop i s))) ≡ p .len = ap length (bytes-either (p .well) (take (p .len) (drop i s))) ∙ length-take-le (p .len) (drop i s) rest in
       next (drop i s) (getD s i 0) (drop (suc i) s) (drop-cons s i 0 h) ∙ rw (a .is, n, drop-drop)
     where
       next : (t : List ℕ) (b : ℕ) (u : List ℕ) → t ≡ b ∷ u → let q : Part = partBy (rowOf table b) t in

@@ -1,4 +1,4 @@
--- What the private functions answer: the ranges behind a first byte, and a part by its length.
+-- What the private functions answer: the ranges after a first byte, and a part by its length.
 use Prim.Native.Nat.{ℕ, _+_, _≤_}
 use mathlib.Core.Path.{_≡_}
 use mathlib.Core.Bool.{Bool, true, false}
@@ -10,7 +10,7 @@ use Rattle.lossy.specs.Lossy.{Part, well, ill, partBy}
 use Rattle.lossy.specs.declared.part.Part.{Part as Cut}
 use Rattle.lossy.specs.declared.part.Lead.{Lead}
 
--- whether a row has a first byte, and the ranges behind it
+-- whether a row has a first byte, and the ranges after it
 abbrev pub behindFirst : List Range → Bool × List Range
 behindFirst [] = (false, [])
 behindFirst (r ∷ rs) = (true, rs)
@@ -25,11 +25,11 @@ firstIn r [] = false
 firstIn r (b ∷ s) = within r b
 
 -- the part of so many bytes at the front of a text
-abbrev pub cutOf : Cut → List ℕ → Part
-cutOf p s = pick (p .well) (well (take (p .len) s)) (ill (take (p .len) s))
+abbrev pub partFound : Cut → List ℕ → Part
+partFound p s = pick (p .well) (well (take (p .len) s)) (ill (take (p .len) s))
 
 -- p is the part of the text at the place
 pub record PartAt (s : List ℕ) (i : ℕ) (p : Cut) : Type 0 where
-  pub is : partBy (rowOf table (getD s i 0)) (drop i s) ≡ cutOf p (drop i s)
+  pub is : partBy (rowOf table (getD s i 0)) (drop i s) ≡ partFound p (drop i s)
   pub some : 1 ≤ p .len
   pub ends : i + p .len ≤ length s

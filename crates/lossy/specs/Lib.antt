@@ -1,3 +1,5 @@
 pub mod WellFormed
 pub mod Lossy
 pub mod Code
+pub mod Parts
+pub mod Encoding

@@ -1,5 +1,6 @@
--- Lossy text: document 01, "each maximal ill-formed part becomes EF BF BD", with the parts of the Unicode Standard, section 3.9,
--- "U+FFFD Substitution of Maximal Subparts".
+-- Lossy text, the Rust's `String::from_utf8_lossy`: U+FFFD stands for each ill-formed part, as the Unicode Standard has it, section 3.9,
+-- "U+FFFD Substitution of Maximal Subparts". SCOPE 2.6; 01, "Texts and positions". Parts.antt says what the parts are; this is how they are
+-- found.
 use Prim.Native.Nat.{ℕ, zero, suc, max}
 use mathlib.Core.List.{List, [], _∷_, _++_}
 use lib.ListN.{length, take, drop}
@@ -40,7 +41,7 @@ abbrev pub shown : Part → List ℕ
 shown (well s) = s
 shown (ill s) = 0xEF ∷ 0xBF ∷ 0xBD ∷ []
 
--- what the parts become, one behind the other
+-- what the parts become, one after the other
 unfoldable pub shownAll : List Part → List ℕ
 shownAll [] = []
 shownAll (p ∷ ps) = shown p ++ shownAll ps
@@ -49,7 +50,7 @@ shownAll (p ∷ ps) = shown p ++ shownAll ps
 unfoldable pub lossyOf : List ℕ → List ℕ
 lossyOf s = shownAll (partsOf (length s) s)
 
--- what the answer says: document 01's number, 0 for none, and how many bytes were written
+-- what the answer says: 01's number, 0 for none, and how many bytes were written
 abbrev pub lossyOutcome : Lossy → ℕ × ℕ
 lossyOutcome (Wrote n) = (0, n)
 lossyOutcome (Refused r) = (numberOf r, 0)

@@ -1,4 +1,4 @@
--- Well-formed UTF-8: the Unicode Standard, section 3.9, Table 3-7 "Well-Formed UTF-8 Byte Sequences".
+-- Well-formed UTF-8: the Unicode Standard, section 3.9, Table 3-7 "Well-Formed UTF-8 Byte Sequences". SCOPE 2.6.
 use Prim.Native.Nat.{ℕ, suc}
 use mathlib.Core.Bool.{Bool, false}
 use mathlib.Core.List.{List, [], _∷_}

@@ -5,12 +5,13 @@ ghost use mathlib.Core.Path.{_≡_};
 ghost use Prim.Native.Nat.{_+_, _≤_};
 ghost use lib.ListN.{length, drop};
 ghost use Rattle.wire.specs.Bytes.{placed, put};
-ghost use Rattle.error.specs.Writer.{writing, counted};
+ghost use Rattle.error.specs.Writer.{writing, counted, countOf};
 ghost use Rattle.lossy.specs.Lossy.{lossyOf, shown, lossyOutcome};
-ghost use Rattle.lossy.specs.Code.{cutOf};
+ghost use Rattle.lossy.specs.Code.{partFound};
 use error::Counted;
 use error::INPUT_LIMIT;
 use error::Refusal;
+use wire::store::NOWHERE;
 
 // What the lossy writer answers.
 pub enum Lossy {
@@ -20,7 +21,7 @@ pub enum Lossy {
 
 // The length of the lossy text, where that is at most room.
 pub fn count(text: &[u8], room: usize) -> Counted
-    ensures { λ r. ⌜ r ≡ counted room (length (lossyOf (now (text .entry)))) ⌝ }
+    ensures { λ r. ⌜ countOf r ≡ counted room (length (lossyOf (now (text .entry)))) ⌝ }
 {
     let mut need: usize = 0;
     let mut i: usize = 0;
@@ -36,10 +37,10 @@ pub fn count(text: &[u8], room: usize) -> Counted
     Counted::Fits(need)
 }
 
-// What a part of the text becomes, at the place where it fits, and the place behind it.
+// What a part of the text becomes, at the place where it fits, and the place after it.
 fn place_part(out: &mut [u8], at: usize, text: &[u8], i: usize, p: part::Part) -> usize
     requires { ⌜ i + p .len ≤ length (now text) ⌝ }
-    ensures { λ r. ⌜ (r, now (out .exit)) ≡ placed (now (out .entry)) at (shown (cutOf p (drop i (now (text .entry))))) ⌝ }
+    ensures { λ r. ⌜ (r, now (out .exit)) ≡ placed (now (out .entry)) at (shown (partFound p (drop i (now (text .entry))))) ⌝ }
 {
     let n = p.len;
     if p.well {
@@ -62,15 +63,15 @@ fn fill(out: &mut [u8], to: usize, text: &[u8])
     }
 }
 
-// The place behind the lossy text, written at `to` where it fits.
+// The place after the lossy text, which is written at `to`; where it does not fit, NOWHERE, and nothing is written.
 pub fn place(out: &mut [u8], to: usize, text: &[u8]) -> usize
     ensures { λ r. ⌜ (r, now (out .exit)) ≡ placed (now (out .entry)) to (lossyOf (now (text .entry))) ⌝ }
 {
     if out.len() < to {
-        return to;
+        return NOWHERE;
     }
     let Counted::Fits(n) = count(text, out.len() - to) else {
-        return to;
+        return NOWHERE;
     };
     fill(out, to, text);
     to + n

@@ -13,7 +13,7 @@ pub(crate) struct Part {
     pub well: bool,
 }
 
-// What may follow a first byte: how many bytes are due, and the range of the next of them; those behind it are 80 to BF.
+// What may follow a first byte: how many bytes are due, and the range of the next of them; those after it are 80 to BF.
 pub(crate) struct Lead {
     pub begins: bool,
     pub due: usize,
@@ -32,7 +32,7 @@ fn due(n: usize, low: u8, high: u8) -> Lead
     }
 }
 
-fn none() -> Lead
+fn no_lead() -> Lead
     ensures { λ r. ⌜ r ≡ record { begins = false; due = 0; low = 0x80; high = 0xBF } ⌝ }
 {
     Lead {
@@ -50,7 +50,7 @@ fn lead_of(b: u8) -> Lead
     if b < 0x80 {
         due(0, 0x80, 0xBF)
     } else if b < 0xC2 {
-        none()
+        no_lead()
     } else if b < 0xE0 {
         due(1, 0x80, 0xBF)
     } else if b < 0xE1 {
@@ -68,7 +68,7 @@ fn lead_of(b: u8) -> Lead
     } else if b < 0xF5 {
         due(3, 0x80, 0x8F)
     } else {
-        none()
+        no_lead()
     }
 }
 

@@ -11,7 +11,6 @@ use lib.Dec.{ltb}
 use lib.Bits.{or-shifted}
 use borrow.Author.Tests.{lt-ltb, le-leb, lt-leb, ne-eqb, ltb-true, ltb-false}
 use Rattle.wire.specs.Find.{indexOf}
-use Rattle.wire.specs.declared.find.Found.the-variants.{At}
 use Rattle.wire.specs.Field.{andThen}
 use Rattle.lsn.specs.Hex.{digitOf, valueFrom, hexDigits, hexPart}
 use Rattle.lsn.specs.Position.{positionOf, joined, displayOf}
@@ -74,12 +73,12 @@ hex-above (suc n) x =
     (λ t. simp t (glyph-above x, tt))
     (λ t. simp t (above-snoc (numeral 16 n (x / 16)) (glyphOf (x % 16)) (hex-above n (x / 16)) (glyph-above (x % 16))))
 
-find-seam : (l r : List ℕ) → Above l → indexOf 47 (l ++ (47 ∷ r)) ≡ At (length l)
+find-seam : (l r : List ℕ) → Above l → indexOf 47 (l ++ (47 ∷ r)) ≡ some (length l)
 unfolding indexOf Above
 find-seam [] r a = refl
 find-seam (c ∷ l) r a =
     let n : c ≡ 47 → ⊥ = λ e. omega (arith, a .0) in
-    rw (ne-eqb c 47 n, find-seam l r (a .1)) (ap At (omega arith))
+    rw (ne-eqb c 47 n, find-seam l r (a .1)) (ap some (omega arith))
 
 part-hex : (l : List ℕ) (x : ℕ) → Above l → (length l ≡ 0 → ⊥) → valueFrom 0 l ≡ some x → x < 2 ^ 64 → hexPart l ≡ some x
 unfolding hexPart hexDigits Above
@@ -107,7 +106,7 @@ unfolding positionOf displayOf
 read-back v h =
     let hi : List ℕ = hexText (v / 2 ^ 32) in
     let lo : List ℕ = hexText (v % 2 ^ 32) in
-    let f : indexOf 47 (hi ++ (47 ∷ lo)) ≡ At (length hi) = find-seam hi lo (hex-above 20 (v / 2 ^ 32)) in
+    let f : indexOf 47 (hi ++ (47 ∷ lo)) ≡ some (length hi) = find-seam hi lo (hex-above 20 (v / 2 ^ 32)) in
     let t : take (length hi) (hi ++ (47 ∷ lo)) ≡ hi = take-append-seam hi (47 ∷ lo) in
     let d : drop (length hi + 1) (hi ++ (47 ∷ lo)) ≡ lo = drop-append-add hi (47 ∷ lo) 1 in
     rw (f, t, d, half (v / 2 ^ 32) (omega arith), half (v % 2 ^ 32) (omega arith), joined-halves v h)

@@ -20,7 +20,7 @@ digitOf c =
     (pick (between 97 102 c) (some (c - 87))
     none))
 
--- the number that the digits spell behind acc; none where one is no digit
+-- the number that the digits spell after acc; none where one is no digit
 unfoldable pub valueFrom : ℕ → List ℕ → Option ℕ
 valueFrom acc [] = some acc
 valueFrom acc (c ∷ s) = andThen (digitOf c) (λ d. valueFrom (acc * 16 + d) s)
@@ -34,7 +34,7 @@ unfoldable pub hexDigits : List ℕ → Option ℕ
 hexDigits [] = none
 hexDigits (c ∷ s) = andThen (valueFrom 0 (c ∷ s)) in64
 
--- one part of a position text. Document 01: "each part is a `u64` hexadecimal text, leading plus sign and zeros allowed"
+-- one part of a position text: hexadecimal digits of a number of 64 bits, as many zeros before them as there are, and a plus sign before all. SCOPE 2.1
 unfoldable pub hexPart : List ℕ → Option ℕ
 hexPart [] = none
 hexPart (c ∷ s) = pick (eqb c 43) (hexDigits s) (hexDigits (c ∷ s))

@@ -1,2 +1,3 @@
 pub mod Hex
 pub mod Position
+pub mod PositionCases

@@ -1,4 +1,4 @@
--- Log positions, LSN: their texts and their order. Document 01, "Texts and positions".
+-- Log positions, LSN: their texts and their order. SCOPE 2.1 to 2.3; 01, "Texts and positions".
 use Prim.Native.Nat.{ℕ, _+_, _*_, _/_, _%_, _^_}
 use mathlib.Core.Bool.{Bool}
 use mathlib.Core.List.{List, _∷_, _++_}
@@ -7,8 +7,6 @@ use lib.ListN.{take, drop}
 use lib.Dec.{ltb}
 use lib.Bits.{bitOr}
 use Rattle.wire.specs.Find.{indexOf}
-use Rattle.wire.specs.declared.find.Found.{Found}
-use Rattle.wire.specs.declared.find.Found.the-variants.{At, Nothing}
 use Rattle.error.specs.Refusal.{numberOf}
 use Rattle.moment.specs.declared.Moment.{Moment}
 use Rattle.text.specs.Numeral.{hexText}
@@ -17,31 +15,31 @@ use Rattle.lsn.specs.declared.Lsn.{Lsn}
 use Rattle.lsn.specs.declared.Parsed.{Parsed}
 use Rattle.lsn.specs.declared.Parsed.the-variants.{Position, Refused}
 
--- the high part shifted left 32, upper bits lost, or-ed with the whole low part
+-- the high part by 32 bits to the left, without the bits past the 64th, or-ed with the low part as it is
 unfoldable pub joined : ℕ → ℕ → ℕ
 joined hi lo = bitOr ((hi * 2 ^ 32) % 2 ^ 64) lo
 
--- document 01's number, 0 for none, and the position, by the two parts: 23 before 24
+-- the refusal's number, 0 for none, and the position, by the two parts: 23 before 24
 abbrev pub byParts : Option ℕ → Option ℕ → ℕ × ℕ
 byParts none lo = (23, 0)
 byParts (some hi) none = (24, 0)
 byParts (some hi) (some lo) = (0, joined hi lo)
 
 -- the same by the place of the first slash: 22 where there is none
-abbrev pub bySlash : List ℕ → Found → ℕ × ℕ
-bySlash s Nothing = (22, 0)
-bySlash s (At i) = byParts (hexPart (take i s)) (hexPart (drop (i + 1) s))
+abbrev pub bySlash : List ℕ → Option ℕ → ℕ × ℕ
+bySlash s none = (22, 0)
+bySlash s (some i) = byParts (hexPart (take i s)) (hexPart (drop (i + 1) s))
 
 -- what a position text says
 unfoldable pub positionOf : List ℕ → ℕ × ℕ
 positionOf s = bySlash s (indexOf 47 s)
 
--- what the answer says: document 01's number, 0 for none, and the position
+-- what the answer says: the refusal's number, 0 for none, and the position
 abbrev pub parseOutcome : Parsed → ℕ × ℕ
 parseOutcome (Position p) = (0, p .0)
 parseOutcome (Refused r) = (numberOf r, 0)
 
--- Display: both halves upper case, unpadded, a slash between
+-- Display: the two halves in upper case without leading zeros, and a slash between them
 unfoldable pub displayOf : ℕ → List ℕ
 displayOf v = hexText (v / 2 ^ 32) ++ (47 ∷ hexText (v % 2 ^ 32))
 
@@ -49,7 +47,6 @@ displayOf v = hexText (v / 2 ^ 32) ++ (47 ∷ hexText (v % 2 ^ 32))
 abbrev pub isBelow : Lsn → Lsn → Bool
 isBelow a b = ltb (a .0) (b .0)
 
--- "A log position is never added to or compared with a clock moment": at every moment, one position is below another or not by the two
--- positions alone
+-- the order of positions is the same at every moment: a moment is of another type and plays no part in it
 abbrev pub isBelowAt : Moment → Lsn → Lsn → Bool
 isBelowAt moment a b = isBelow a b

@@ -11,6 +11,7 @@ use error::Refusal;
 use error::Written;
 use hex::HexPart;
 use wire::find::Found;
+use wire::store::NOWHERE;
 
 // A position has two halves of 32 bits.
 const HALF: u64 = 4294967296;
@@ -73,15 +74,15 @@ impl Lsn {
         text::hex_len(self.0 / HALF) + 1 + text::hex_len(self.0 % HALF)
     }
 
-    // The place behind Display, written at `to` where it fits.
+    // The place after Display, which is written at `to`; where it does not fit, NOWHERE, and nothing is written.
     pub fn place(self, out: &mut [u8], to: usize) -> usize
         ensures { λ r. ⌜ (r, now (out .exit)) ≡ placed (now (out .entry)) to (displayOf (self .0)) ⌝ }
     {
         if out.len() < to {
-            return to;
+            return NOWHERE;
         }
         if out.len() - to < self.text_len() {
-            return to;
+            return NOWHERE;
         }
         let a = text::place_hex(out, to, self.0 / HALF);
         let b = wire::store::place(out, a, b"/");

@@ -1,4 +1,5 @@
 -- The walk over the fields and the layout, place by place: what is unread at a place is how the rest of the payload is laid out.
+use mathlib.Core.Option.{Option, some, none}
 use mathlib.Core.Path.{_≡_, refl, sym, ap, _∙_}
 use mathlib.Core.List.{List, [], _∷_, _++_, map, append-assoc}
 use mathlib.Core.Logic.{inl, inr, ⊎-elim}
@@ -10,11 +11,9 @@ use lib.Dec.{eqb, ltb}
 use borrow.Author.Tests.{eqb-true, eqb-false, ltb-true, ltb-false}
 use Rattle.wire.specs.Bytes.{at}
 use Rattle.wire.specs.Find.{indexOf, NoZero}
-use Rattle.wire.specs.declared.find.Found.{Found}
-use Rattle.wire.specs.declared.find.Found.the-variants.{At, Nothing}
 use Rattle.wire.proofs.Laws.{by-test}
 use Rattle.wire.proofs.FindLaws.{no-zero, zero-at, all-passed, found-at}
-use Rattle.messages.specs.FieldLayout.{encode, Sendable, Ended, Laid, said, readOf, Read-is-laid, Laid-is-read, Sent-is-read}
+use Rattle.messages.specs.FieldLayout.{encode, Sendable, Ended, Laid, said, fieldsRead, Read-is-laid, Laid-is-read, Sent-is-read}
 use Rattle.messages.proofs.Laws.{at-place, unread, unread-start, unread-end, unread-zero, unread-cut, unread-field}
 
 -- ---- from the walk to the layout
@@ -43,16 +42,16 @@ end-laid s i h = rw (drop-of-length-le s h, unread-end s i h) (none-laid [] tt)
 zero-laid : (s : List ℕ) (i : ℕ) → i < length s → getD s i 0 ≡ 0 → Laid (drop i s) (sayings s i)
 zero-laid s i h e = rw (at-place s i h, unread-zero s i h e) (none-laid (getD s i 0 ∷ drop (i + 1) s) (inl e))
 
--- at a letter: the field behind it, if a zero byte ends it, and what the walk reads behind that
-letter-laid : (s : List ℕ) (i : ℕ) (f : Found) → i < length s → (getD s i 0 ≡ 0 → ⊥) → indexOf 0 (drop (i + 1) s) ≡ f
+-- at a letter: the field after it, if a zero byte ends it, and what the walk reads after that
+letter-laid : (s : List ℕ) (i : ℕ) (f : Option ℕ) → i < length s → (getD s i 0 ≡ 0 → ⊥) → indexOf 0 (drop (i + 1) s) ≡ f
     → ((k : ℕ) → Laid (drop (i + 1 + k + 1) s) (sayings s (i + 1 + k + 1))) → Laid (drop i s) (sayings s i)
-letter-laid s i (At k) h n e more =
+letter-laid s i (some k) h n e more =
     let w = found-at (drop (i + 1) s) k e in
     let p : i + 1 + (k + 1) ≡ i + 1 + k + 1 = omega arith in
     let q : drop (i + 1) s ≡ at s (i + 1) k ++ (0 ∷ drop (i + 1 + k + 1) s) = rw (drop-drop, p) at (w .1) in
     let c : drop i s ≡ getD s i 0 ∷ (at s (i + 1) k ++ (0 ∷ drop (i + 1 + k + 1) s)) = at-place s i h ∙ ap (λ (l : List ℕ). getD s i 0 ∷ l) q in
     rw (c, unread-field s i k h n e) (one-more (getD s i 0) (at s (i + 1) k) (drop (i + 1 + k + 1) s) (sayings s (i + 1 + k + 1)) n (w .0) (more k))
-letter-laid s i Nothing h n e more =
+letter-laid s i none h n e more =
     rw (at-place s i h, unread-cut s i h n e) (none-laid (getD s i 0 ∷ drop (i + 1) s) (inr (n, all-passed (drop (i + 1) s) e)))
 
 -- a walk with n bytes to go at most
@@ -66,7 +65,7 @@ walk-laid (suc n) s i h =
     (λ t. end-laid s i (ltb-false i (length s) t))
 
 pub read-is-laid : Read-is-laid
-unfolding readOf
+unfolding fieldsRead
 read-is-laid payload = rw (unread-start payload) (walk-laid (length payload) payload 0 (omega arith))
 
 -- ---- from the layout to the walk
@@ -94,7 +93,7 @@ walk-read (f ∷ fs) s i rest n m e =
     let t : List ℕ = encode fs ++ rest in
     let w = there s i (f .0) ((v ++ (0 ∷ encode fs)) ++ rest) e in
     let q : drop (i + 1) s ≡ v ++ (0 ∷ t) = w .2 ∙ simp append-assoc in
-    let k : indexOf 0 (drop (i + 1) s) ≡ At (length v) = rw q (zero-at v t (n .1)) in
+    let k : indexOf 0 (drop (i + 1) s) ≡ some (length v) = rw q (zero-at v t (n .1)) in
     let p : i + 1 + (length v + 1) ≡ i + 1 + length v + 1 = omega arith in
     let r : drop (i + 1 + length v + 1) s ≡ t = sym (rw p at (drop-drop (length v + 1) (i + 1) s)) ∙ rw (q, drop-append-add) in
     let g : getD s i 0 ≡ f .0 = w .1 in
@@ -102,7 +101,7 @@ walk-read (f ∷ fs) s i rest n m e =
     rw (unread-field s i (length v) (w .0) (λ z. n .0 (sym g ∙ z)) k, g, u, walk-read fs s (i + 1 + length v + 1) rest (n .2) m r)
 
 pub laid-is-read : Laid-is-read
-unfolding readOf
+unfolding fieldsRead
 laid-is-read payload fs r = rw (unread-start payload) (walk-read fs payload 0 (r .rest) (r .sendable) (r .ended) (r .whole))
 
 pub sent-is-read : Sent-is-read

@@ -1,4 +1,5 @@
 -- Laws of the walk over an error's fields: one entry after the other, and what an entry does to the fifteen fields.
+use mathlib.Core.Option.{Option, some, none}
 use mathlib.Core.Path.{_≡_, refl, sym, ap, _∙_}
 use mathlib.Core.Bool.{Bool, true, false}
 use mathlib.Core.List.{List, [], _∷_}
@@ -11,19 +12,17 @@ use lib.Seq.{drop-cons, drop-drop}
 use lib.Dec.{eqb}
 use borrow.Author.Tests.{eq-eqb, ne-eqb, eqb-true, eqb-false}
 use Rattle.wire.specs.Bytes.{pick}
-use Rattle.wire.specs.Find.{indexOf, behind}
-use Rattle.wire.specs.declared.find.Found.{Found}
-use Rattle.wire.specs.declared.find.Found.the-variants.{At, Nothing}
+use Rattle.wire.specs.Find.{indexOf, later}
 use Rattle.wire.proofs.Laws.{by-test, impossible}
-use Rattle.wire.proofs.FindLaws.{nothing-behind}
+use Rattle.wire.proofs.FindLaws.{nothing-later}
 use Rattle.messages.specs.declared.Field.{Field}
 use Rattle.messages.specs.Fields.{Entry, kept, entriesFrom, entriesOf, absent, lastOf, entered, letters, fieldsOf, replaced}
 
 -- ---- the entries
 
-kept-same : (letter from : ℕ) (f : Found) (g h : ℕ → List Entry) → ((len : ℕ) → g len ≡ h len) → kept letter from f g ≡ kept letter from f h
-kept-same letter from (At len) g h e = ap (λ (l : List Entry). record { letter = letter; from = from; len = len } ∷ l) (e len)
-kept-same letter from Nothing g h e = refl
+kept-same : (letter from : ℕ) (f : Option ℕ) (g h : ℕ → List Entry) → ((len : ℕ) → g len ≡ h len) → kept letter from f g ≡ kept letter from f h
+kept-same letter from (some len) g h e = ap (λ (l : List Entry). record { letter = letter; from = from; len = len } ∷ l) (e len)
+kept-same letter from none g h e = refl
 
 shorter : (n k : ℕ) (s : List ℕ) → length s ≤ n → length (drop k s) ≤ n
 shorter n k s h = simp length-drop (omega arith)
@@ -74,9 +73,9 @@ unread-next s i h =
 
 -- ---- the fields
 
-abbrev absentFrom : Found → Bool
-absentFrom (At i) = false
-absentFrom Nothing = true
+abbrev absentFrom : Option ℕ → Bool
+absentFrom (some i) = false
+absentFrom none = true
 
 abbrev both : Bool → Bool → Bool
 both true b = b
@@ -87,9 +86,9 @@ abbrev pub distinct : List ℕ → Bool
 distinct [] = true
 distinct (l ∷ ls) = both (absentFrom (indexOf l ls)) (distinct ls)
 
-absent-from : (f : Found) (b : Bool) → both (absentFrom f) b ≡ true → (f ≡ Nothing) × (b ≡ true)
-absent-from (At i) b e = impossible cc
-absent-from Nothing b e = (refl, e)
+absent-from : (f : Option ℕ) (b : Bool) → both (absentFrom f) b ≡ true → (f ≡ none) × (b ≡ true)
+absent-from (some i) b e = impossible cc
+absent-from none b e = (refl, e)
 
 pub letters-distinct : distinct letters ≡ true
 unfolding indexOf
@@ -116,7 +115,7 @@ unequal : (a b : ℕ) → eqb a b ≡ false → eqb b a ≡ false
 unequal a b t = ne-eqb b a (λ p. eqb-false a b t (sym p))
 
 -- an entry of another letter
-after-skip : (ls : List ℕ) (fs : List Field) (e : Entry) (es : List Entry) → indexOf (e .letter) ls ≡ Nothing → after ls fs (e ∷ es) ≡ after ls fs es
+after-skip : (ls : List ℕ) (fs : List Field) (e : Entry) (es : List Entry) → indexOf (e .letter) ls ≡ none → after ls fs (e ∷ es) ≡ after ls fs es
 unfolding after lastOf indexOf
 after-skip [] fs e es h = refl
 after-skip (l ∷ ls) [] e es h = refl
@@ -125,11 +124,11 @@ after-skip (l ∷ ls) (f ∷ fs) e es h =
     (λ t. impossible cc)
     (λ t.
     let n : eqb (e .letter) l ≡ false = unequal l (e .letter) t in
-    rw (n, after-skip ls fs e es (nothing-behind _ (rw t at h))))
+    rw (n, after-skip ls fs e es (nothing-later _ (rw t at h))))
 
-replaced-behind : (f : Found) (g x : Field) (fs : List Field) → replaced (behind 1 f) g (x ∷ fs) ≡ x ∷ replaced f g fs
-replaced-behind (At i) g x fs = rw one-add
-replaced-behind Nothing g x fs = refl
+replaced-later : (f : Option ℕ) (g x : Field) (fs : List Field) → replaced (later 1 f) g (x ∷ fs) ≡ x ∷ replaced f g fs
+replaced-later (some i) g x fs = rw one-add
+replaced-later none g x fs = refl
 
 -- an entry puts its part into the field of its letter, the others stay
 pub after-next : (ls : List ℕ) (fs : List Field) (e : Entry) (es : List Entry) → distinct ls ≡ true → length fs ≡ length ls
@@ -143,25 +142,25 @@ after-next (l ∷ ls) (f ∷ fs) e es d h =
     (λ t.
     let p : l ≡ e .letter = eqb-true _ _ t in
     let n : eqb (e .letter) l ≡ true = eq-eqb _ _ (sym p) in
-    let m : indexOf (e .letter) ls ≡ Nothing = rw (← p) (a .0) in
+    let m : indexOf (e .letter) ls ≡ none = rw (← p) (a .0) in
     rw (t, n, after-skip ls fs e es m))
     (λ t.
     let n : eqb (e .letter) l ≡ false = unequal l (e .letter) t in
-    rw (t, n, replaced-behind, after-next ls fs e es (a .1) (omega arith)))
+    rw (t, n, replaced-later, after-next ls fs e es (a .1) (omega arith)))
 
-pub length-replaced : (f : Found) (g : Field) (fs : List Field) → length (replaced f g fs) ≡ length fs
-length-replaced (At i) g fs = length-set fs i g
-length-replaced Nothing g fs = refl
+pub length-replaced : (f : Option ℕ) (g : Field) (fs : List Field) → length (replaced f g fs) ≡ length fs
+length-replaced (some i) g fs = length-set fs i g
+length-replaced none g fs = refl
 
 -- ---- a turn of the walk
 
 pub unread-zero : (s : List ℕ) (i : ℕ) → i < length s → getD s i 0 ≡ 0 → unread s i ≡ []
 unread-zero s i h e = unread-next s i h ∙ simp (eq-eqb _ _ e)
 
-pub unread-cut : (s : List ℕ) (i : ℕ) → i < length s → (getD s i 0 ≡ 0 → ⊥) → indexOf 0 (drop (i + 1) s) ≡ Nothing → unread s i ≡ []
+pub unread-cut : (s : List ℕ) (i : ℕ) → i < length s → (getD s i 0 ≡ 0 → ⊥) → indexOf 0 (drop (i + 1) s) ≡ none → unread s i ≡ []
 unread-cut s i h n e = unread-next s i h ∙ simp (ne-eqb _ _ n, e)
 
-pub unread-field : (s : List ℕ) (i len : ℕ) → i < length s → (getD s i 0 ≡ 0 → ⊥) → indexOf 0 (drop (i + 1) s) ≡ At len
+pub unread-field : (s : List ℕ) (i len : ℕ) → i < length s → (getD s i 0 ≡ 0 → ⊥) → indexOf 0 (drop (i + 1) s) ≡ some len
     → unread s i ≡ record { letter = getD s i 0; from = i + 1; len = len } ∷ unread s (i + 1 + len + 1)
 unread-field s i len h n e = unread-next s i h ∙ simp (ne-eqb _ _ n, e)
 
@@ -170,7 +169,7 @@ pub ended : (s : List ℕ) (fs : List Field) (i : ℕ) → length fs ≡ 15 → 
 ended s fs i l e h = sym (after-none letters fs l) ∙ (rw e at h)
 
 -- a field is entered
-pub turn : (s : List ℕ) (fs gs : List Field) (i len : ℕ) → i < length s → (getD s i 0 ≡ 0 → ⊥) → indexOf 0 (drop (i + 1) s) ≡ At len
+pub turn : (s : List ℕ) (fs gs : List Field) (i len : ℕ) → i < length s → (getD s i 0 ≡ 0 → ⊥) → indexOf 0 (drop (i + 1) s) ≡ some len
     → length fs ≡ 15 → after letters fs (unread s i) ≡ fieldsOf s → gs ≡ replaced (indexOf (getD s i 0) letters) (record { given = true; from = i + 1; len = len }) fs
     → (length gs ≡ 15) × (after letters gs (unread s (i + 1 + len + 1)) ≡ fieldsOf s)
 turn s fs gs i len h n e l inv p =

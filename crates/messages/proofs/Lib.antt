@@ -1,3 +1,5 @@
 pub mod Laws
 pub mod Text
 pub mod FieldLayout
+pub mod FieldsSent
+pub mod AuthLayout

@@ -1,5 +1,5 @@
--- The text of a server error: document 01, `to_error_string`. `{M} (SQLSTATE {C})`, `{M}`, `error (SQLSTATE {C})` or
--- `unknown server error`, by which of the message and the code are given, each a lossy text.
+-- The text of a server error, the Rust's `to_error_string`: `{M} (SQLSTATE {C})`, `{M}`, `error (SQLSTATE {C})` or `unknown server error`, by
+-- which of the message and the code are given, each a lossy text. SCOPE 2.5; 01, "Texts and positions".
 use mathlib.Core.Bool.{Bool, true, false}
 use mathlib.Core.List.{List, [], _∷_, _++_}
 use Prim.Native.Nat.{ℕ}
@@ -24,7 +24,7 @@ plain = 101 ∷ 114 ∷ 114 ∷ 111 ∷ 114 ∷ []
 abbrev pub unknown : List ℕ
 unknown = 117 ∷ 110 ∷ 107 ∷ 110 ∷ 111 ∷ 119 ∷ 110 ∷ 32 ∷ 115 ∷ 101 ∷ 114 ∷ 118 ∷ 101 ∷ 114 ∷ 32 ∷ plain
 
--- a text with a code behind it
+-- a text with a code after it
 unfoldable pub coded : List ℕ → List ℕ → List ℕ
 coded text code = text ++ (opened ++ (code ++ closed))
 

@@ -1,5 +1,6 @@
 -- The fields of an ErrorResponse: PostgreSQL documentation, "Message Formats" (ErrorResponse) and "Error and Notice Message Fields".
--- A field is a letter and a string that ends in a zero byte; a zero in a letter's place ends the message.
+-- A field is a letter and a string that ends in a zero byte; a zero byte where a letter is due ends the message. SCOPE 2.4; 01, "Texts and positions".
+use mathlib.Core.Option.{Option, some, none}
 use mathlib.Core.Bool.{true, false}
 use mathlib.Core.List.{List, [], _∷_, map}
 use Prim.Native.Nat.{ℕ, zero, suc, _+_}
@@ -7,8 +8,6 @@ use lib.ListN.{length, drop, getD, set}
 use lib.Dec.{eqb, ltb}
 use Rattle.wire.specs.Bytes.{pick, at}
 use Rattle.wire.specs.Find.{indexOf}
-use Rattle.wire.specs.declared.find.Found.{Found}
-use Rattle.wire.specs.declared.find.Found.the-variants.{At, Nothing}
 use Rattle.messages.specs.declared.Field.{Field}
 
 -- a field as it stands in the payload: its letter, where its value begins and how long that is
@@ -18,9 +17,9 @@ pub record Entry : Type 0 where
   pub len : ℕ
 
 -- an entry whose value ends at a zero byte, and what follows it; an unterminated field is not kept and ends the walk
-abbrev pub kept : ℕ → ℕ → Found → (ℕ → List Entry) → List Entry
-kept letter from Nothing rest = []
-kept letter from (At len) rest = record { letter = letter; from = from; len = len } ∷ rest len
+abbrev pub kept : ℕ → ℕ → Option ℕ → (ℕ → List Entry) → List Entry
+kept letter from none rest = []
+kept letter from (some len) rest = record { letter = letter; from = from; len = len } ∷ rest len
 
 -- the entries from place i on, of which s are the bytes, at most n
 unfoldable pub entriesFrom : ℕ → ℕ → List ℕ → List Entry
@@ -64,6 +63,6 @@ abbrev pub indexed : List Field → ℕ → Field
 indexed fields i = pick (ltb i 15) (getD fields i absent) absent
 
 -- the fields with that of a place replaced
-abbrev pub replaced : Found → Field → List Field → List Field
-replaced (At i) f fields = set fields i f
-replaced Nothing f fields = fields
+abbrev pub replaced : Option ℕ → Field → List Field → List Field
+replaced (some i) f fields = set fields i f
+replaced none f fields = fields

@@ -2,10 +2,11 @@
 ghost use mathlib.Core.Path.{_≡_};
 ghost use lib.ListN.{length};
 ghost use lib.Dec.{leb};
-ghost use Rattle.wire.specs.Find.{indexOf};
+ghost use Rattle.wire.specs.Find.{indexOf, foundOf};
 ghost use Rattle.error.specs.Writer.{writing};
 ghost use Rattle.lossy.specs.Lossy.{lossyOf, lossyOutcome};
 ghost use Rattle.messages.specs.Fields.{fieldsOf, indexed, replaced, named, absent, letters};
+ghost use Rattle.messages.specs.FieldsSent.{fifteen};
 ghost use Rattle.messages.specs.ErrorText.{errorText, coded};
 ghost use Rattle.messages.specs.Auth.{authOf, authOutcome};
 use error::Counted;
@@ -15,7 +16,7 @@ use lossy::Lossy;
 use wire::field::I32Field;
 use wire::find::Found;
 
-// The letter of each field; a letter's index names its field.
+// The letter of each field, at the index that the field's name stands for.
 const LETTERS: [u8; 15] = *b"SCMDHPWstcdnFLR";
 
 // A field of an error: a part of the payload, where it is given.
@@ -67,7 +68,31 @@ impl ErrorFields {
 
     pub const ROUTINE: usize = 14;
 
-    // The fields of a payload: the last of a repeated letter, other letters skipped, up to an unterminated field or a zero in a letter's place.
+    // The letters of the fields, each looked up by its field's name: what a name stands for is promised here.
+    pub fn letters_by_name() -> [u8; 15]
+        ensures { λ r. ⌜ r ≡ fifteen ⌝ }
+    {
+        let l = LETTERS;
+        [
+            l[ErrorFields::SEVERITY],
+            l[ErrorFields::CODE],
+            l[ErrorFields::MESSAGE],
+            l[ErrorFields::DETAIL],
+            l[ErrorFields::HINT],
+            l[ErrorFields::POSITION],
+            l[ErrorFields::WHERE],
+            l[ErrorFields::SCHEMA],
+            l[ErrorFields::TABLE],
+            l[ErrorFields::COLUMN],
+            l[ErrorFields::DATA_TYPE],
+            l[ErrorFields::CONSTRAINT],
+            l[ErrorFields::FILE],
+            l[ErrorFields::LINE],
+            l[ErrorFields::ROUTINE],
+        ]
+    }
+
+    // Walks over the fields of a payload and remembers the latest value of each known letter, until a field has no end or no letter comes.
     pub fn parse(payload: &[u8]) -> ErrorFields
         ensures { λ r. ⌜ r .fields ≡ fieldsOf (now (payload .entry)) ⌝ }
     {
@@ -131,7 +156,7 @@ fn absent() -> Field
 
 // The index of a letter's field.
 fn index_of(letter: u8) -> Found
-    ensures { λ r. ⌜ r ≡ indexOf letter letters ⌝ }
+    ensures { λ r. ⌜ foundOf r ≡ indexOf letter letters ⌝ }
 {
     wire::find::find(&LETTERS, letter)
 }
@@ -151,7 +176,7 @@ pub fn part(payload: &[u8], f: Field) -> &[u8]
     &payload[from..from + len]
 }
 
-// Whether the text with the code behind it, both lossy, has at most so many bytes. 12 of them are neither's.
+// Whether the text with the code after it, both lossy, has at most so many bytes. 12 of them are neither's.
 fn has_room(text: &[u8], code: &[u8], room: usize) -> bool
     ensures { λ r. ⌜ r ≡ leb (length (coded (lossyOf (now (text .entry))) (lossyOf (now (code .entry))))) room ⌝ }
 {
@@ -168,7 +193,7 @@ fn has_room(text: &[u8], code: &[u8], room: usize) -> bool
     }
 }
 
-// The text with the code behind it, both lossy.
+// Writes the text with the code after it, both lossy.
 fn with_code(text: &[u8], code: &[u8], out: &mut [u8]) -> Lossy
     ensures { λ r. ⌜ (lossyOutcome r, now (out .exit)) ≡ writing 0 (coded (lossyOf (now (text .entry))) (lossyOf (now (code .entry)))) (now (out .entry)) ⌝ }
 {

@@ -1,1 +1,2 @@
 pub mod Moment
+pub mod MomentCases

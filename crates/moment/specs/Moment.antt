@@ -1,4 +1,4 @@
--- Moments: document 01, "moment (nanoseconds, 1 to 9,223,372,036,854,775,807)".
+-- Moments, in nanoseconds: SCOPE 5.4; 01, "Events and confirmations", the inputs of a step.
 use Prim.Native.Nat.{ℕ, _-_}
 use mathlib.Core.Bool.{Bool, false}
 use lib.Dec.{ltb, leb}
@@ -17,6 +17,6 @@ last = 9223372036854775807
 abbrev pub inRange : Moment → Bool
 inRange m = pick (ltb (m .0) 1) false (leb (m .0) last)
 
--- how long ago b was at a: "zero where the stored one lies ahead"
+-- how long ago b was at a, 0 where b lies ahead: SCOPE 4.3
 abbrev pub sinceOf : Moment → Moment → ℕ
 sinceOf a b = a .0 - b .0

@@ -1,4 +1,4 @@
--- Begin, field by field: behind each field stands the next, and behind the last a surplus that is not read.
+-- Begin, field by field: after each field stands the next, and after the last a surplus that is not read.
 use mathlib.Core.Path.{_≡_, sym, ap, _∙_}
 use mathlib.Core.Bool.{true}
 use mathlib.Core.Option.{some}

@@ -12,8 +12,6 @@ use Rattle.wire.specs.Bytes.{pick}
 use Rattle.wire.specs.Field.{fieldAt}
 use Rattle.wire.specs.Int.{half, isNegative, intAt}
 use Rattle.wire.specs.Find.{indexOf}
-use Rattle.wire.specs.declared.find.Found.{Found}
-use Rattle.wire.specs.declared.find.Found.the-variants.{At, Nothing}
 use Rattle.wire.proofs.Laws.{by-test}
 use Rattle.pgoutput.specs.Boundary.{Said, begin, commit, message, no-boundary, refused, need, beginAt, commitAt, contentAt, prefixBy, messageAt, boundaryOf}
 
@@ -59,9 +57,9 @@ module _ (x : Said) (accepted : (n : ℕ) → refused n ≡ x → ⊥) where
         let w = needed 16 (intAt 8 s (i + 17)) _ (r .2) in
         (p .0, q .0, r .0, w .0, p .1, q .1, r .1, w .1, w .2)
 
-    found : (v a : ℕ) (f : Found) → prefixBy s i v a f ≡ x → (n : ℕ) × (f ≡ At n) × (contentAt s (i + n + 1) v a i n ≡ x)
-    found v a Nothing e = absurd (accepted 17 e)
-    found v a (At n) e = (n, refl, e)
+    found : (v a : ℕ) (f : Option ℕ) → prefixBy s i v a f ≡ x → (n : ℕ) × (f ≡ some n) × (contentAt s (i + n + 1) v a i n ≡ x)
+    found v a none e = absurd (accepted 17 e)
+    found v a (some n) e = (n, refl, e)
 
     content-fields : (v a from n : ℕ) → contentAt s i v a from n ≡ x
         → (len : ℕ) × (fieldAt 4 s i ≡ some len) × (len < half 4) × (len ≤ length s - (i + 4)) × (message (eqb (v % 2) 1) a from n (i + 4) len ≡ x)
@@ -72,7 +70,7 @@ module _ (x : Said) (accepted : (n : ℕ) → refused n ≡ x → ⊥) where
         (p .0, p .1, leb-false (half 4) (p .0) (q .0), ltb-false (length s - (i + 4)) (p .0) (r .0), r .1)
 
   pub message-fields : (s : List ℕ) (i : ℕ) → messageAt s i ≡ x
-      → (v a n len : ℕ) × (fieldAt 1 s i ≡ some v) × (fieldAt 8 s (i + 1) ≡ some a) × (indexOf 0 (drop (i + 9) s) ≡ At n) × (fieldAt 4 s (i + 9 + n + 1) ≡ some len)
+      → (v a n len : ℕ) × (fieldAt 1 s i ≡ some v) × (fieldAt 8 s (i + 1) ≡ some a) × (indexOf 0 (drop (i + 9) s) ≡ some n) × (fieldAt 4 s (i + 9 + n + 1) ≡ some len)
       × (len < half 4) × (len ≤ length s - (i + 9 + n + 1 + 4)) × (message (eqb (v % 2) 1) a (i + 9) n (i + 9 + n + 1 + 4) len ≡ x)
   message-fields s i e =
       let p = needed 14 (fieldAt 1 s i) _ e in

@@ -1,4 +1,4 @@
--- Message, field by field: behind each field stands the next, behind the prefix a zero byte, and behind the content a surplus that is not read.
+-- Message, field by field: after each field stands the next, after the prefix a zero byte, and after the content a surplus that is not read.
 use mathlib.Core.Path.{_≡_, refl, sym, ap, _∙_}
 use mathlib.Core.Bool.{Bool, true}
 use mathlib.Core.Option.{some}
@@ -13,7 +13,6 @@ use Rattle.wire.specs.Bytes.{at, beBytes}
 use Rattle.wire.specs.Field.{fieldAt}
 use Rattle.wire.specs.Int.{half}
 use Rattle.wire.specs.Find.{indexOf, NoZero}
-use Rattle.wire.specs.declared.find.Found.the-variants.{At}
 use Rattle.wire.proofs.FindLaws.{zero-at, found-at}
 use Rattle.wire.proofs.FieldLaws.{beBytes-one, field-read, field-there, field-within}
 use Rattle.wire.proofs.Laws.{impossible}
@@ -22,9 +21,9 @@ use Rattle.pgoutput.specs.BoundaryLayout.{Message-is-read, SentMessage, 
 use Rattle.pgoutput.proofs.Laws.{message-values, prefix-within}
 use Rattle.pgoutput.proofs.LayoutFields.{by-letter, begin-fields, commit-fields, message-fields}
 
--- what stands behind a prefix of n bytes from place 10 and its zero byte
-behind-prefix : (s : List ℕ) (n : ℕ) → drop (n + 1) (drop 10 s) ≡ drop (10 + n + 1) s
-behind-prefix s n = let p : 10 + (n + 1) ≡ 10 + n + 1 = omega arith in drop-drop (n + 1) 10 s ∙ rw p
+-- what stands after a prefix of n bytes from place 10 and its zero byte
+after-prefix : (s : List ℕ) (n : ℕ) → drop (n + 1) (drop 10 s) ≡ drop (10 + n + 1) s
+after-prefix s n = let p : 10 + (n + 1) ≡ 10 + n + 1 = omega arith in drop-drop (n + 1) 10 s ∙ rw p
 
 -- ---- from the bytes to the values
 
@@ -37,8 +36,8 @@ laid s v a prefix content rest hv ha hp hc e =
     let m : List ℕ = beBytes 4 (length content) ++ (content ++ rest) in
     let o = field-read 1 s 1 v (beBytes 8 a ++ (prefix ++ (0 ∷ m))) (omega arith) hv (rw (beBytes-one v hv) e) in
     let p = field-read 8 s 2 a (prefix ++ (0 ∷ m)) (omega arith) ha (o .1) in
-    let f : indexOf 0 (drop 10 s) ≡ At n = rw (p .1) (zero-at prefix m hp) in
-    let d : drop (10 + n + 1) s ≡ m = sym (behind-prefix s n) ∙ rw (p .1, drop-append-add) in
+    let f : indexOf 0 (drop 10 s) ≡ some n = rw (p .1) (zero-at prefix m hp) in
+    let d : drop (10 + n + 1) s ≡ m = sym (after-prefix s n) ∙ rw (p .1, drop-append-add) in
     let c = field-read 4 s (10 + n + 1) (length content) (content ++ rest) (omega arith) (omega arith) d in
     let l : length s - (10 + n + 1 + 4) ≡ length content + length rest = sym (length-drop (10 + n + 1 + 4) s) ∙ ap length (c .1) ∙ length-append content rest in
     (message-values s 1 v a n (length content) (o .0) (p .0) f (c .0) hc (omega arith), rw (p .1) (take-append-seam prefix (0 ∷ m)), rw (c .1) (take-append-seam content rest))
@@ -52,7 +51,7 @@ message-is-read flags position prefix content surplus hf hp hz hc =
 -- ---- from the values to the bytes
 
 -- the prefix, its zero byte, the content's length, the content and the surplus
-parts : (s : List ℕ) (n len : ℕ) → areBytes s ≡ true → indexOf 0 (drop 10 s) ≡ At n → fieldAt 4 s (10 + n + 1) ≡ some len → len ≤ length s - (10 + n + 1 + 4)
+parts : (s : List ℕ) (n len : ℕ) → areBytes s ≡ true → indexOf 0 (drop 10 s) ≡ some n → fieldAt 4 s (10 + n + 1) ≡ some len → len ≤ length s - (10 + n + 1 + 4)
     → (length (at s 10 n) ≡ n) × (length (at s (10 + n + 1 + 4) len) ≡ len) × NoZero (at s 10 n)
     × (drop 10 s ≡ at s 10 n ++ (0 ∷ (beBytes 4 (length (at s (10 + n + 1 + 4) len)) ++ (at s (10 + n + 1 + 4) len ++ drop len (drop (10 + n + 1 + 4) s)))))
 parts s n len bytes e f l =
@@ -63,13 +62,13 @@ parts s n len bytes e f l =
     let pl : length (at s 10 n) ≡ n = length-take-le n (drop 10 s) (simp length-drop (omega arith)) in
     let cl : length (at s i len) ≡ len = length-take-le len (drop i s) (simp length-drop l) in
     let d : drop i s ≡ at s i len ++ drop len (drop i s) = sym (take-append-drop len (drop i s)) in
-    let m : drop (n + 1) (drop 10 s) ≡ beBytes 4 len ++ (at s i len ++ drop len (drop i s)) = behind-prefix s n ∙ c .2 ∙ ap (λ (x : List ℕ). beBytes 4 len ++ x) d in
+    let m : drop (n + 1) (drop 10 s) ≡ beBytes 4 len ++ (at s i len ++ drop len (drop i s)) = after-prefix s n ∙ c .2 ∙ ap (λ (x : List ℕ). beBytes 4 len ++ x) d in
     (pl, cl, w .0, w .1 ∙ ap (λ (x : List ℕ). at s 10 n ++ (0 ∷ x)) (rw cl m))
 
 regroup : (a b c d e : List ℕ) → a ++ (b ++ (0 ∷ (c ++ (d ++ e)))) ≡ (a ++ (b ++ (0 ∷ (c ++ d)))) ++ e
 regroup a b c d e = simp append-assoc
 
-sent : (t : List ℕ) (v a n len : ℕ) → areBytes (77 ∷ t) ≡ true → fieldAt 1 (77 ∷ t) 1 ≡ some v → fieldAt 8 (77 ∷ t) 2 ≡ some a → indexOf 0 (drop 10 (77 ∷ t)) ≡ At n
+sent : (t : List ℕ) (v a n len : ℕ) → areBytes (77 ∷ t) ≡ true → fieldAt 1 (77 ∷ t) 1 ≡ some v → fieldAt 8 (77 ∷ t) 2 ≡ some a → indexOf 0 (drop 10 (77 ∷ t)) ≡ some n
     → fieldAt 4 (77 ∷ t) (10 + n + 1) ≡ some len → len < half 4 → len ≤ length (77 ∷ t) - (10 + n + 1 + 4)
     → (length (at (77 ∷ t) 10 n) ≡ n) × (length (at (77 ∷ t) (10 + n + 1 + 4) len) ≡ len)
     × SentMessage (77 ∷ t) (eqb (v % 2) 1) a (at (77 ∷ t) 10 n) (at (77 ∷ t) (10 + n + 1 + 4) len)
@@ -100,7 +99,7 @@ sent t v a n len bytes e f g h b l =
 
 -- what is read as Message has its letter and its fields, none of them cut
 as-message : {X : Type 0} (s : List ℕ) (flag : Bool) (position pf pl cf cl : ℕ) → boundaryOf s ≡ message flag position pf pl cf cl
-    → ((t : List ℕ) (v a n len : ℕ) → s ≡ 77 ∷ t → fieldAt 1 s 1 ≡ some v → fieldAt 8 s 2 ≡ some a → indexOf 0 (drop 10 s) ≡ At n → fieldAt 4 s (10 + n + 1) ≡ some len
+    → ((t : List ℕ) (v a n len : ℕ) → s ≡ 77 ∷ t → fieldAt 1 s 1 ≡ some v → fieldAt 8 s 2 ≡ some a → indexOf 0 (drop 10 s) ≡ some n → fieldAt 4 s (10 + n + 1) ≡ some len
     → len < half 4 → len ≤ length s - (10 + n + 1 + 4) → message (eqb (v % 2) 1) a 10 n (10 + n + 1 + 4) len ≡ message flag position pf pl cf cl → X)
     → X
 as-message s flag position pf pl cf cl e go =

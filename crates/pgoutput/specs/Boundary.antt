@@ -1,5 +1,5 @@
 -- The boundaries of a transaction: PostgreSQL documentation, "Logical Replication Message Formats" (Begin, Commit, Message), protocol
--- version 1. Fields are read in their order; the first that is cut gives document 01's refusal: 14 of 8 bits, 15 of 32, 16 of 64, 17 a prefix
+-- version 1; SCOPE 3.9. Fields are read in their order; the first that is cut gives the refusal: 14 of 8 bits, 15 of 32, 16 of 64, 17 a prefix
 -- without a zero byte, 18 a content that is short or whose length is negative.
 use Prim.Native.Nat.{ℕ, _+_, _-_, _%_}
 use mathlib.Core.Bool.{Bool}
@@ -12,13 +12,11 @@ use Rattle.wire.specs.Bytes.{pick, beBytes}
 use Rattle.wire.specs.Field.{fieldAt}
 use Rattle.wire.specs.Int.{isNegative, intAt, intBytes}
 use Rattle.wire.specs.Find.{indexOf}
-use Rattle.wire.specs.declared.find.Found.{Found}
-use Rattle.wire.specs.declared.find.Found.the-variants.{At, Nothing}
 use Rattle.error.specs.Refusal.{numberOf}
 use Rattle.pgoutput.specs.declared.Boundary.{Boundary}
 use Rattle.pgoutput.specs.declared.Boundary.the-variants.{Begin, Commit, Message, NotBoundary, Refused}
 
--- document 01's values: Begin's final position, time and xid; Commit's position, end and time; Message's flag, position, and where prefix and
+-- the values: Begin's final position, time and xid; Commit's position, end and time; Message's flag, position, and where prefix and
 -- content begin in the data and how long they are; no boundary; or the refusal's number
 pub data Said : Type 0 where
   begin : ℕ → ℤ → ℕ → Said
@@ -58,9 +56,9 @@ contentAt s i flags position from n =
     (message (eqb (flags % 2) 1) position from n (i + 4) len)))
 
 -- the same from place i, where the prefix begins, by where its zero byte was found
-abbrev pub prefixBy : List ℕ → ℕ → ℕ → ℕ → Found → Said
-prefixBy s i flags position Nothing = refused 17
-prefixBy s i flags position (At n) = contentAt s (i + n + 1) flags position i n
+abbrev pub prefixBy : List ℕ → ℕ → ℕ → ℕ → Option ℕ → Said
+prefixBy s i flags position none = refused 17
+prefixBy s i flags position (some n) = contentAt s (i + n + 1) flags position i n
 
 -- Message, Byte1('M'), then from place i: Int8 flags, Int64 LSN, String prefix, Int32, Byten; the flag is bit 0
 abbrev pub messageAt : List ℕ → ℕ → Said
@@ -69,7 +67,7 @@ messageAt s i =
     need 16 (fieldAt 8 s (i + 1)) (λ position.
     prefixBy s (i + 9) flags position (indexOf 0 (drop (i + 9) s))))
 
--- other first bytes, or no data, are no boundary
+-- by the first byte; data that begin with none of the three letters, or have no byte, are no boundary
 unfoldable pub boundaryOf : List ℕ → Said
 boundaryOf [] = no-boundary
 boundaryOf (letter ∷ s) =

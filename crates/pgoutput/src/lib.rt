@@ -1,9 +1,6 @@
 // The boundaries in the data of an XLogData.
 ghost use mathlib.Core.Path.{_≡_};
 ghost use Rattle.pgoutput.specs.Boundary.{boundaryOf, saidBy, beginAt, commitAt, messageAt};
-
-mod reader;
-
 use error::Refusal;
 use lsn::Lsn;
 use wire::field::FIRST_NEGATIVE_32;
@@ -37,17 +34,17 @@ pub enum Boundary {
     Refused(Refusal),
 }
 
-// Begin, its fields from `at` on. A field that is not cut ends within the bytes, so the next place is no sum that wraps.
+// Begin, its fields from `at` on: the reader stands at `at` and is moved over the fields that were read.
 fn begin_at(bytes: &[u8], at: usize) -> Boundary
     ensures { λ r. ⌜ saidBy r ≡ beginAt (now (bytes .entry)) at ⌝ }
 {
-    let U64Field::Value(lsn) = reader::u64_at(bytes, at) else {
+    let U64Field::Value(lsn) = reader::u64_after(bytes, at, 0) else {
         return Boundary::Refused(Refusal::TruncatedI64);
     };
-    let I64Field::Value(commit_time) = reader::i64_at(bytes, at + 8) else {
+    let I64Field::Value(commit_time) = reader::i64_after(bytes, at, 8) else {
         return Boundary::Refused(Refusal::TruncatedI64);
     };
-    let U32Field::Value(xid) = reader::u32_at(bytes, at + 16) else {
+    let U32Field::Value(xid) = reader::u32_after(bytes, at, 16) else {
         return Boundary::Refused(Refusal::TruncatedI32);
     };
     Boundary::Begin {
@@ -61,16 +58,16 @@ fn begin_at(bytes: &[u8], at: usize) -> Boundary
 fn commit_at(bytes: &[u8], at: usize) -> Boundary
     ensures { λ r. ⌜ saidBy r ≡ commitAt (now (bytes .entry)) at ⌝ }
 {
-    let U8Field::Value(_) = reader::u8_at(bytes, at) else {
+    let U8Field::Value(_) = reader::u8_after(bytes, at, 0) else {
         return Boundary::Refused(Refusal::TruncatedI8);
     };
-    let U64Field::Value(lsn) = reader::u64_at(bytes, at + 1) else {
+    let U64Field::Value(lsn) = reader::u64_after(bytes, at, 1) else {
         return Boundary::Refused(Refusal::TruncatedI64);
     };
-    let U64Field::Value(end) = reader::u64_at(bytes, at + 9) else {
+    let U64Field::Value(end) = reader::u64_after(bytes, at, 9) else {
         return Boundary::Refused(Refusal::TruncatedI64);
     };
-    let I64Field::Value(commit_time) = reader::i64_at(bytes, at + 17) else {
+    let I64Field::Value(commit_time) = reader::i64_after(bytes, at, 17) else {
         return Boundary::Refused(Refusal::TruncatedI64);
     };
     Boundary::Commit {
@@ -80,29 +77,28 @@ fn commit_at(bytes: &[u8], at: usize) -> Boundary
     }
 }
 
-// Message, its fields from `at` on.
+// Message, its fields from `at` on. After the prefix stand its zero byte, the content's length and the content.
 fn message_at(bytes: &[u8], at: usize) -> Boundary
     ensures { λ r. ⌜ saidBy r ≡ messageAt (now (bytes .entry)) at ⌝ }
 {
-    let U8Field::Value(flags) = reader::u8_at(bytes, at) else {
+    let U8Field::Value(flags) = reader::u8_after(bytes, at, 0) else {
         return Boundary::Refused(Refusal::TruncatedI8);
     };
-    let U64Field::Value(lsn) = reader::u64_at(bytes, at + 1) else {
+    let U64Field::Value(lsn) = reader::u64_after(bytes, at, 1) else {
         return Boundary::Refused(Refusal::TruncatedI64);
     };
-    let from = at + 9;
-    let Found::At(len) = reader::zero_at(bytes, from) else {
+    let from = reader::place_after(bytes, at, 9);
+    let Found::At(len) = reader::zero_after(bytes, from, 0) else {
         return Boundary::Refused(Refusal::UnterminatedPrefix);
     };
-    let count = from + len + 1;
-    let U32Field::Value(n) = reader::u32_at(bytes, count) else {
+    let U32Field::Value(n) = reader::u32_after(bytes, from, len + 1) else {
         return Boundary::Refused(Refusal::TruncatedI32);
     };
     if FIRST_NEGATIVE_32 <= n {
         return Boundary::Refused(Refusal::ContentTooShort);
     }
-    let content = reader::place_at(bytes, count + 4);
-    if reader::left_at(bytes, content) < n as usize {
+    let content = reader::place_after(bytes, from, len + 5);
+    if reader::left_after(bytes, content, 0) < n as usize {
         return Boundary::Refused(Refusal::ContentTooShort);
     }
     Boundary::Message {
@@ -115,7 +111,7 @@ fn message_at(bytes: &[u8], at: usize) -> Boundary
     }
 }
 
-// What the data's first message says, if it is a boundary.
+// What the data's first message says, if it is a boundary: `B`, `C` or `M`.
 pub fn parse_pgoutput_boundary(bytes: &[u8]) -> Boundary
     ensures { λ r. ⌜ saidBy r ≡ boundaryOf (now (bytes .entry)) ⌝ }
 {

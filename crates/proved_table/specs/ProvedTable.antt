@@ -1,26 +1,22 @@
--- Document 01, "Proved table (P) and run cases": the cases marked P, proved of the definitions.
-use mathlib.Core.Path.{_≡_, refl}
-use mathlib.Core.List.{List, [], _∷_}
-use Prim.Native.Nat.{ℕ}
-use mathlib.Core.Bool.{false}
-use native.Mathlib.Omega.{arith}
-use borrow.Author.Tests.{le-ltb}
-use lib.ListN.{replicate}
-use lib.IntN.{pos}
-use Rattle.wire.specs.Bytes.{be, beFrom, beBytes, put}
-use Rattle.wire.specs.Field.{fieldAt, signed}
-use Rattle.wire.specs.Find.{indexOf}
-use Rattle.stream.specs.Message.{frontOf, in-payload, bad-length, too-large, whole}
-use Rattle.framing.specs.Read.{fresh, payloadOf, judgedOf, headerOf, readOf}
+-- The cases marked P (SCOPE 11.1; 01, "Proved table (P) and run cases"), proved of the definitions for every filling of which they speak: any
+-- tag, any bytes after a letter, any limit.
+use mathlib.Core.Path.{_≡_}
+use mathlib.Core.Bool.{Bool, true, false}
+use mathlib.Core.List.{List, [], _∷_, _++_}
+use mathlib.Core.Option.{Option, some, none}
+use Prim.Native.Nat.{ℕ, _+_, _<_, _^_}
+use lib.ListN.{length, replicate}
+use Rattle.wire.specs.Bytes.{beBytes}
+use Rattle.stream.specs.Message.{framed, frontOf, in-payload, bad-length, too-large, whole}
+use Rattle.framing.specs.Read.{fresh, readOf}
 use Rattle.framing.specs.Read as R
-use Rattle.replication.specs.CopyData.{copyDataOf}
+use Rattle.replication.specs.CopyData.{w, k, refused as not-read, copyDataOf, isKeepAlive}
 use Rattle.replication.specs.CopyData as C
 use Rattle.pgoutput.specs.Boundary.{boundaryOf}
 use Rattle.pgoutput.specs.Boundary as B
-use Rattle.lsn.specs.Hex.{digitOf, valueFrom, hexDigits, hexPart}
-use Rattle.lsn.specs.Position.{joined, positionOf}
-use Rattle.lossy.specs.WellFormed.{table, rowOf, matched}
-use Rattle.lossy.specs.Lossy.{partsOf, shownAll, lossyOf}
+use Rattle.pgoutput.specs.BoundaryCases.{isBegin, isCommit}
+use Rattle.lsn.specs.Position.{positionOf}
+use Rattle.lossy.specs.Lossy.{lossyOf}
 
 -- the outcome of a position text that is accepted: no refusal, and the position
 abbrev accepted : ℕ → ℕ × ℕ
@@ -30,49 +26,56 @@ accepted p = (0, p)
 abbrev mark : List ℕ → List ℕ
 mark s = 0xEF ∷ 0xBF ∷ 0xBD ∷ s
 
--- a header: any tag, and a length field
-abbrev headed : ℕ → ℕ → List ℕ
+-- a header: a tag and a length field
+abbrev pub headed : ℕ → ℕ → List ℕ
 headed tag n = tag ∷ beBytes 4 n
 
--- what a fresh reader with a limit of 10 answers to a header
-abbrev answered : ℕ → R.Said
-answered n = readOf 10 fresh (headed 100 n) false (replicate 10 0) .0
+-- what a fresh reader with a limit of 10 and a buffer of 10 bytes answers to a header
+abbrev pub answered : ℕ → ℕ → R.Said
+answered tag n = readOf 10 fresh (headed tag n) false (replicate 10 0) .0
 
--- so many zero bytes behind a letter
-abbrev zeros : ℕ → ℕ → List ℕ
-zeros letter n = letter ∷ replicate n 0
+-- where the data of an XLogData begin and how long they are
+abbrev pub dataPart : C.Said → Option (ℕ × ℕ)
+dataPart (w start end time from len) = some (from, len)
+dataPart (k end time reply) = none
+dataPart (not-read n) = none
 
 -- every case, together
 pub record ProvedTable : Type 0 where
-  -- length 4: empty payload
-  pub length-four : (limit : ℕ) → frontOf limit (headed 100 4) ≡ whole 100 0
+  -- length 4: an empty payload, under every limit and tag
+  pub length-four : (limit tag : ℕ) → frontOf limit (headed tag 4) ≡ whole tag 0
   -- length 3: 6
-  pub length-three : (limit : ℕ) → frontOf limit (headed 100 3) ≡ bad-length
+  pub length-three : (limit tag : ℕ) → frontOf limit (headed tag 3) ≡ bad-length
   -- limit 10: length 14 passes
-  pub within-limit : frontOf 10 (headed 100 14) ≡ in-payload
+  pub within-limit : (tag : ℕ) → frontOf 10 (headed tag 14) ≡ in-payload
   -- limit 10: length 15 gives 7
-  pub over-limit : frontOf 10 (headed 100 15) ≡ too-large
-  -- .. and as the reader answers, with a buffer of 10 bytes
-  pub read-four : answered 4 ≡ R.whole 100 0
-  pub read-three : answered 3 ≡ R.refused 6
-  pub read-within : answered 14 ≡ R.more
-  pub read-over : answered 15 ≡ R.refused 7
+  pub over-limit : (tag : ℕ) → frontOf 10 (headed tag 15) ≡ too-large
+  -- a payload of exactly the limit passes, and one byte more does not
+  pub at-the-limit : (tag : ℕ) (payload : List ℕ) → length payload < 2 ^ 30
+      → frontOf (length payload) (framed tag payload) ≡ whole tag (length payload)
+  pub past-the-limit : (tag limit : ℕ) (payload : List ℕ) → length payload ≡ limit + 1 → limit < 2 ^ 30
+      → frontOf limit (framed tag payload) ≡ too-large
+  -- .. and as the reader answers
+  pub read-four : answered 100 4 ≡ R.whole 100 0
+  pub read-three : answered 100 3 ≡ R.refused 6
+  pub read-within : answered 100 14 ≡ R.more
+  pub read-over : answered 100 15 ≡ R.refused 7
   -- `k` with 16 bytes after the letter: 12
-  pub keepalive-sixteen : copyDataOf (zeros 107 16) ≡ C.refused 12
+  pub keepalive-sixteen : (s : List ℕ) → length s ≡ 16 → copyDataOf (107 ∷ s) ≡ C.refused 12
   -- `k` with 18 passes
-  pub keepalive-eighteen : copyDataOf (zeros 107 18) ≡ C.k 0 (pos 0) false
+  pub keepalive-eighteen : (s : List ℕ) → length s ≡ 18 → isKeepAlive (copyDataOf (107 ∷ s)) ≡ true
   -- `w` with 23: 11
-  pub xlog-data-short : copyDataOf (zeros 119 23) ≡ C.refused 11
+  pub xlog-data-short : (s : List ℕ) → length s ≡ 23 → copyDataOf (119 ∷ s) ≡ C.refused 11
   -- `w` with 24: empty data
-  pub xlog-data-empty : copyDataOf (zeros 119 24) ≡ C.w 0 0 (pos 0) 25 0
+  pub xlog-data-empty : (s : List ℕ) → length s ≡ 24 → dataPart (copyDataOf (119 ∷ s)) ≡ some (25, 0)
   -- after `B`: 20 pass
-  pub begin-twenty : boundaryOf (zeros 66 20) ≡ B.begin 0 (pos 0) 0
+  pub begin-twenty : (s : List ℕ) → length s ≡ 20 → isBegin (boundaryOf (66 ∷ s)) ≡ true
   -- after `B`: 19 give 15
-  pub begin-nineteen : boundaryOf (zeros 66 19) ≡ B.refused 15
+  pub begin-nineteen : (s : List ℕ) → length s ≡ 19 → boundaryOf (66 ∷ s) ≡ B.refused 15
   -- after `C`: 25 pass
-  pub commit-twenty-five : boundaryOf (zeros 67 25) ≡ B.commit 0 0 (pos 0)
+  pub commit-twenty-five : (s : List ℕ) → length s ≡ 25 → isCommit (boundaryOf (67 ∷ s)) ≡ true
   -- after `C`: 24 give 16
-  pub commit-twenty-four : boundaryOf (zeros 67 24) ≡ B.refused 16
+  pub commit-twenty-four : (s : List ℕ) → length s ≡ 24 → boundaryOf (67 ∷ s) ≡ B.refused 16
   -- `16/B374D848` is 0x16B374D848
   pub plain-position : positionOf (49 ∷ 54 ∷ 47 ∷ 66 ∷ 51 ∷ 55 ∷ 52 ∷ 68 ∷ 56 ∷ 52 ∷ 56 ∷ []) ≡ accepted 0x16B374D848
   -- `+1/2` is 0x100000002
@@ -84,30 +87,34 @@ pub record ProvedTable : Type 0 where
   -- ED A0 80 has three
   pub three-marks : lossyOf (0xED ∷ 0xA0 ∷ 0x80 ∷ []) ≡ mark (mark (mark []))
 
--- each by computing the definitions
-pub proved-table : ProvedTable
-unfolding be beFrom beBytes fieldAt signed frontOf put payloadOf judgedOf headerOf readOf copyDataOf boundaryOf indexOf digitOf valueFrom hexDigits hexPart joined positionOf table rowOf matched partsOf shownAll lossyOf
-proved-table =
-    record {
-      length-four = λ limit. simp (le-ltb limit 0 (omega arith));
-      length-three = λ limit. refl;
-      within-limit = refl;
-      over-limit = refl;
-      read-four = refl;
-      read-three = refl;
-      read-within = refl;
-      read-over = refl;
-      keepalive-sixteen = refl;
-      keepalive-eighteen = refl;
-      xlog-data-short = refl;
-      xlog-data-empty = refl;
-      begin-twenty = refl;
-      begin-nineteen = refl;
-      commit-twenty-five = refl;
-      commit-twenty-four = refl;
-      plain-position = refl;
-      signed-position = refl;
-      lost-bits = refl;
-      one-mark = refl;
-      three-marks = refl;
-    }
+-- every refusal that these leaves give, in plain bytes, beside the cases above
+pub record RefusalTable : Type 0 where
+  -- 3: a buffer one byte short of the limit
+  pub three : readOf 10 fresh (headed 100 4) false (replicate 9 0) .0 ≡ R.refused 3
+  -- 6: a length below 4, and a negative one
+  pub six : answered 100 0 ≡ R.refused 6
+  pub six-negative : answered 100 0xFFFFFFFF ≡ R.refused 6
+  -- 7: a payload of one byte more than the limit
+  pub seven : answered 100 15 ≡ R.refused 7
+  -- 8: the input ended before a header, and in one
+  pub eight : readOf 10 fresh [] true (replicate 10 0) .0 ≡ R.refused 8
+  pub eight-within : readOf 10 (readOf 10 fresh (100 ∷ 0 ∷ []) true (replicate 10 0) .1) [] true (replicate 10 0) .0 ≡ R.refused 8
+  -- 9: the input ended in a payload
+  pub nine : readOf 10 (readOf 10 fresh (headed 100 6 ++ (1 ∷ [])) true (replicate 10 0) .1) [] true (replicate 10 0) .0 ≡ R.refused 9
+  -- an input that ended counts only where no byte is unread
+  pub still-more : readOf 10 fresh (100 ∷ []) true (replicate 10 0) .0 ≡ R.more
+  -- 10 to 13
+  pub ten : copyDataOf [] ≡ C.refused 10
+  pub eleven : copyDataOf (119 ∷ []) ≡ C.refused 11
+  pub twelve : copyDataOf (107 ∷ []) ≡ C.refused 12
+  pub thirteen : copyDataOf (100 ∷ []) ≡ C.refused 13
+  -- 14 to 18
+  pub fourteen : boundaryOf (77 ∷ []) ≡ B.refused 14
+  pub fifteen : boundaryOf (77 ∷ 0 ∷ 0 ∷ 0 ∷ 0 ∷ 0 ∷ 0 ∷ 0 ∷ 0 ∷ 1 ∷ 0 ∷ []) ≡ B.refused 15
+  pub sixteen : boundaryOf (66 ∷ []) ≡ B.refused 16
+  pub seventeen : boundaryOf (77 ∷ 0 ∷ 0 ∷ 0 ∷ 0 ∷ 0 ∷ 0 ∷ 0 ∷ 0 ∷ 1 ∷ 112 ∷ []) ≡ B.refused 17
+  pub eighteen : boundaryOf (77 ∷ 0 ∷ 0 ∷ 0 ∷ 0 ∷ 0 ∷ 0 ∷ 0 ∷ 0 ∷ 1 ∷ 0 ∷ 0 ∷ 0 ∷ 0 ∷ 1 ∷ []) ≡ B.refused 18
+  -- 22 to 24
+  pub twenty-two : positionOf (49 ∷ []) ≡ (22, 0)
+  pub twenty-three : positionOf (47 ∷ 49 ∷ []) ≡ (23, 0)
+  pub twenty-four : positionOf (49 ∷ 47 ∷ []) ≡ (24, 0)

@@ -1,1 +1,1 @@
-// Theorems alone: document 01's proved table, in specs/ProvedTable.antt.
+// Theorems alone: the proved cases of SCOPE 11.1, in specs/ProvedTable.antt.

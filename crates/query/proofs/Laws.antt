@@ -8,7 +8,7 @@ use lib.ListN.{length}
 use lib.Dec.{eqb}
 use borrow.Author.Tests.{eq-eqb, ne-eqb}
 use Rattle.wire.specs.Bytes.{pick, at}
-use Rattle.query.specs.Row.{columnAt, columnsFrom, also, nth, countOf, columnOf}
+use Rattle.query.specs.Row.{columnAt, columnsFrom, also, nth, countOf, columnOf, columnOutcome}
 use Rattle.error.specs.Refusal.{numberOf}
 use Rattle.error.specs.declared.Refusal.{Refusal}
 use Rattle.error.proofs.Laws.{numbered}
@@ -96,9 +96,9 @@ pub count-picked : (r : Option (List Column)) (i : ℕ) → countBy (pickedOf r 
 count-picked none i = refl
 count-picked (some cs) i = refl
 
-abbrev pub oneBy : Option (ℕ × Column) → Column
-oneBy none = Absent
-oneBy (some w) = w .1
+abbrev pub oneBy : Option (ℕ × Column) → ℕ × ℕ × ℕ × ℕ
+oneBy none = (20, 0, 0, 0)
+oneBy (some w) = columnOutcome (w .1)
 
 pub one-picked : (r : Option (List Column)) (i : ℕ) → oneBy (pickedOf r i) ≡ columnOf r i
 one-picked none i = refl

@@ -8,7 +8,7 @@ use Rattle.query.specs.declared.Column.{Column}
 use Rattle.query.specs.declared.row.Next.{Next}
 use Rattle.query.specs.declared.row.Walked.{Walked}
 
--- a column and the place behind it
+-- a column and the place after it
 abbrev pub nextOf : Next → Option (Column × ℕ)
 nextOf (Next.At c next) = some (c, next)
 nextOf Next.Cut = none
@@ -18,7 +18,7 @@ abbrev pub walkOf : Walked → Option (ℕ × Column)
 walkOf (Walked.Row n c) = some (n, c)
 walkOf Walked.Malformed = none
 
--- .. of a row's columns and a column's number
+-- the same of a row's columns and a column's number
 abbrev pub pickedOf : Option (List Column) → ℕ → Option (ℕ × Column)
 pickedOf none i = none
 pickedOf (some cs) i = some (length cs, nth i cs)

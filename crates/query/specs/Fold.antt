@@ -1,5 +1,5 @@
--- The fold of `simple_query` a message at a time: what each message answers, and what it leaves. Document 01: "rows until `Z`, last error
--- wins"; "Rows are handed on singly".
+-- The fold of `simple_query` a message at a time: what each message answers, and what it leaves. Rows are handed on one by one until `Z`, and
+-- the last error is the query's. SCOPE 3.11; 01, "Messages".
 use Prim.Native.Nat.{ℕ}
 use mathlib.Core.Bool.{true, false}
 use mathlib.Core.List.{List}
@@ -8,30 +8,30 @@ use lib.ListN.{length}
 use Rattle.wire.specs.Bytes.{pick, copied}
 use Rattle.stream.specs.Tag.{isDataRow, isError, isReadyForQuery}
 use Rattle.error.specs.Refusal.{numberOf}
-use Rattle.query.specs.Row.{rowOf}
+use Rattle.query.specs.Row.{columnsOf}
 use Rattle.query.specs.declared.Column.{Column}
 use Rattle.query.specs.declared.simple.SimpleQuery.{SimpleQuery}
 use Rattle.query.specs.declared.simple.Answer.{Answer}
 
--- what an answer says: go on, a row of so many columns, the end, the end with an error of which so many bytes are kept, or document 01's
--- number of a refusal
+-- what an answer says: go on; a row of so many columns; the end; the end with an error, how many of its bytes stand in the buffer and how many
+-- it had; or 01's number of a refusal
 pub data Said : Type 0 where
   more : Said
   row : ℕ → Said
   ready : Said
-  failed : ℕ → Said
+  failed : ℕ → ℕ → Said
   refused : ℕ → Said
 
 abbrev pub answerOutcome : Answer → Said
 answerOutcome Answer.More = more
 answerOutcome (Answer.Row n) = row n
 answerOutcome Answer.Ready = ready
-answerOutcome (Answer.Failed n) = failed n
+answerOutcome (Answer.Failed n len) = failed n len
 answerOutcome (Answer.Refused r) = refused (numberOf r)
 
 -- a query of which no message came
 abbrev pub fresh : SimpleQuery
-fresh = record { failed = false; kept = 0 }
+fresh = record { failed = false; kept = 0; len = 0 }
 
 -- `D`: its row is handed on; a malformed one ends the query with 20
 abbrev pub rowAnswer : SimpleQuery → Option (List Column) → SimpleQuery × Said
@@ -40,17 +40,17 @@ rowAnswer q (some cs) = (q, row (length cs))
 
 -- `Z`: by whether an error came
 abbrev pub endAnswer : SimpleQuery → Said
-endAnswer q = pick (q .failed) (failed (q .kept)) ready
+endAnswer q = pick (q .failed) (failed (q .kept) (q .len)) ready
 
--- `E`: kept at the front of the buffer as far as that has room, over the one before
-abbrev pub errorKept : ℕ × List ℕ → SimpleQuery × Said × List ℕ
-errorKept c = (record { failed = true; kept = c .0 }, more, c .1)
+-- `E`, a payload of so many bytes: it stands at the front of the buffer as far as that has room, over the error before it
+abbrev pub errorKept : ℕ → ℕ × List ℕ → SimpleQuery × Said × List ℕ
+errorKept n c = (record { failed = true; kept = c .0; len = n }, more, c .1)
 
--- a message's tag and payload: the query behind it, what it answers, and the buffer behind it. Other tags are skipped
+-- a message's tag and payload: the query after it, what it answers, and the buffer after it. Other tags are skipped
 unfoldable pub messageOf : SimpleQuery → ℕ → List ℕ → List ℕ → SimpleQuery × Said × List ℕ
 messageOf q tag payload error =
-    let r : SimpleQuery × Said = rowAnswer q (rowOf payload) in
+    let r : SimpleQuery × Said = rowAnswer q (columnsOf payload) in
     pick (isDataRow tag) (r .0, r .1, error)
-    (pick (isError tag) (errorKept (copied error payload))
+    (pick (isError tag) (errorKept (length payload) (copied error payload))
     (pick (isReadyForQuery tag) (fresh, endAnswer q, error)
     (q, more, error)))

@@ -4,3 +4,4 @@ pub mod Query
 pub mod Fold
 pub mod Played
 pub mod Code
+pub mod Cases

@@ -1,10 +1,10 @@
--- The answers to a simple query: document 01, "the fold of `simple_query` (rows until `Z`, last error wins)".
+-- The answers to a simple query, of the whole list of its messages. SCOPE 3.11; 01, "Messages".
 use Prim.Native.Nat.{ℕ}
 use mathlib.Core.List.{List, [], _∷_}
 use mathlib.Core.Option.{Option, some, none}
 use Rattle.wire.specs.Bytes.{pick}
 use Rattle.stream.specs.Tag.{isDataRow, isError, isReadyForQuery}
-use Rattle.query.specs.Row.{rowOf}
+use Rattle.query.specs.Row.{columnsOf}
 use Rattle.query.specs.declared.Column.{Column}
 
 -- how a query ends: without an error, with the payload of the last ErrorResponse, or with a malformed row (20); or not yet
@@ -30,11 +30,11 @@ abbrev pub rowThen : Option (List Column) → Answer → Answer
 rowThen none a = only malformed
 rowThen (some cs) a = record { rows = cs ∷ a .rows; ending = a .ending }
 
--- the messages of a query, each a tag and a payload, behind a last error: `D` a row, `E` an error, `Z` the end, others skipped
+-- the messages of a query, each a tag and a payload, after a last error: `D` a row, `E` an error, `Z` the end, others skipped
 unfoldable pub answerFrom : Option (List ℕ) → List (ℕ × List ℕ) → Answer
 answerFrom e [] = only (open-yet e)
 answerFrom e (m ∷ ms) =
-    pick (isDataRow (m .0)) (rowThen (rowOf (m .1)) (answerFrom e ms))
+    pick (isDataRow (m .0)) (rowThen (columnsOf (m .1)) (answerFrom e ms))
     (pick (isError (m .0)) (answerFrom (some (m .1)) ms)
     (pick (isReadyForQuery (m .0)) (only (endingBy e))
     (answerFrom e ms)))

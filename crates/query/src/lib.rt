@@ -2,9 +2,13 @@
 pub mod row;
 pub mod simple;
 
-// A column of a row: a value is a part of the payload. (It stands here, since one module cannot have a `Column` and a `column`.)
+use error::Refusal;
+
+// A column of a row: a value is a part of the payload, and a malformed row is refused. (It stands here, since one module cannot have a
+// `Column` and a `column`.)
 pub enum Column {
     Null,
     Part(usize, usize),
     Absent,
+    Refused(Refusal),
 }

@@ -2,7 +2,7 @@
 ghost use mathlib.Core.Path.{_≡_};
 ghost use lib.Dec.{eqb};
 ghost use Rattle.wire.specs.Bytes.{pick};
-ghost use Rattle.query.specs.Row.{columnAt, columnsFrom, rowOf, countOf, columnOf, rowOutcome};
+ghost use Rattle.query.specs.Row.{columnAt, columnsFrom, columnsOf, countOf, columnOf, rowOutcome, columnOutcome};
 ghost use Rattle.query.specs.Code.{nextOf, walkOf, pickedOf};
 use crate::Column;
 use error::Refusal;
@@ -16,7 +16,7 @@ pub enum Row {
     Refused(Refusal),
 }
 
-// A column, and the place behind it.
+// A column, and the place after it.
 enum Next {
     At(Column, usize),
     Cut,
@@ -69,9 +69,9 @@ fn walk(payload: &[u8], n: usize, i: usize) -> Walked
     Walked::Row(n, c)
 }
 
-// The walk over a whole row. It goes to the end also behind column i, since a row that is cut has no column.
+// The walk over a whole row. It goes on to the end after column i, since a row that is cut further on is malformed too.
 fn walk_row(payload: &[u8], i: usize) -> Walked
-    ensures { λ r. ⌜ walkOf r ≡ pickedOf (rowOf (now (payload .entry))) i ⌝ }
+    ensures { λ r. ⌜ walkOf r ≡ pickedOf (columnsOf (now (payload .entry))) i ⌝ }
 {
     let U16Field::Value(n) = wire::field::read_u16(payload, 0) else {
         return Walked::Malformed;
@@ -84,7 +84,7 @@ fn walk_row(payload: &[u8], i: usize) -> Walked
 
 // How many columns a row has.
 pub fn parse_data_row(payload: &[u8]) -> Row
-    ensures { λ r. ⌜ rowOutcome r ≡ countOf (rowOf (now (payload .entry))) ⌝ }
+    ensures { λ r. ⌜ rowOutcome r ≡ countOf (columnsOf (now (payload .entry))) ⌝ }
 {
     match walk_row(payload, 0) {
         Walked::Row(n, _) => Row::Columns(n),
@@ -94,10 +94,10 @@ pub fn parse_data_row(payload: &[u8]) -> Row
 
 // One column, from 0.
 pub fn column(payload: &[u8], i: usize) -> Column
-    ensures { λ r. ⌜ r ≡ columnOf (rowOf (now (payload .entry))) i ⌝ }
+    ensures { λ r. ⌜ columnOutcome r ≡ columnOf (columnsOf (now (payload .entry))) i ⌝ }
 {
     match walk_row(payload, i) {
         Walked::Row(_, c) => c,
-        Walked::Malformed => Column::Absent,
+        Walked::Malformed => Column::Refused(Refusal::MalformedDataRow),
     }
 }

@@ -1,27 +1,29 @@
-// The fold of simple_query: one call for each whole message. The payload of the last ErrorResponse is kept at the front of a lent buffer, as
-// far as that has room.
+// The fold of simple_query: one call for each whole message. The payload of the last ErrorResponse stands at the front of a lent buffer, as
+// far as that has room; its whole length is answered too, so that a cut one is not taken for whole.
 ghost use mathlib.Core.Path.{_≡_};
-ghost use Rattle.query.specs.Row.{rowOf};
+ghost use Rattle.query.specs.Row.{columnsOf};
 ghost use Rattle.query.specs.Fold.{fresh, answerOutcome, rowAnswer, endAnswer, messageOf};
 use crate::row;
 use crate::row::Row;
 use error::Refusal;
 
-// Whether an ErrorResponse came, and how many of its bytes are kept.
+// Whether an ErrorResponse came, how many of its bytes stand in the buffer, and how many it had.
 pub struct SimpleQuery {
     pub failed: bool,
     pub kept: usize,
+    pub len: usize,
 }
 
 pub enum Answer {
     More,
     Row(usize),
     Ready,
-    Failed(usize),
+    // The query ended with an error: how many of its bytes stand in the buffer, and how many it had.
+    Failed(usize, usize),
     Refused(Refusal),
 }
 
-// What a message answers, and the query behind it.
+// What a message answers, and the query after it.
 pub struct Step {
     pub query: SimpleQuery,
     pub answer: Answer,
@@ -34,6 +36,7 @@ impl SimpleQuery {
         SimpleQuery {
             failed: false,
             kept: 0,
+            len: 0,
         }
     }
 
@@ -45,7 +48,11 @@ impl SimpleQuery {
             b'D' => self.with_row(payload),
             b'E' => {
                 let kept = wire::store::copy(error, payload);
-                let query = SimpleQuery { failed: true, kept };
+                let query = SimpleQuery {
+                    failed: true,
+                    kept,
+                    len: payload.len(),
+                };
                 Step {
                     query,
                     answer: Answer::More,
@@ -66,7 +73,7 @@ impl SimpleQuery {
     }
 
     fn with_row(self, payload: &[u8]) -> Step
-        ensures { λ r. ⌜ (r .query, answerOutcome (r .answer)) ≡ rowAnswer self (rowOf (now (payload .entry))) ⌝ }
+        ensures { λ r. ⌜ (r .query, answerOutcome (r .answer)) ≡ rowAnswer self (columnsOf (now (payload .entry))) ⌝ }
     {
         match row::parse_data_row(payload) {
             Row::Columns(n) => Step {
@@ -84,7 +91,7 @@ impl SimpleQuery {
         ensures { λ r. ⌜ answerOutcome r ≡ endAnswer self ⌝ }
     {
         if self.failed {
-            Answer::Failed(self.kept)
+            Answer::Failed(self.kept, self.len)
         } else {
             Answer::Ready
         }

@@ -7,8 +7,8 @@ use Prim.Native.Nat.{ℕ, _+_, _-_, _≤_, _<_}
 use native.Mathlib.Omega.{arith}
 use lib.ListN.{length, take, drop, getD}
 use lib.IntN.{ℤ}
-use lib.Dec.{eqb}
-use borrow.Author.Tests.{lt-ltb, le-ltb, eq-eqb, ne-eqb, eqb-true}
+use lib.Dec.{eqb, ltb}
+use borrow.Author.Tests.{lt-ltb, le-ltb, eq-eqb, ne-eqb, eqb-true, ltb-true, ltb-false}
 use Rattle.wire.specs.Bytes.{be, at}
 use Rattle.wire.specs.Field.{fieldAt}
 use Rattle.wire.specs.Int.{int, intAt}
@@ -16,24 +16,38 @@ use Rattle.wire.proofs.Laws.{tail-whole, by-test, impossible}
 use Rattle.wire.proofs.FieldLaws.{field-whole, int-whole, be-one}
 use Rattle.replication.specs.CopyData.{Said, w, k, refused, xlogOf, keepAliveOf, copyDataOf}
 
--- a field that is there has its value and is not cut
+-- a field that is there has its value
 value : (n : ℕ) (s : List ℕ) (i v : ℕ) → i + n ≤ length s → some v ≡ fieldAt n s i → v ≡ be (at s i n)
 value n s i v h e = cc (field-whole n s i h)
 
 time : (n : ℕ) (s : List ℕ) (i : ℕ) (z : ℤ) → i + n ≤ length s → some z ≡ intAt n s i → z ≡ int n (be (at s i n))
 time n s i z h e = cc (int-whole n s i h)
 
-pub not-cut : (n : ℕ) (s : List ℕ) (i : ℕ) → i + n ≤ length s → none ≡ fieldAt n s i → ⊥
-not-cut n s i h e = impossible (cc (field-whole n s i h))
+-- a field that is cut ends after the body
+cut-short : (n : ℕ) (s : List ℕ) (i : ℕ) → none ≡ fieldAt n s i → length s < i + n
+cut-short n s i e = by-test (ltb (length s) (i + n)) (λ t. ltb-true _ _ t) (λ t. let h : i + n ≤ length s = ltb-false _ _ t in impossible (cc (field-whole n s i h)))
 
-pub time-not-cut : (n : ℕ) (s : List ℕ) (i : ℕ) → i + n ≤ length s → none ≡ intAt n s i → ⊥
-time-not-cut n s i h e = impossible (cc (int-whole n s i h))
+time-cut-short : (n : ℕ) (s : List ℕ) (i : ℕ) → none ≡ intAt n s i → length s < i + n
+time-cut-short n s i e = by-test (ltb (length s) (i + n)) (λ t. ltb-true _ _ t) (λ t. let h : i + n ≤ length s = ltb-false _ _ t in impossible (cc (int-whole n s i h)))
 
-pub xlog-short : (s : List ℕ) → length s < 24 → refused 11 ≡ xlogOf s
+xlog-short : (s : List ℕ) → length s < 24 → refused 11 ≡ xlogOf s
 xlog-short s h = simp (lt-ltb _ _ h)
 
-pub keep-alive-short : (s : List ℕ) → length s < 17 → refused 12 ≡ keepAliveOf s
+keep-alive-short : (s : List ℕ) → length s < 17 → refused 12 ≡ keepAliveOf s
 keep-alive-short s h = simp (lt-ltb _ _ h)
+
+-- a body one of whose fields is cut is short
+pub xlog-cut : (n : ℕ) (s : List ℕ) (i : ℕ) → i + n ≤ 24 → none ≡ fieldAt n s i → refused 11 ≡ xlogOf s
+xlog-cut n s i h e = xlog-short s (omega (arith, cut-short n s i e))
+
+pub xlog-time-cut : (n : ℕ) (s : List ℕ) (i : ℕ) → i + n ≤ 24 → none ≡ intAt n s i → refused 11 ≡ xlogOf s
+xlog-time-cut n s i h e = xlog-short s (omega (arith, time-cut-short n s i e))
+
+pub keep-alive-cut : (n : ℕ) (s : List ℕ) (i : ℕ) → i + n ≤ 17 → none ≡ fieldAt n s i → refused 12 ≡ keepAliveOf s
+keep-alive-cut n s i h e = keep-alive-short s (omega (arith, cut-short n s i e))
+
+pub keep-alive-time-cut : (n : ℕ) (s : List ℕ) (i : ℕ) → i + n ≤ 17 → none ≡ intAt n s i → refused 12 ≡ keepAliveOf s
+keep-alive-time-cut n s i h e = keep-alive-short s (omega (arith, time-cut-short n s i e))
 
 pub xlog-read : (s : List ℕ) (a b : ℕ) (z : ℤ) → 24 ≤ length s → some a ≡ fieldAt 8 s 0 → some b ≡ fieldAt 8 s 8
     → some z ≡ intAt 8 s 16 → w a b z 25 (length s - 24) ≡ xlogOf s

@@ -1,4 +1,4 @@
--- Keepalive, field by field: behind each field stands the next, and behind the reply byte a surplus that is not read.
+-- Keepalive, field by field: after each field stands the next, and after the reply byte a surplus that is not read.
 use mathlib.Core.Path.{_≡_, refl, sym, ap, _∙_}
 use mathlib.Core.Bool.{Bool, true, not}
 use mathlib.Core.List.{List, _∷_, _++_, append-assoc}

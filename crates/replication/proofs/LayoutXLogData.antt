@@ -1,4 +1,4 @@
--- XLogData, field by field: behind each field stands the next, and behind the last the data.
+-- XLogData, field by field: after each field stands the next, and after the last the data.
 use mathlib.Core.Path.{_≡_, refl, sym, ap, _∙_}
 use mathlib.Core.Bool.{true}
 use mathlib.Core.List.{List, _∷_, _++_}
@@ -40,16 +40,16 @@ xlog-data-is-read start end time sent hs he ht =
 
 -- ---- from the values to the bytes
 
-fields : (s : List ℕ) (a b : ℕ) (z : ℤ) (from len : ℕ) → xlogOf s ≡ w a b z from len
+pub xlog-fields : (s : List ℕ) (a b : ℕ) (z : ℤ) (from len : ℕ) → xlogOf s ≡ w a b z from len
     → (24 ≤ length s) × (lsnAt s 0 ≡ a) × (lsnAt s 8 ≡ b) × (timeAt s 16 ≡ z) × (25 ≡ from) × (length s - 24 ≡ len)
-fields s a b z from len e =
+xlog-fields s a b z from len e =
     by-test (ltb (length s) 24)
     (λ t. impossible cc)
     (λ t.
     let q : w (lsnAt s 0) (lsnAt s 8) (timeAt s 16) 25 (length s - 24) ≡ w a b z from len = rw t at e in
     (ltb-false _ _ t, cc, cc, cc, cc, cc))
 
-no-keep-alive : (s : List ℕ) (a b : ℕ) (z : ℤ) (from len : ℕ) → keepAliveOf s ≡ w a b z from len → ⊥
+pub no-keep-alive : (s : List ℕ) (a b : ℕ) (z : ℤ) (from len : ℕ) → keepAliveOf s ≡ w a b z from len → ⊥
 no-keep-alive s a b z from len e =
     by-test (ltb (length s) 17)
     (λ t. impossible cc)
@@ -67,7 +67,7 @@ body s e l =
 sent : (s : List ℕ) (a b : ℕ) (z : ℤ) (from len : ℕ) → areBytes s ≡ true → xlogOf s ≡ w a b z from len → SentXLogData (119 ∷ s) a b z from len
 unfolding xlogData
 sent s a b z from len e p =
-    let f = fields s a b z from len p in
+    let f = xlog-fields s a b z from len p in
     let d : take (length s - 24) (drop 24 s) ≡ drop 24 s = take-all (length s - 24) (drop 24 s) (simp length-drop (omega arith)) in
     rw (← (f .1), ← (f .2), ← (f .3), ← (f .4), ← (f .5))
     record {
@@ -89,6 +89,6 @@ read-is-xlog-data payload start end time from len e p =
 pub data-within : (payload : List ℕ) (start end : ℕ) (time : ℤ) (from len : ℕ) → copyDataOf payload ≡ w start end time from len → from + len ≤ length payload
 data-within payload start end time from len p =
     by-letter payload
-    (λ s q x. let f = fields s start end time from len (sym x ∙ p) in rw q (omega (arith, f .0, f .4, f .5)))
+    (λ s q x. let f = xlog-fields s start end time from len (sym x ∙ p) in rw q (omega (arith, f .0, f .4, f .5)))
     (λ s q x. absurd (no-keep-alive s start end time from len (sym x ∙ p)))
     (λ n x. impossible cc)

@@ -1,3 +1,4 @@
+pub mod Cases
 pub mod Laws
 pub mod LayoutXLogData
 pub mod LayoutKeepAlive

@@ -1,5 +1,5 @@
 -- What a CopyData payload of the replication stream says: PostgreSQL documentation, "Streaming Replication Protocol" (XLogData, Primary
--- keepalive message).
+-- keepalive message); SCOPE 3.8.
 use Prim.Native.Nat.{ℕ, _-_}
 use mathlib.Core.Bool.{Bool, true, false, not}
 use mathlib.Core.List.{List, [], _∷_, _++_}
@@ -12,7 +12,7 @@ use Rattle.error.specs.Refusal.{numberOf}
 use Rattle.replication.specs.declared.CopyData.{CopyData}
 use Rattle.replication.specs.declared.CopyData.the-variants.{XLogData, KeepAlive, Refused}
 
--- document 01's values: of `w` start, end, time, and where the data begins in the payload and how long it is; of `k` wal_end, time, and
+-- the values: of `w` start, end, time, and where the data begin in the payload and how long they are; of `k` wal_end, time, and
 -- whether a reply is asked for; or the refusal's number
 pub data Said : Type 0 where
   w : ℕ → ℕ → ℤ → ℕ → ℕ → Said
@@ -26,11 +26,11 @@ lsnAt s i = be (at s i 8)
 abbrev pub timeAt : List ℕ → ℕ → ℤ
 timeAt s i = int 8 (be (at s i 8))
 
--- XLogData, s behind the letter: Int64 start, Int64 end, Int64 time, Byten data
+-- XLogData, of which s follows the letter: Int64 start, Int64 end, Int64 time, Byten data
 abbrev pub xlogOf : List ℕ → Said
 xlogOf s = pick (ltb (length s) 24) (refused 11) (w (lsnAt s 0) (lsnAt s 8) (timeAt s 16) 25 (length s - 24))
 
--- keepalive, s behind the letter: Int64 end, Int64 time, Byte1 reply, of which any but 0 asks for one
+-- keepalive, of which s follows the letter: Int64 end, Int64 time, Byte1 reply, of which any but 0 asks for one
 abbrev pub keepAliveOf : List ℕ → Said
 keepAliveOf s = pick (ltb (length s) 17) (refused 12) (k (lsnAt s 0) (timeAt s 8) (not (eqb (getD s 16 0) 0)))
 

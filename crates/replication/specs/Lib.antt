@@ -1,2 +1,3 @@
 pub mod CopyData
+pub mod CopyDataCases
 pub mod CopyDataLayout

@@ -7,7 +7,7 @@ use wire::field::I64Field;
 use wire::field::U8Field;
 use wire::field::U64Field;
 
-// The data is a part of the payload.
+// The data are a part of the payload.
 pub enum CopyData {
     XLogData {
         wal_start: Lsn,
@@ -57,13 +57,10 @@ impl CopyData {
     }
 }
 
-// An XLogData, of which body is what is behind the letter. The data begins at place 25 of the payload.
+// An XLogData, of which body is what follows the letter. The data begin at place 25 of the payload.
 fn xlog_data(body: &[u8]) -> CopyData
     ensures { λ r. ⌜ saidBy r ≡ xlogOf (now (body .entry)) ⌝ }
 {
-    if body.len() < 24 {
-        return CopyData::Refused(Refusal::XLogDataTooShort);
-    }
     let U64Field::Value(start) = wire::field::read_u64(body, 0) else {
         return CopyData::Refused(Refusal::XLogDataTooShort);
     };
@@ -82,13 +79,10 @@ fn xlog_data(body: &[u8]) -> CopyData
     }
 }
 
-// A keepalive, of which body is what is behind the letter. Any reply byte but 0 asks for a reply.
+// A keepalive, of which body is what follows the letter. Any reply byte but 0 asks for a reply.
 fn keep_alive(body: &[u8]) -> CopyData
     ensures { λ r. ⌜ saidBy r ≡ keepAliveOf (now (body .entry)) ⌝ }
 {
-    if body.len() < 17 {
-        return CopyData::Refused(Refusal::KeepaliveTooShort);
-    }
     let U64Field::Value(end) = wire::field::read_u64(body, 0) else {
         return CopyData::Refused(Refusal::KeepaliveTooShort);
     };

@@ -1,5 +1,5 @@
--- The query of start_replication. Document 01, "Events and confirmations": "Opening writes the query of `start_replication`, with slot, query
--- position, publications and the binary part when set".
+-- The query of start_replication: it names the slot, the position to begin at and the publications, and asks for binary values where that is
+-- set. SCOPE 5.2; 01, "Events and confirmations". ReadBack.antt has the server's reading of it.
 use Prim.Native.Nat.{ℕ}
 use mathlib.Core.Bool.{Bool}
 use mathlib.Core.List.{List, [], _∷_, _++_}
@@ -33,7 +33,7 @@ binaryPart = 44 ∷ 32 ∷ 98 ∷ 105 ∷ 110 ∷ 97 ∷ 114 ∷ 121 ∷ 32 ∷ 
 abbrev pub lastPart : List ℕ
 lastPart = 41 ∷ []
 
--- with slot, query position, publications and the binary part when set
+-- the slot, the position as Display shows it, the publications, and the binary part only where it is set
 unfoldable pub startReplication : Bool → List ℕ → List (RefT (List ℕ)) → Lsn → List ℕ
 startReplication binary slot publications position =
     slotPart ++ (slot
@@ -44,7 +44,7 @@ startReplication binary slot publications position =
 
 -- ---- as the code writes it
 
--- behind the names, with the zero byte that ends a query
+-- after the names, with the zero byte that ends a query
 unfoldable pub endText : Bool → List ℕ
 endText binary = messagesPart ++ (pick binary binaryPart [] ++ (lastPart ++ (0 ∷ [])))
 

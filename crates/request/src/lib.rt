@@ -13,7 +13,7 @@ use error::Refusal;
 use error::Written;
 use lsn::Lsn;
 
-// How many bytes stand behind the names, the zero byte with them.
+// How many bytes stand after the names, the zero byte with them.
 fn end_len(binary: bool) -> usize
     ensures { λ r. ⌜ r ≡ length (endText binary) ⌝ }
 {
@@ -37,7 +37,7 @@ fn place_end(out: &mut [u8], to: usize, binary: bool) -> usize
     wire::store::place(out, to, b"', messages 'true')\0")
 }
 
-// The query of length n at the front; each piece is placed behind the one before. The length field counts all but the letter.
+// The query of length n at the front; each piece is placed after the one before. The length field counts all but the letter.
 fn place_query(
     n: usize,
     binary: bool,

@@ -1,4 +1,4 @@
--- What stands at the front of a stream, by its first bytes; it stays as it is when bytes are added behind.
+-- What stands at the front of a stream, by its first bytes; it stays as it is when bytes are added after them.
 use mathlib.Core.Path.{_≡_, refl, ap, _∙_}
 use mathlib.Core.Bool.{Bool, true, false}
 use mathlib.Core.List.{List, _++_}
@@ -85,7 +85,7 @@ shows limit s = five (ltb (length s) 5) refl
     five true q = cut-header (ltb-true _ _ q)
     five false q = sign (isNegative 4 n) refl (ltb-false _ _ q)
 
--- ---- more bytes behind
+-- ---- more bytes after them
 
 pub length-field-append : (s v : List ℕ) → 5 ≤ length s → lengthField (s ++ v) ≡ lengthField s
 length-field-append s v h =

@@ -1,4 +1,4 @@
--- Laws of the cut: it needs no more items than bytes, and bytes added behind continue it where it stopped.
+-- Laws of the cut: it needs no more items than bytes, and bytes added at the end continue it where it stopped.
 use mathlib.Core.Path.{_≡_, refl, ap, _∙_}
 use mathlib.Core.List.{List, [], _++_}
 use Prim.Native.Nat.{ℕ, zero, suc, _+_, _-_, _≤_, _<_}
@@ -45,13 +45,13 @@ cut-next limit s =
     same-cut limit s (frontOf limit s) _ _ (shows limit s)
     (λ i a b. enough (length s) limit (drop i s) (simp length-drop (omega arith)))
 
--- ---- bytes added behind
+-- ---- bytes added at the end
 
 -- the items of one cut before those of another
 abbrev pub prepend : List Item → Cut → Cut
 prepend is c = record { items = is ++ c .items; rest = c .rest; ending = c .ending }
 
--- a cut goes on with the bytes v behind what it left
+-- a cut goes on with the bytes v after what it left
 abbrev pub continued : ℕ → List ℕ → Cut → Cut
 continued limit v c = prepend (c .items) (cutOf limit (c .rest ++ v))
 

@@ -1,3 +1,5 @@
 pub mod Message
 pub mod Cut
 pub mod Tag
+pub mod Frame
+pub mod TagCases

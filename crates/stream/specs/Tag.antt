@@ -1,4 +1,4 @@
--- The tags of messages that a client tells apart: PostgreSQL documentation, "Message Formats".
+-- The tags of messages that a client tells apart: PostgreSQL documentation, "Message Formats". SCOPE 3.12; 01, "Messages".
 use Prim.Native.Nat.{ℕ}
 use mathlib.Core.Bool.{Bool}
 use lib.Dec.{eqb}

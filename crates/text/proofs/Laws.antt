@@ -107,7 +107,7 @@ bytes-end d s at i h = rw (drop-of-length-le s h) (put-none d at)
 
 -- ---- signed numbers
 
--- a sign and the digits behind it
+-- a sign and the digits after it
 pub signed-digits : (d d₁ : List ℕ) (to n : ℕ) (t : List ℕ) → length t ≡ n → to + (n + 1) ≤ length d → d₁ ≡ put (set d to 45) (to + 1) t → d₁ ≡ put d to (45 ∷ t)
 signed-digits d d₁ to n t e h p =
     let l : to < length d = omega arith in

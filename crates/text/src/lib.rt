@@ -5,6 +5,7 @@ ghost use Prim.Native.Nat.{_+_, _*_, _≤_, _<_, _^_};
 ghost use lib.ListN.{length};
 ghost use Rattle.wire.specs.Bytes.{put, placed};
 ghost use Rattle.text.specs.Numeral.{glyphOf, numeral, hexText, decimalText, signedText, lowerOf, hexBytes};
+use wire::store::NOWHERE;
 
 fn glyph(d: u64) -> u8
     requires { ⌜ d < 16 ⌝ }
@@ -48,10 +49,10 @@ fn place_number(out: &mut [u8], to: usize, v: u64, base: u64) -> usize
 {
     let n = places(v, base);
     if out.len() < to {
-        return to;
+        return NOWHERE;
     }
     if out.len() - to < n {
-        return to;
+        return NOWHERE;
     }
     spell(out, to, n, v, base);
     to + n
@@ -63,7 +64,7 @@ pub fn hex_len(v: u64) -> usize
     places(v, 16)
 }
 
-// Each writes at `to` where it fits, and answers the place behind.
+// Each writes at `to` and answers the place after; where the text does not fit, NOWHERE, and nothing is written.
 pub fn place_hex(out: &mut [u8], to: usize, v: u64) -> usize
     ensures { λ r. ⌜ (r, now (out .exit)) ≡ placed (now (out .entry)) to (hexText v) ⌝ }
 {
@@ -81,10 +82,10 @@ fn place_negative(out: &mut [u8], to: usize, m: u64) -> usize
 {
     let n = places(m, 10);
     if out.len() < to {
-        return to;
+        return NOWHERE;
     }
     if out.len() - to < n + 1 {
-        return to;
+        return NOWHERE;
     }
     out[to] = b'-';
     spell(out, to + 1, n, m, 10);
@@ -127,10 +128,10 @@ pub fn place_hex_bytes(out: &mut [u8], to: usize, s: &[u8]) -> usize
     ensures { λ r. ⌜ (r, now (out .exit)) ≡ placed (now (out .entry)) to (hexBytes (now (s .entry))) ⌝ }
 {
     if out.len() < to {
-        return to;
+        return NOWHERE;
     }
     if (out.len() - to) / 2 < s.len() {
-        return to;
+        return NOWHERE;
     }
     spell_bytes(out, to, s);
     to + s.len() * 2

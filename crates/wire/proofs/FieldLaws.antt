@@ -169,7 +169,7 @@ field-there n s i v e f =
 -- ---- a signed field at its place, the same
 
 -- each value is negative or not
-halves : (n : ℕ) → 0 < n → half n * 2 ≡ 256 ^ n
+pub halves : (n : ℕ) → 0 < n → half n * 2 ≡ 256 ^ n
 halves zero h = absurd (omega arith)
 halves (suc n) h = rw pow-suc (omega arith)
 

@@ -7,52 +7,51 @@ use native.Mathlib.Omega.{arith}
 use lib.ListN.{length, take, drop}
 use lib.Dec.{eqb}
 use borrow.Author.Tests.{eqb-true, eqb-false, ne-eqb}
-use Rattle.wire.specs.Find.{indexOf, behind, NoZero}
-use Rattle.wire.specs.declared.find.Found.{Found}
-use Rattle.wire.specs.declared.find.Found.the-variants.{At, Nothing}
+use Rattle.wire.specs.Find.{indexOf, later, NoZero}
+use mathlib.Core.Option.{Option, some, none}
 use Rattle.wire.proofs.Laws.{by-test, impossible}
 
-pub found-behind : (f : Found) (k : ℕ) → behind 1 f ≡ At k → (j : ℕ) × (f ≡ At j) × (k ≡ suc j)
-found-behind (At j) k e = let h : 1 + j ≡ k = cc in (j, refl, sym h ∙ one-add j)
-found-behind Nothing k e = impossible cc
+pub found-later : (f : Option ℕ) (k : ℕ) → later 1 f ≡ some k → (j : ℕ) × (f ≡ some j) × (k ≡ suc j)
+found-later (some j) k e = let h : 1 + j ≡ k = cc in (j, refl, sym h ∙ one-add j)
+found-later none k e = impossible cc
 
-pub nothing-behind : (f : Found) → behind 1 f ≡ Nothing → f ≡ Nothing
-nothing-behind (At j) e = impossible cc
-nothing-behind Nothing e = refl
+pub nothing-later : (f : Option ℕ) → later 1 f ≡ none → f ≡ none
+nothing-later (some j) e = impossible cc
+nothing-later none e = refl
 
 -- what is found stands in the list
-pub found-below : (b : ℕ) (s : List ℕ) (i : ℕ) → indexOf b s ≡ At i → i < length s
+pub found-below : (b : ℕ) (s : List ℕ) (i : ℕ) → indexOf b s ≡ some i → i < length s
 unfolding indexOf
 found-below b [] i e = impossible cc
 found-below b (x ∷ xs) i e =
     by-test (eqb x b)
     (λ t. let z : i ≡ 0 = cc in omega arith)
     (λ t.
-    let w = found-behind (indexOf b xs) i (rw t at e) in
+    let w = found-later (indexOf b xs) i (rw t at e) in
     omega (arith, found-below b xs (w .0) (w .1), w .2))
 
 -- ---- the first zero byte
 
-pub no-zero : (s : List ℕ) → NoZero s → indexOf 0 s ≡ Nothing
+pub no-zero : (s : List ℕ) → NoZero s → indexOf 0 s ≡ none
 unfolding indexOf
 no-zero [] n = refl
 no-zero (b ∷ s) n = simp (ne-eqb b 0 (n .0), no-zero s (n .1))
 
-pub zero-at : (v t : List ℕ) → NoZero v → indexOf 0 (v ++ (0 ∷ t)) ≡ At (length v)
+pub zero-at : (v t : List ℕ) → NoZero v → indexOf 0 (v ++ (0 ∷ t)) ≡ some (length v)
 unfolding indexOf
 zero-at [] t n = refl
 zero-at (b ∷ v) t n = simp (ne-eqb b 0 (n .0), zero-at v t (n .1), one-add)
 
 -- a search that fails, and one that finds
-pub all-passed : (s : List ℕ) → indexOf 0 s ≡ Nothing → NoZero s
+pub all-passed : (s : List ℕ) → indexOf 0 s ≡ none → NoZero s
 unfolding indexOf
 all-passed [] e = tt
 all-passed (b ∷ s) e =
     by-test (eqb b 0)
     (λ t. impossible cc)
-    (λ t. (eqb-false b 0 t, all-passed s (nothing-behind (indexOf 0 s) (rw t at e))))
+    (λ t. (eqb-false b 0 t, all-passed s (nothing-later (indexOf 0 s) (rw t at e))))
 
-pub found-at : (s : List ℕ) (k : ℕ) → indexOf 0 s ≡ At k → NoZero (take k s) × (s ≡ take k s ++ (0 ∷ drop (k + 1) s))
+pub found-at : (s : List ℕ) (k : ℕ) → indexOf 0 s ≡ some k → NoZero (take k s) × (s ≡ take k s ++ (0 ∷ drop (k + 1) s))
 unfolding indexOf
 found-at [] k e = impossible cc
 found-at (b ∷ s) k e =
@@ -61,6 +60,6 @@ found-at (b ∷ s) k e =
     let h : k ≡ 0 = cc in
     rw (h, eqb-true b 0 t) (tt, refl))
     (λ t.
-    let w = found-behind (indexOf 0 s) k (rw t at e) in
+    let w = found-later (indexOf 0 s) k (rw t at e) in
     let r = found-at s (w .0) (w .1) in
     rw (add-one, w .2) ((eqb-false b 0 t, r .0), ap (λ (l : List ℕ). b ∷ l) (rw add-one at (r .1))))

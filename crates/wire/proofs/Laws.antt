@@ -10,10 +10,9 @@ use lib.Seq.{take-suc, take-take, getD-drop, drop-drop, take-all, take-set-le, t
 use lib.Dec.{eqb}
 use mathlib.Core.Bool.{Bool, true, false}
 use borrow.Author.Tests.{eq-eqb, ne-eqb, le-leb, lt-leb}
-use Rattle.wire.specs.Bytes.{be, beFrom, beBytes, at, put, placed, copied}
-use Rattle.wire.specs.Find.{indexOf, behind}
-use Rattle.wire.specs.declared.find.Found.{Found}
-use Rattle.wire.specs.declared.find.Found.the-variants.{At, Nothing}
+use Rattle.wire.specs.Bytes.{be, beFrom, beBytes, at, put, nowhere, placed, copied}
+use Rattle.wire.specs.Find.{indexOf, later}
+use mathlib.Core.Option.{Option, some, none}
 
 -- one byte more at the end
 beFrom-snoc : (acc : ℕ) (l : List ℕ) (x : ℕ) → beFrom acc (l ++ (x ∷ [])) ≡ beFrom acc l * 256 + x
@@ -76,7 +75,7 @@ drop-set-same [] i b h = absurd (not-suc-le-zero h)
 drop-set-same (y ∷ ys) zero b h = refl
 drop-set-same (y ∷ ys) (suc i) b h = drop-set-same ys i b (le-of-suc-le-suc h)
 
--- a byte set behind the place where a list will be put is a byte more of that list
+-- a byte set after the place where a list will be put is a byte more of that list
 pub put-set : (d : List ℕ) (to j b : ℕ) (l : List ℕ) → length l ≡ j → to + j < length d → put (set d (to + j) b) to l ≡ put d to (l ++ (b ∷ []))
 unfolding put
 put-set d to j b l e h =
@@ -137,37 +136,37 @@ put-next d a b i n e h =
 
 -- ---- the search for a byte
 
-pub find-start : (b : ℕ) (s : List ℕ) → indexOf b s ≡ behind 0 (indexOf b (drop 0 s))
-find-start b s = behind-zero (indexOf b s)
+pub find-start : (b : ℕ) (s : List ℕ) → indexOf b s ≡ later 0 (indexOf b (drop 0 s))
+find-start b s = later-zero (indexOf b s)
   where
-    behind-zero : (f : Found) → f ≡ behind 0 f
-    behind-zero (At i) = ap At (omega arith)
-    behind-zero Nothing = refl
+    later-zero : (f : Option ℕ) → f ≡ later 0 f
+    later-zero (some i) = ap some (omega arith)
+    later-zero none = refl
 
-behind-behind : (n m : ℕ) (f : Found) → behind n (behind m f) ≡ behind (n + m) f
-behind-behind n m (At i) = ap At (omega arith)
-behind-behind n m Nothing = refl
+later-later : (n m : ℕ) (f : Option ℕ) → later n (later m f) ≡ later (n + m) f
+later-later n m (some i) = ap some (omega arith)
+later-later n m none = refl
 
-pub find-here : (s : List ℕ) (b i : ℕ) → i < length s → getD s i 0 ≡ b → behind i (indexOf b (drop i s)) ≡ At i
+pub find-here : (s : List ℕ) (b i : ℕ) → i < length s → getD s i 0 ≡ b → later i (indexOf b (drop i s)) ≡ some i
 unfolding indexOf
 find-here s b i h e =
     let t : eqb (getD s i 0) b ≡ true = eq-eqb _ _ e in
     let z : i + 0 ≡ i = omega arith in
     rw (drop-cons s i 0 h, t, z)
 
-pub find-next : (s : List ℕ) (b i : ℕ) → i < length s → (getD s i 0 ≡ b → ⊥) → behind i (indexOf b (drop i s)) ≡ behind (i + 1) (indexOf b (drop (i + 1) s))
+pub find-next : (s : List ℕ) (b i : ℕ) → i < length s → (getD s i 0 ≡ b → ⊥) → later i (indexOf b (drop i s)) ≡ later (i + 1) (indexOf b (drop (i + 1) s))
 unfolding indexOf
 find-next s b i h e =
     let t : eqb (getD s i 0) b ≡ false = ne-eqb _ _ e in
-    rw (drop-cons s i 0 h, t, behind-behind, add-one)
+    rw (drop-cons s i 0 h, t, later-later, add-one)
 
-pub find-none : (s : List ℕ) (b i : ℕ) → length s ≤ i → behind i (indexOf b (drop i s)) ≡ Nothing
+pub find-none : (s : List ℕ) (b i : ℕ) → length s ≤ i → later i (indexOf b (drop i s)) ≡ none
 unfolding indexOf
 find-none s b i h = rw (drop-of-length-le s h)
 
 -- ---- a list placed where it fits
 
-pub unplaced : (d : List ℕ) (to : ℕ) (src : List ℕ) → length d < to + length src → (to, d) ≡ placed d to src
+pub unplaced : (d : List ℕ) (to : ℕ) (src : List ℕ) → length d < to + length src → (nowhere, d) ≡ placed d to src
 unfolding placed
 unplaced d to src h = simp (lt-leb _ _ h)
 

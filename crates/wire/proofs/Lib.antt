@@ -3,3 +3,4 @@ pub mod Signed
 pub mod FieldLaws
 pub mod FindLaws
 pub mod Pieces
+pub mod Cases

@@ -1,4 +1,4 @@
--- A text written piece by piece, each behind the one before: what is still to be written, put where the writing stands, gives the whole.
+-- A text written piece by piece, each after the one before: what is still to be written, put where the writing stands, gives the whole.
 use mathlib.Core.Path.{_≡_, refl, sym, _∙_}
 use mathlib.Core.List.{List, [], _++_, append-nil}
 use Prim.Native.Nat.{ℕ, _+_, _≤_}

@@ -18,15 +18,19 @@ at s i n = take n (drop i s)
 unfoldable pub put : List ℕ → ℕ → List ℕ → List ℕ
 put d i src = take i d ++ (src ++ drop (i + length src) d)
 
--- src written at place i where it fits, with the place behind it; else all as it was
+-- what is answered where a text does not fit: no slice is so long that this is a place in it
+abbrev pub nowhere : ℕ
+nowhere = 18446744073709551615
+
+-- src written at place i where it fits, with the place after it; else nowhere, and all as it was
 unfoldable pub placed : List ℕ → ℕ → List ℕ → ℕ × List ℕ
-placed d i src = pick (leb (i + length src) (length d)) (i + length src, put d i src) (i, d)
+placed d i src = pick (leb (i + length src) (length d)) (i + length src, put d i src) (nowhere, d)
 
 -- as much of src as fits over the front of d, and how much that is
 unfoldable pub copied : List ℕ → List ℕ → ℕ × List ℕ
 copied d src = let n : ℕ = min (length src) (length d) in (n, put d 0 (take n src))
 
--- the number that the bytes spell behind acc
+-- the number that the bytes spell after acc
 unfoldable pub beFrom : ℕ → List ℕ → ℕ
 beFrom acc [] = acc
 beFrom acc (x ∷ xs) = beFrom (acc * 256 + x) xs

@@ -1,4 +1,4 @@
--- Integer fields of n bytes: one definition for every width, signed and unsigned. Document 01: "Numbers are big-endian on the wire".
+-- Integer fields of n bytes: one definition for every width, signed and unsigned, big-endian as all numbers on the wire are. SCOPE 1.2.
 use Prim.Native.Nat.{ℕ, _+_, _*_, _-_}
 use mathlib.Core.List.{List}
 use mathlib.Core.Option.{Option, some, none}

@@ -1,4 +1,5 @@
 pub mod Bytes
+pub mod Cases
 pub mod Field
 pub mod Find
 pub mod Int

@@ -1,6 +1,6 @@
 // The search for a byte.
 ghost use mathlib.Core.Path.{_≡_};
-ghost use Rattle.wire.specs.Find.{indexOf};
+ghost use Rattle.wire.specs.Find.{indexOf, foundOf};
 
 pub enum Found {
     At(usize),
@@ -9,7 +9,7 @@ pub enum Found {
 
 // The first place at which b stands.
 pub fn find(s: &[u8], b: u8) -> Found
-    ensures { λ r. ⌜ r ≡ indexOf b (now (s .entry)) ⌝ }
+    ensures { λ r. ⌜ foundOf r ≡ indexOf b (now (s .entry)) ⌝ }
 {
     let mut i: usize = 0;
     while i < s.len() {
@@ -22,7 +22,7 @@ pub fn find(s: &[u8], b: u8) -> Found
 }
 
 pub fn find_zero(s: &[u8]) -> Found
-    ensures { λ r. ⌜ r ≡ indexOf 0 (now (s .entry)) ⌝ }
+    ensures { λ r. ⌜ foundOf r ≡ indexOf 0 (now (s .entry)) ⌝ }
 {
     find(s, 0)
 }

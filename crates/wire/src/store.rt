@@ -4,6 +4,9 @@ ghost use Prim.Native.Nat.{_+_, _≤_, min};
 ghost use lib.ListN.{length};
 ghost use Rattle.wire.specs.Bytes.{placed, copied, put, beBytes};
 
+// What a function that places bytes answers where they do not fit. No slice is so long that this is a place in it.
+pub const NOWHERE: usize = 18446744073709551615;
+
 // The smaller of two counts: as much as is asked for, or as there is.
 pub fn least(a: usize, b: usize) -> usize
     ensures { λ r. ⌜ r ≡ min a b ⌝ }
@@ -31,15 +34,15 @@ pub fn copy(dst: &mut [u8], src: &[u8]) -> usize
     n
 }
 
-// The place behind src, written at `to` where it fits.
+// The place after src, which is written at `to`; where it does not fit, NOWHERE, and nothing is written.
 pub fn place(dst: &mut [u8], to: usize, src: &[u8]) -> usize
     ensures { λ r. ⌜ (r, now (dst .exit)) ≡ placed (now (dst .entry)) to (now (src .entry)) ⌝ }
 {
     if dst.len() < to {
-        return to;
+        return NOWHERE;
     }
     if dst.len() - to < src.len() {
-        return to;
+        return NOWHERE;
     }
     copy_all(&mut dst[to..], src);
     to + src.len()
@@ -58,15 +61,15 @@ fn store_be(dst: &mut [u8], to: usize, n: usize, v: u64)
     }
 }
 
-// The n lowest bytes of v, the highest first, at `to` where they fit. Every width is written by this function.
+// The n lowest bytes of v, the highest first, placed at `to`. Every width is written by this function.
 pub fn write_be(dst: &mut [u8], to: usize, n: usize, v: u64) -> usize
     ensures { λ r. ⌜ (r, now (dst .exit)) ≡ placed (now (dst .entry)) to (beBytes n v) ⌝ }
 {
     if dst.len() < to {
-        return to;
+        return NOWHERE;
     }
     if dst.len() - to < n {
-        return to;
+        return NOWHERE;
     }
     store_be(dst, to, n, v);
     to + n

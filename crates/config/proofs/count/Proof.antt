@@ -34,7 +34,7 @@ returns-2 c =
     let a = l .before .args in
     let w = c .before .before .count-name in
     let t = listed-length (a .names .now) (l .loop .i) (omega arith) in
-    let f = counted-over _ _ (sym (w .ensures) ∙ c .enum-told .given .1) in
+    let f = counted-over _ _ (w .ensures) (c .enum-told .given .1) in
     over (a .room) (length (optionValue (a .names .now))) (omega arith)
 
 -- what the count of a name says
@@ -42,7 +42,7 @@ fitting : (c : tie.After-known-told Inv-loop μ-loop)
     → let l = c .before .before .before .before .before .before .before .before in
     let n = length (doubled (nameAt (l .before .args .names .now) (l .loop .i))) in
     (n ≡ c .before .n .given .0 .0) × (c .before .n .given .0 .0 ≤ l .before .args .room - l .loop .need - c .before .before .before .before .before .before .comma .result)
-fitting c = counted-fits _ _ _ (sym (c .before .before .before .count-name .ensures) ∙ c .before .n .given .1)
+fitting c = counted-fits _ _ _ (c .before .before .before .count-name .ensures) (c .before .n .given .1)
 
 add-need : tie.Need-add-need Inv-loop μ-loop
 add-need c = let f = fitting c in omega arith

@@ -12,12 +12,12 @@ returns c = unplaced _ _ _ (omega arith)
 
 returns-2 : tie.Need-returns-2
 returns-2 c =
-    let f = counted-over _ _ (sym (c .before .before .count .ensures) ∙ c .enum-told2 .given .1) in
+    let f = counted-over _ _ (c .before .before .count .ensures) (c .enum-told2 .given .1) in
     unplaced _ _ _ (omega arith)
 
 fill-requires : tie.Need-fill-requires
 fill-requires c κs =
-    let f = counted-fits _ _ _ (sym (c .before .before .before .count .ensures) ∙ c .before .enum-told .given .1) in
+    let f = counted-fits _ _ _ (c .before .before .before .count .ensures) (c .before .enum-told .given .1) in
     omega arith
 
 returns-3 : tie.Need-returns-3

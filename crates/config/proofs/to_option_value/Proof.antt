@@ -11,18 +11,18 @@ use borrow.Author.Needs.{needs}
 use Rattle.config.proofs.to_option_value.Statement.{statement}
 use Rattle.config.proofs.to_option_value.Tie as tie
 
--- the names were counted, and behind them the value
+-- the names were counted, and after them the value
 names-counted : (c : tie.After-enum-told) → total (c .before .before .before .before .args .names .now) ≤ inputLimit
-names-counted c = let f = counted-fits _ _ _ (sym (c .before .before .inputs-len .ensures) ∙ c .enum-told .given .1) in omega arith
+names-counted c = let f = counted-fits _ _ _ (c .before .before .inputs-len .ensures) (c .enum-told .given .1) in omega arith
 
 value-counted : (c : tie.After-enum-told3) → let a = c .before .before .before .before .before .before .before .args in length (optionValue (a .names .now)) ≤ length (a .out .now)
-value-counted c = let f = counted-fits _ _ _ (sym (c .before .before .count .ensures) ∙ c .enum-told3 .given .1) in omega arith
+value-counted c = let f = counted-fits _ _ _ (c .before .before .count .ensures) (c .enum-told3 .given .1) in omega arith
 
 returns : tie.Need-returns
-returns c = too-long _ _ _ (counted-over _ _ (sym (c .before .before .inputs-len .ensures) ∙ c .enum-told2 .given .1))
+returns c = too-long _ _ _ (counted-over _ _ (c .before .before .inputs-len .ensures) (c .enum-told2 .given .1))
 
 returns-2 : tie.Need-returns-2
-returns-2 c = no-room _ _ _ (names-counted (c .before .before .before)) (counted-over _ _ (sym (c .before .before .count .ensures) ∙ c .enum-told4 .given .1))
+returns-2 c = no-room _ _ _ (names-counted (c .before .before .before)) (counted-over _ _ (c .before .before .count .ensures) (c .enum-told4 .given .1))
 
 fill-requires : tie.Need-fill-requires
 fill-requires c κs = omega (arith, value-counted (c .before))

@@ -16,7 +16,7 @@ use Rattle.framing.proofs.fill_payload.Tie as tie
 abbrev known : tie.After-copy → tie.After-tag-of
 known c = c .before .before .before .before .before
 
--- the bytes taken stand behind the filled mark
+-- the bytes taken stand after the filled mark
 stored : (c : tie.After-copy) →
     let a = known c .before .before .before .before .before .before .args in
     let have = known c .before .before .behind-header .result in

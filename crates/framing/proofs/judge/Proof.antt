@@ -1,4 +1,4 @@
--- The length is judged in the order of document 01.
+-- The length is judged in this order: negative, below 4, over the limit.
 use Rattle.framing.proofs.Laws.{length-negative, length-short, length-over, length-good}
 use borrow.Author.Needs.{needs}
 use Rattle.framing.proofs.judge.Statement.{statement}

@@ -1,4 +1,4 @@
--- Four bytes stand behind the tag.
+-- Four bytes stand after the tag.
 use Rattle.wire.proofs.FieldLaws.{told, field-whole}
 use Rattle.wire.specs.Field.{u32Of}
 use Rattle.wire.proofs.Laws.{impossible}

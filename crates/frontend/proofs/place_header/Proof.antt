@@ -1,4 +1,4 @@
--- The tag, and the length field behind it.
+-- The tag, and the length field after it.
 use Rattle.wire.proofs.Pieces.{filling-start, filling-next, filling-last}
 use Rattle.frontend.proofs.Laws.{header-pieces, length-header}
 use Rattle.frontend.specs.Code.{header}

@@ -1,4 +1,4 @@
--- The letter, the position three times, the time and the flag, one behind the other.
+-- The letter, the position three times, the time and the flag, one after the other.
 use mir.Syntax.{w64}
 use mir.ValLaws.{toZ-ofZ}
 use Rattle.frontend.proofs.Laws.{status-pieces, length-status}

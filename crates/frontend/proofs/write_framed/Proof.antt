@@ -1,4 +1,4 @@
--- The header, and the payload behind it.
+-- The header, and the payload after it.
 use Rattle.frontend.proofs.Laws.{framed-header, length-framed}
 use Rattle.wire.proofs.Pieces.{filling-start, filling-next, filling-last}
 use Rattle.error.proofs.Laws.{too-long, no-room, wrote-placed}

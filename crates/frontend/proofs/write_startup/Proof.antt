@@ -1,4 +1,4 @@
--- The texts are counted; where all has room, the length, the version, the texts and the end are written one behind the other.
+-- The texts are counted; where all has room, the length, the version, the texts and the end are written one after the other.
 use mir.Syntax.{w32}
 use mir.ValLaws.{toZ-ofZ}
 use Rattle.frontend.proofs.Laws.{startup-front, length-startup}
@@ -20,9 +20,9 @@ use Rattle.frontend.proofs.write_startup.Tie as tie
 
 -- the texts were counted
 counted : (c : tie.After-known-told) → let n = c .before .sum .given .0 .0 in (total (c .before .before .before .before .before .args .texts .now) ≡ n) × (n ≤ inputLimit)
-counted c = counted-fits _ _ _ (sym (c .before .before .before .inputs-len .ensures) ∙ c .before .sum .given .1)
+counted c = counted-fits _ _ _ (c .before .before .before .inputs-len .ensures) (c .before .sum .given .1)
 
--- .. and have room
+-- the texts have room
 abbrev start : tie.Else1 → tie.Start
 start c = c .before .before .before .before .before .before
 
@@ -40,7 +40,7 @@ front c =
     (rw (toZ-ofZ w32 (s .args .version) (s .fits .version)) at (c .write-i32 .ensures))
 
 returns : tie.Need-returns
-returns c = too-long _ _ _ (counted-over _ _ (sym (c .before .before .inputs-len .ensures) ∙ c .enum-told .given .1))
+returns c = too-long _ _ _ (counted-over _ _ (c .before .before .inputs-len .ensures) (c .enum-told .given .1))
 
 add-n : tie.Need-add-n
 add-n c = omega (arith, counted c .1)

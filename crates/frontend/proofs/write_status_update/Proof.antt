@@ -1,4 +1,4 @@
--- The header, and the body behind it.
+-- The header, and the body after it.
 use mir.Syntax.{w64}
 use mir.ValLaws.{toZ-ofZ}
 use Rattle.frontend.proofs.Laws.{length-header, framed-header, length-framed, length-status}

@@ -1,4 +1,4 @@
--- The text is written where the length that was counted fits behind the place.
+-- The text is written where the length that was counted fits after the place.
 use Rattle.wire.proofs.Laws.{unplaced, placed-at}
 use Rattle.error.proofs.Laws.{counted-fits, counted-over}
 use Rattle.lossy.specs.Lossy.{lossyOf}
@@ -15,13 +15,13 @@ returns c = unplaced _ _ _ (omega arith)
 
 returns-2 : tie.Need-returns-2
 returns-2 c =
-    let h = counted-over _ _ (sym (c .before .before .count .ensures) ∙ c .enum-told .given .1) in
+    let h = counted-over _ _ (c .before .before .count .ensures) (c .enum-told .given .1) in
     unplaced _ _ _ (omega arith)
 
 -- the text was counted
 counted : (c : tie.After-n) → let a = c .before .before .before .before .before .before .args in let n = c .n .given .0 .0 in
     (length (lossyOf (a .text .now)) ≡ n) × (n ≤ length (a .out .now) - a .to)
-counted c = counted-fits _ _ _ (sym (c .before .before .count .ensures) ∙ c .n .given .1)
+counted c = counted-fits _ _ _ (c .before .before .count .ensures) (c .n .given .1)
 
 fill-requires : tie.Need-fill-requires
 fill-requires c κs = let h = counted (c .before .before) in omega arith

@@ -13,12 +13,12 @@ returns : tie.Need-returns
 returns c = too-long _ _ _ (c .if1 .taken)
 
 returns-2 : tie.Need-returns-2
-returns-2 c = no-room _ _ _ (omega arith) (counted-over _ _ (sym (c .before .before .count .ensures) ∙ c .enum-told .given .1))
+returns-2 c = no-room _ _ _ (omega arith) (counted-over _ _ (c .before .before .count .ensures) (c .enum-told .given .1))
 
 -- the text was counted
 counted : (c : tie.After-n) → let a = c .before .before .before .before .before .before .args in let n = c .n .given .0 .0 in
     (length (lossyOf (a .text .now)) ≡ n) × (n ≤ length (a .out .now))
-counted c = counted-fits _ _ _ (sym (c .before .before .count .ensures) ∙ c .n .given .1)
+counted c = counted-fits _ _ _ (c .before .before .count .ensures) (c .n .given .1)
 
 fill-requires : tie.Need-fill-requires
 fill-requires c κs = let h = counted (c .before .before) in omega arith

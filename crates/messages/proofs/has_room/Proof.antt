@@ -24,11 +24,11 @@ under a b room h = sym (le-leb (length (coded a b)) room (rw length-coded h))
 -- the text was counted
 counted : (c : tie.After-known-told) → let a = c .before .before .before .before .before .before .args in let n = c .before .n .given .0 .0 in
     (length (lossyOf (a .text .now)) ≡ n) × (n ≤ a .room)
-counted c = counted-fits _ _ _ (sym (c .before .before .before .count .ensures) ∙ c .before .n .given .1)
+counted c = counted-fits _ _ _ (c .before .before .before .count .ensures) (c .before .n .given .1)
 
 returns : tie.Need-returns
 returns c =
-    let h = counted-over _ _ (sym (c .before .before .count .ensures) ∙ c .enum-told .given .1) in
+    let h = counted-over _ _ (c .before .before .count .ensures) (c .enum-told .given .1) in
     over _ _ _ (omega arith)
 
 sub-left : tie.Need-sub-left
@@ -40,13 +40,13 @@ returns-2 c = let n = counted (c .before) in over _ _ _ (omega arith)
 returns-3 : tie.Need-returns-3
 returns-3 c =
     let n = counted (c .before .before .before .before) in
-    let m = counted-fits _ _ _ (sym (c .before .before .count2 .ensures) ∙ c .enum-told2 .given .1) in
+    let m = counted-fits _ _ _ (c .before .before .count2 .ensures) (c .enum-told2 .given .1) in
     under _ _ _ (omega arith)
 
 returns-4 : tie.Need-returns-4
 returns-4 c =
     let n = counted (c .before .before .before .before) in
-    let h = counted-over _ _ (sym (c .before .before .count2 .ensures) ∙ c .enum-told3 .given .1) in
+    let h = counted-over _ _ (c .before .before .count2 .ensures) (c .enum-told3 .given .1) in
     over _ _ _ (omega arith)
 
 pub has-room-spec : {M : Type 1} → statement M

@@ -1,4 +1,4 @@
--- A code is read where there are four bytes, and the rest is what is behind them.
+-- A code is read where there are four bytes, and the rest is what is after them.
 use mathlib.Core.Path.{_≡_}
 use mathlib.Core.Option.{some}
 use native.Mathlib.Omega.{arith}

@@ -1,4 +1,4 @@
--- The four pieces are placed one behind the other.
+-- The four pieces are placed one after the other.
 use mathlib.Core.Bool.{false}
 use mathlib.Core.Path.{_≡_, refl, sym, _∙_}
 use mathlib.Core.List.{List}

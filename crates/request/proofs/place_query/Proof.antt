@@ -1,4 +1,4 @@
--- The pieces one behind the other: what is still to be written, put where the writing stands, gives the whole (Filling).
+-- The pieces one after the other: what is still to be written, put where the writing stands, gives the whole (Filling).
 use Prim.Native.Nat.{_+_, _-_, _≤_}
 use native.Mathlib.Omega.{arith}
 use lib.ListN.{length}

@@ -20,7 +20,7 @@ start c = c .before .before .before .before .before .before
 -- the inputs together are within 25's bound
 inputs-fit : (c : tie.After-enum-told) → length (start c .args .slot .now) + total (start c .args .publications .now) ≤ inputLimit
 inputs-fit c =
-    let t = counted-fits _ _ _ (sym (c .before .before .inputs-len .ensures) ∙ c .enum-told .given .1) in
+    let t = counted-fits _ _ _ (c .before .before .inputs-len .ensures) (c .enum-told .given .1) in
     omega (arith, c .before .before .before .if1 .left)
 
 returns : tie.Need-returns
@@ -28,14 +28,14 @@ returns c = too-long _ _ _ (omega arith)
 
 returns-2 : tie.Need-returns-2
 returns-2 c =
-    let f = counted-over _ _ (sym (c .before .before .inputs-len .ensures) ∙ c .enum-told2 .given .1) in
+    let f = counted-over _ _ (c .before .before .inputs-len .ensures) (c .enum-told2 .given .1) in
     too-long _ _ _ (omega arith)
 
 returns-3 : tie.Need-returns-3
 returns-3 c =
     let fits = c .before .before .before in
     let a = start fits .args in
-    let f = counted-over _ _ (sym (c .before .before .count .ensures) ∙ c .enum-told3 .given .1) in
+    let f = counted-over _ _ (c .before .before .count .ensures) (c .enum-told3 .given .1) in
     let l = length-request (a .binary) (a .slot .now) (a .publications .now) (a .position) in
     no-room _ _ _ (inputs-fit fits) (omega arith)
 
@@ -44,7 +44,7 @@ request-len-requires c κs =
     let names = c .before .before .before in
     let fits = names .before .before .before in
     let a = start fits .args in
-    let f = counted-fits _ _ _ (sym (names .before .before .count .ensures) ∙ names .names .given .1) in
+    let f = counted-fits _ _ _ (names .before .before .count .ensures) (names .names .given .1) in
     omega (arith, length-position (a .position .0), length-end (a .binary), inputs-fit fits, c .end-len .ensures, c .before .text-len .ensures, start fits .good)
 
 -- the sum is the query's length
@@ -54,7 +54,7 @@ sum-is : (c : tie.After-request-len)
 sum-is c =
     let names = c .before .before .before .before in
     let a = start (names .before .before .before) .args in
-    let f = counted-fits _ _ _ (sym (names .before .before .count .ensures) ∙ names .names .given .1) in
+    let f = counted-fits _ _ _ (names .before .before .count .ensures) (names .names .given .1) in
     omega (
       arith,
       length-request (a .binary) (a .slot .now) (a .publications .now) (a .position),

@@ -1,4 +1,4 @@
--- The tests in the order of document 01.
+-- The tests in their order: 3, a remembered 7, then the header or the payload.
 use Rattle.framing.specs.Read.{readOf}
 use borrow.Author.Tests.{lt-ltb, le-ltb}
 use borrow.Author.Needs.{needs}

@@ -12,7 +12,7 @@ use borrow.Author.Needs.{needs}
 use Rattle.lossy.proofs.part.follow.Statement.{statement}
 use Rattle.lossy.proofs.part.follow.Tie as tie
 
--- the range of every byte behind the second
+-- the range of every byte after the second
 abbrev later : Range
 later = record { low = 0x80; high = 0xBF }
 
@@ -26,7 +26,7 @@ behind-one c e =
     let a = start c .args in
     matched-next (a .l .due) (a .at) (a .at + 1) _ _ (a .s .now) (omega arith) (omega arith) (c .before .next-in .ensures) (not-false _ (c .if2 .left)) e
 
--- .. and so is the second
+-- the second byte is in its range too
 behind-two : (c : tie.Else4) {n : ℕ} → let a = start (c .before .before .before) .args in n ≡ matched (take (a .l .due - 1 - 1) (later ∷ [])) (drop (a .at + 2) (a .s .now))
     → suc (suc n) ≡ matched (trail (a .l)) (drop (a .at) (a .s .now))
 behind-two c e =

@@ -12,7 +12,7 @@ returns c = rw (c .due .ensures) (row-at 0 table _ (omega arith) (omega arith), 
 
 returns-2 : tie.Need-returns-2
 unfolding table
-returns-2 c = rw (c .none .ensures) (row-none 1 table _ (omega arith) (omega arith), omega arith)
+returns-2 c = rw (c .no-lead .ensures) (row-none 1 table _ (omega arith) (omega arith), omega arith)
 
 returns-3 : tie.Need-returns-3
 unfolding table
@@ -48,7 +48,7 @@ returns-10 c = rw (c .due9 .ensures) (row-at 8 table _ (omega arith) (omega arit
 
 returns-11 : tie.Need-returns-11
 unfolding table
-returns-11 c = rw (c .none2 .ensures) (row-none 9 table _ (omega arith) (omega arith), omega arith)
+returns-11 c = rw (c .no-lead2 .ensures) (row-none 9 table _ (omega arith) (omega arith), omega arith)
 
 pub lead-of-spec : {M : Type 1} → statement M
 lead-of-spec =

@@ -4,8 +4,7 @@ use mathlib.Core.Option.{some}
 use Prim.Native.Nat.{_+_, _<_}
 use native.Mathlib.Omega.{arith}
 use lib.ListN.{length, take, length-take}
-use Rattle.wire.specs.Find.{indexOf}
-use Rattle.wire.specs.declared.find.Found.the-variants.{At}
+use Rattle.wire.specs.Find.{indexOf, foundOf}
 use Rattle.wire.proofs.Laws.{tail-whole}
 use Rattle.wire.proofs.FieldLaws.{told}
 use Rattle.wire.proofs.FindLaws.{found-below}
@@ -18,13 +17,13 @@ use Rattle.lsn.proofs.Lsn.parse.Tie as tie
 abbrev start : tie.After-i → tie.Start
 start c = c .before .before .before .before
 
-slash-found : (c : tie.After-i) → indexOf 47 (start c .args .s .now) ≡ At (c .i .given .0 .0)
-slash-found c = sym (c .before .before .find .ensures) ∙ c .i .given .1
+slash-found : (c : tie.After-i) → indexOf 47 (start c .args .s .now) ≡ some (c .i .given .0 .0)
+slash-found c = told foundOf (c .before .before .find .ensures) (c .i .given .1)
 
 slash-below : (c : tie.After-i) → c .i .given .0 .0 < length (start c .args .s .now)
 slash-below c = found-below 47 _ _ (slash-found c)
 
--- behind the slash
+-- after the slash
 abbrev slash : tie.After-hi → tie.After-i
 slash c = c .before .before .before .before .before
 
@@ -33,7 +32,7 @@ high-read c = told partOf (c .before .before .part .ensures) (c .hi .given .1)
 
 returns : tie.Need-returns
 unfolding positionOf
-returns c = simp (sym (c .before .before .find .ensures) ∙ c .enum-told .given .1)
+returns c = simp (told foundOf (c .before .before .find .ensures) (c .enum-told .given .1))
 
 slice-aggregate-part : tie.Need-slice-aggregate-part
 slice-aggregate-part c = simp length-take (omega (arith, slash-below (c .before .before)))

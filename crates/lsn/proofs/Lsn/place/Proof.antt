@@ -1,4 +1,4 @@
--- Counted first, then the three pieces, one behind the other.
+-- Counted first, then the three pieces, one after the other.
 use Rattle.wire.proofs.Laws.{unplaced}
 use Rattle.lsn.proofs.Laws.{displayed}
 use native.Mathlib.Omega.{arith}

@@ -1,11 +1,12 @@
 -- What is unread at the place, entered into the fields so far, gives the fields of the payload.
+use mathlib.Core.Option.{some, none}
 use mathlib.Core.Path.{_≡_, refl, sym, _∙_}
 use Prim.Native.Nat.{_<_, _+_, _-_}
 use native.Mathlib.Omega.{arith}
 use lib.ListN.{length, drop, length-drop}
 use borrow.Author.Needs.{needs}
-use Rattle.wire.specs.Find.{indexOf}
-use Rattle.wire.specs.declared.find.Found.the-variants.{At, Nothing}
+use Rattle.wire.specs.Find.{indexOf, foundOf}
+use Rattle.wire.proofs.FieldLaws.{told}
 use Rattle.wire.proofs.Laws.{tail-whole}
 use Rattle.wire.proofs.FindLaws.{found-below}
 use Rattle.messages.specs.Fields.{letters, fieldsOf}
@@ -33,7 +34,7 @@ returns-2 c =
     let f = c .before .before in
     let l = f .before .before .before .before .before in
     let s = l .before .before .before .args .payload .now in
-    let e : indexOf 0 (drop (l .loop .at + 1) s) ≡ Nothing = rw (tail-whole s (l .loop .at + 1)) at (sym (f .find-zero .ensures) ∙ c .enum-told .given .1) in
+    let e : indexOf 0 (drop (l .loop .at + 1) s) ≡ none = rw (tail-whole s (l .loop .at + 1)) at (told foundOf (f .find-zero .ensures) (c .enum-told .given .1)) in
     ended s (l .loop .r .fields) (l .loop .at) (l .loop .inv .0) (unread-cut s (l .loop .at) (omega arith) (f .before .before .if1 .left) e) (l .loop .inv .1)
 
 -- the zero byte that ends the value stands in the payload
@@ -41,13 +42,13 @@ zero-found : (c : tie.After-with Inv-loop μ-loop) →
     let l = c .before .before .before .before .before .before .before .before .before in
     let s = l .before .before .before .args .payload .now in
     let len = c .before .before .len .given .0 .0 in
-    (indexOf 0 (drop (l .loop .at + 1) s) ≡ At len) × (l .loop .at + 1 + len < length s)
+    (indexOf 0 (drop (l .loop .at + 1) s) ≡ some len) × (l .loop .at + 1 + len < length s)
 zero-found c =
     let f = c .before .before .before .before in
     let l = f .before .before .before .before .before in
     let s = l .before .before .before .args .payload .now in
     let len = c .before .before .len .given .0 .0 in
-    let e : indexOf 0 (drop (l .loop .at + 1) s) ≡ At len = rw (tail-whole s (l .loop .at + 1)) at (sym (f .find-zero .ensures) ∙ c .before .before .len .given .1) in
+    let e : indexOf 0 (drop (l .loop .at + 1) s) ≡ some len = rw (tail-whole s (l .loop .at + 1)) at (told foundOf (f .find-zero .ensures) (c .before .before .len .given .1)) in
     let h = found-below 0 (drop (l .loop .at + 1) s) len e in
     let k = length-drop (l .loop .at + 1) s in
     (e, omega arith)

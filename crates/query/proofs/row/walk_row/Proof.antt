@@ -3,7 +3,7 @@ use mathlib.Core.Option.{some}
 use mathlib.Core.Path.{_≡_}
 use Rattle.wire.specs.Field.{fieldAt, u16Of}
 use Rattle.wire.proofs.FieldLaws.{told}
-use Rattle.query.specs.Row.{rowOf, nth}
+use Rattle.query.specs.Row.{columnsOf, nth}
 use borrow.Author.Tests.{le-leb, lt-leb}
 use borrow.Author.Needs.{needs}
 use Rattle.query.proofs.row.walk_row.Statement.{statement}
@@ -13,15 +13,15 @@ count-read : (c : tie.After-n) → fieldAt 2 (c .before .before .before .before 
 count-read c = told u16Of (c .before .before .read-u16 .ensures) (c .n .given .1)
 
 returns : tie.Need-returns
-unfolding rowOf
+unfolding columnsOf
 returns c = simp (told u16Of (c .before .before .read-u16 .ensures) (c .enum-told .given .1))
 
 returns-2 : tie.Need-returns-2
-unfolding rowOf nth
+unfolding columnsOf nth
 returns-2 c = simp (count-read (c .before .before), le-leb _ _ (c .if1 .taken))
 
 returns-3 : tie.Need-returns-3
-unfolding rowOf
+unfolding columnsOf
 returns-3 c = simp (count-read (c .before .before .before), lt-leb _ _ (c .before .if1 .left)) (c .walk .ensures)
 
 pub walk-row-spec : {M : Type 1} → statement M

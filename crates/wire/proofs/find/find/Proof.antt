@@ -3,14 +3,14 @@ use mathlib.Core.Path.{_≡_, sym, _∙_}
 use Prim.Native.Nat.{_≤_, _-_}
 use native.Mathlib.Omega.{arith}
 use lib.ListN.{length, drop}
-use Rattle.wire.specs.Find.{indexOf, behind}
+use Rattle.wire.specs.Find.{indexOf, later}
 use Rattle.wire.proofs.Laws.{find-here, find-next, find-start, find-none}
 use borrow.Author.Needs.{needs}
 use Rattle.wire.proofs.find.find.Statement.{statement}
 use Rattle.wire.proofs.find.find.Tie as tie
 
 abbrev Inv-loop : tie.InvT-loop
-Inv-loop s b i₀ i = (i ≤ length s) × (indexOf b s ≡ behind i (indexOf b (drop i s)))
+Inv-loop s b i₀ i = (i ≤ length s) × (indexOf b s ≡ later i (indexOf b (drop i s)))
 
 abbrev μ-loop : tie.MeasureT-loop
 μ-loop s b i₀ i = length s - i

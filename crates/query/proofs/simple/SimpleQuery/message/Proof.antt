@@ -12,7 +12,7 @@ returns c = rw (c .before .match .keys1) (rw (← c .with-row .ensures))
 
 returns-2 : tie.Need-returns-2
 unfolding messageOf
-returns-2 c = rw (c .before .before .before .before .match .keys2) (ap errorKept (c .before .before .copy .ensures))
+returns-2 c = rw (c .before .before .before .before .match .keys2) (ap (errorKept _) (c .before .before .copy .ensures))
 
 returns-3 : tie.Need-returns-3
 unfolding messageOf

@@ -1,0 +1,3 @@
+pub mod After
+pub mod Laws
+pub mod Thin
