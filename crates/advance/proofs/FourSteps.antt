@@ -1,17 +1,17 @@
 -- Where a message is at hand and its four steps apply, they do one by one what is done at once.
 use mathlib.Core.Path.{_≡_, refl, sym, ap, _∙_}
 use mathlib.Core.Bool.{Bool, true, false}
-use mathlib.Core.List.{List, [], _∷_, append-nil}
+use mathlib.Core.List.{List, [], _∷_}
 use Prim.Native.Nat.{ℕ, _+_, _-_, _≤_, _<_, min}
 use native.Mathlib.Omega.{arith}
 use lib.IntN.{ℤ}
-use lib.ListN.{length, getD, take, drop, length-drop, drop-of-length-le, take-append-drop}
+use lib.ListN.{length, getD, take, drop, length-drop, take-append-drop, List·getD-append}
 use lib.Seq.{take-all, take-at, drop-append-le, drop-drop, length-take-le, getD-take}
 use lib.Dec.{ltb, eqb}
 use borrow.Author.Tests.{le-leb, lt-ltb, le-ltb, ltb-true, ltb-false, leb-false, eqb-true, eqb-false, eq-eqb, not-true}
 use Rattle.wire.specs.Bytes.{pick, at, put}
 use Rattle.wire.specs.Int.{half, isNegative}
-use Rattle.wire.proofs.Laws.{by-test, impossible, length-put}
+use Rattle.wire.proofs.Laws.{by-test, impossible, length-put, tail-whole}
 use Rattle.stream.specs.Message.{lengthField}
 use Rattle.stream.proofs.Front.{length-field-append}
 use Rattle.framing.specs.declared.MessageReader.{MessageReader}
@@ -24,10 +24,9 @@ use Rattle.moment.specs.declared.Moment.{Moment}
 use Rattle.moment.specs.Moment.{inRange}
 use Rattle.pgoutput.specs.Boundary.{boundaryOf}
 use Rattle.pgoutput.specs.Boundary as B
-use Rattle.replication.specs.CopyData.{copyDataOf, xlogOf}
+use Rattle.replication.specs.CopyData.{copyDataOf}
 use Rattle.replication.specs.CopyData as C
 use Rattle.worker.specs.declared.Event.{Event}
-use Rattle.worker.specs.declared.Event.the-variants.{Begin, Commit, Message, XLogData}
 use Rattle.worker.specs.declared.Input.{Input}
 use Rattle.worker.specs.declared.Queue.{Queue}
 use Rattle.worker.specs.declared.Queue.the-variants.{Free, Full, Closed}
@@ -35,11 +34,13 @@ use Rattle.worker.specs.declared.Run.{Run}
 use Rattle.worker.specs.declared.State.{State}
 use Rattle.worker.specs.declared.State.the-variants.{Opening, Turn, Drain, Reading, Waiting, Handling, Offering, Ended}
 use Rattle.worker.specs.Answer.{lent}
+use Rattle.worker.specs.Events.{dataGives}
+use Rattle.worker.specs.Events as E
 use Rattle.worker.specs.Run.{lsn, wholeOf, run, withState, withReader, withDrained, withWhole, withMetrics, accepted}
-use Rattle.worker.specs.Step.{Outcome, Lent, handing, moved, having, isEnded, badMoment, reaches, readingBy, readingOf, drainOf, boundaryBy, copyDataBy, handlingOf, firstBy, offeringOf, offers, offersAt, isStoppedAt, stateOf, stepOf}
-use Rattle.advance.specs.declared.AtHand.{AtHand}
-use Rattle.advance.specs.Advance.{isNothing, tells, lentBehind, behind, twice, advanceOf}
-use Rattle.advance.specs.AtHand.{atHand, logicalOf, within, wholeAt, byBoundary, byCopyData, xlogAtHand, messageOf, atHandOf, isDrain, isFree, isBetween, hasRoom, appliesOf, handedRun, handedOf, Hands-on-at-once}
+use Rattle.worker.specs.Step.{Outcome, Lent, handing, moved, having, isEnded, badMoment, reaches, readingBy, readingOf, drainOf, givenOf, copyDataBy, handlingOf, firstBy, offeringOf, offers, offersAt, isStoppedAt, stateOf, stepOf}
+use Rattle.advance.specs.declared.at_hand.AtHand.{AtHand}
+use Rattle.advance.specs.Advance.{tells, lentAfter, after, twice, advanceOf}
+use Rattle.advance.specs.AtHand.{atHand, within, wholeAt, byGiven, byCopyData, messageOf, atHandOf, isDrain, isFree, isBetween, hasRoom, appliesOf, handedRun, handedOf, Hands-on-at-once}
 
 -- ---- tests
 
@@ -75,13 +76,7 @@ drain-is Ended e = impossible cc
 
 -- ---- a read of a message that is whole
 
-put-over : (d s : List ℕ) → length s ≡ length d → put d 0 s ≡ s
-unfolding put
-put-over d s h =
-    let e : drop (0 + length s) d ≡ [] = drop-of-length-le d {i = 0 + length s} (omega arith) in
-    rw e (append-nil s)
-
--- what a buffer holds behind a write over its front
+-- what a buffer holds after a write over its front
 front-put : (p s : List ℕ) (n : ℕ) → length s ≡ n → take n (put p 0 s) ≡ s
 unfolding put
 front-put p s n h = take-at s _ n h
@@ -129,7 +124,7 @@ whole-is u h =
     }))))
     (λ b. absurd (h (rw (a, b)))))
 
-module _ (s n : ℕ) (x : MessageReader) (u : List ℕ) (e : Bool) (p : List ℕ) (five : length (x .header) ≡ 5) (none-there : x .filled ≡ 0)
+module _ (s n : ℕ) (x : MessageReader) (u : List ℕ) (e : Bool) (p : List ℕ) (none-there : x .filled ≡ 0)
     (going : x .refused ≡ false) (room : limitOf s ≤ length p) (fits : n ≤ limitOf s) (w : Whole u n) where
   abbrev v : List ℕ
   v = take (length u) (drop 5 u)
@@ -137,32 +132,46 @@ module _ (s n : ℕ) (x : MessageReader) (u : List ℕ) (e : Bool) (p : List ℕ
   v-is : v ≡ drop 5 u
   v-is = take-all (length u) (drop 5 u) (simp length-drop (omega arith))
 
-  payload-read : (whole 100 n, fresh, n, put p 0 (take n v)) ≡ payloadOf (at-byte (take 5 u) 5 (n + 4 - 4)) v false p
+  -- the reader's header with the message's written over it: its tag, and its length field
+  abbrev h : List ℕ
+  h = put (x .header) 0 (take 5 u)
+
+  header-tag : 100 ≡ getD h 0 0
+  unfolding put
+  header-tag =
+      let k = w .enough in
+      let l : length (take 5 u) ≡ 5 = length-take-le 5 u (omega arith) in
+      sym (List·getD-append (take 5 u) _ 0 0 (omega arith) ∙ (getD-take 5 u 0 0 (omega arith) ∙ w .tag))
+
+  header-length : n + 4 ≡ lengthField h
+  unfolding put
+  header-length =
+      let k = w .enough in
+      let l : length (take 5 u) ≡ 5 = length-take-le 5 u (omega arith) in
+      let a : lengthField u ≡ lengthField (take 5 u) = ap lengthField (sym (take-append-drop 5 u)) ∙ length-field-append (take 5 u) (drop 5 u) (omega arith) in
+      sym (w .told) ∙ (a ∙ sym (length-field-append (take 5 u) (drop (0 + length (take 5 u)) (x .header)) (omega arith)))
+
+  payload-read : (whole 100 n, fresh, n, put p 0 (take n v)) ≡ payloadOf (at-byte h 5 (n + 4 - 4)) v false p
   payload-read =
       let k1 = w .enough in
       let k2 = w .there in
       let k3 = w .least in
       let lv : length v ≡ length u - 5 = ap length v-is ∙ length-drop 5 u in
-      let tg : 100 ≡ getD (take 5 u) 0 0 = sym (getD-take 5 u 0 0 (omega arith) ∙ w .tag) in
-      L.payload-whole (at-byte (take 5 u) 5 (n + 4 - 4)) v false p n 0 100 (omega arith) (omega arith) tg n (put p 0 (take n v)) (omega arith) refl (omega arith) fresh refl
+      L.payload-whole (at-byte h 5 (n + 4 - 4)) v false p n 0 100 (omega arith) (omega arith) header-tag n (put p 0 (take n v)) (omega arith) refl (omega arith) fresh refl
       (omega arith)
 
-  judged-read : (whole 100 n, fresh, n, put p 0 (take n v)) ≡ judgedOf (limitOf s) (take 5 u) v p
+  judged-read : (whole 100 n, fresh, n, put p 0 (take n v)) ≡ judgedOf (limitOf s) h v p
   judged-read =
       let k1 = w .enough in
       let k2 = w .small in
-      let tl : length (take 5 u) ≡ 5 = length-take-le 5 u (omega arith) in
-      let lt : lengthField u ≡ lengthField (take 5 u) = ap lengthField (sym (take-append-drop 5 u)) ∙ length-field-append (take 5 u) (drop 5 u) (omega arith) in
-      let lf : n + 4 ≡ lengthField (take 5 u) = sym (w .told) ∙ lt in
-      L.length-good (limitOf s) (take 5 u) v p (n + 4) lf (omega arith) (omega arith) (at-byte (take 5 u) 5 (n + 4 - 4)) _ refl (omega arith) payload-read
+      L.length-good (limitOf s) h v p (n + 4) header-length (omega arith) (omega arith) (at-byte h 5 (n + 4 - 4)) _ refl (omega arith) payload-read
 
   header-read : later 5 (whole 100 n, fresh, n, put p 0 (take n v)) ≡ headerOf (limitOf s) x u e p
   header-read =
       let k1 = w .enough in
       let ek : 5 ≡ min (5 - x .filled) (length u) = omega arith in
-      let tl : length (take 5 u) ≡ 5 = length-take-le 5 u (omega arith) in
-      let eh : take 5 u ≡ put (x .header) (x .filled) (take 5 u) = rw none-there (sym (put-over (x .header) (take 5 u) (omega arith))) in
-      L.header-whole (limitOf s) x u e p 5 (take 5 u) ek eh (length u) _ (omega arith) judged-read (omega arith)
+      let eh : h ≡ put (x .header) (x .filled) (take 5 u) = rw none-there in
+      L.header-whole (limitOf s) x u e p 5 h ek eh (length u) _ (omega arith) judged-read (omega arith)
 
   read-whole : readOf s x u e p ≡ (whole 100 n, fresh, 5 + n, put p 0 (at u 5 n))
   unfolding readOf
@@ -187,10 +196,23 @@ parts-are (letter ∷ t) =
     (L.pick-both (partsIn (length (letter ∷ t))) (ltb (length t) 17) _ _ tt tt)
     tt)
 
+-- data give no StoppedAt
+plainIn : E.Given → Type 0
+plainIn (E.given e reached) = isStoppedAt e ≡ false
+plainIn (E.refused n) = Unit {0}
+
+data-plain : (b : B.Said) (start end : ℕ) (time : ℤ) (from len : ℕ) → plainIn (dataGives b start end time from len)
+unfolding plainIn
+data-plain (B.begin final commit-time xid) start end time from len = refl
+data-plain (B.commit position commit-end commit-time) start end time from len = refl
+data-plain (B.message flag position pf pl cf cl) start end time from len = refl
+data-plain B.no-boundary start end time from len = refl
+data-plain (B.refused n) start end time from len = tt
+
 -- ---- twice, where the first tells nothing
 
 twice-goes : (f : Run → Input → Lent → Outcome) (r : Run) (i : Input) (l : Lent) (o : Outcome) → f r i l ≡ o → tells o ≡ false
-    → twice f r i l ≡ behind (o .taken) (f (o .run) i (lentBehind l o))
+    → twice f r i l ≡ after (o .taken) (f (o .run) i (lentAfter l o))
 unfolding twice
 twice-goes f r i l o e t = rw (e, t)
 
@@ -208,7 +230,7 @@ accepts r i l a b c d = fourth _ _ _ _ _ _ _ _ _ a (le-ltb _ _ b) (le-ltb _ _ c)
 again : (r : Run) (m : Moment) → badMoment r m ≡ false → badMoment (accepted m r) m ≡ false
 again r m e = by-test (inRange m) (λ a. rw (a, le-ltb (m .0) (m .0) (omega arith))) (λ a. impossible cc)
 
-module _ (r : Run) (i : Input) (u p o : List ℕ) (n : ℕ) (state : r .state ≡ Drain) (five : length (r .reader .header) ≡ 5) (none-there : r .reader .filled ≡ 0)
+module _ (r : Run) (i : Input) (u p o : List ℕ) (n : ℕ) (state : r .state ≡ Drain) (none-there : r .reader .filled ≡ 0)
     (going : r .reader .refused ≡ false) (few : r .drained < 256) (room : limitOf (r .settings .«max_message_size») ≤ length p)
     (fits : n ≤ limitOf (r .settings .«max_message_size»)) (out : 39 ≤ length o) (moment : badMoment r (i .moment) ≡ false) (w : Whole u n) where
   abbrev m : Moment
@@ -242,7 +264,7 @@ module _ (r : Run) (i : Input) (u p o : List ℕ) (n : ℕ) (state : r .state �
   reads =
       accepts r1 i l refl room out (again r m moment)
       ∙ ap (λ (x : Result). having (x .2) (x .3) (readingBy (x .0) (withReader (x .1) r1) l))
-      (read-whole (r .settings .«max_message_size») n (r .reader) u (i .ended) p five none-there going room fits w)
+      (read-whole (r .settings .«max_message_size») n (r .reader) u (i .ended) p none-there going room fits w)
 
   both-read : twice stepOf r i l ≡ having (5 + n) q (moved r2 l)
   both-read = twice-goes stepOf r i l (moved r1 l) drains refl ∙ rw reads (ap (λ (k : ℕ). having k q (moved r2 l)) (omega arith))
@@ -264,19 +286,20 @@ module _ (r : Run) (i : Input) (u p o : List ℕ) (n : ℕ) (state : r .state �
     abbrev r3 : Event → Lsn → Run
     r3 e reached = offers e false reached (withMetrics (withEnd (r .metrics) (lsn end)) r2)
 
-    -- by what the boundary offers
-    module _ (e : Event) (reached : Lsn) (passes : reaches r reached ≡ false) (plain : isStoppedAt e ≡ false) (some-event : isNothing e ≡ false)
-        (b : (x : Run) (y : Lent) → boundaryBy (boundaryOf (drop 25 s)) start end time 25 len x y ≡ offersAt e reached x y) where
+    -- by what the data give
+    module _ (e : Event) (reached : Lsn) (passes : reaches r reached ≡ false) (plain : isStoppedAt e ≡ false)
+        (gives : dataGives (boundaryOf (at s 25 len)) start end time 25 len ≡ E.given e reached) where
       handles : stepOf r2 i l2 ≡ moved (r3 e reached) l2
       unfolding stateOf handlingOf
       handles =
           let c : copyDataOf (take n q) ≡ C.w start end time 25 len = ap copyDataOf (front-put p s n s-long) ∙ told in
-          let d : at q 25 len ≡ drop 25 s = rw long (part-put p s 25 n s-long (w .least)) in
+          let d : at q 25 len ≡ at s 25 len = rw long (part-put p s 25 n s-long (w .least) ∙ sym (rw s-long at (tail-whole s 25))) in
+          let b : Run = withMetrics (withEnd (r .metrics) (lsn end)) r2 in
           accepts r2 i l2 refl room2 out (again r m moment)
           ∙ (ap (λ (x : C.Said). copyDataBy x r2 i l2) c
-          ∙ (ap (λ (x : List ℕ). boundaryBy (boundaryOf x) start end time 25 len (withMetrics (withEnd (r .metrics) (lsn end)) r2) l2) d
-          ∙ (b (withMetrics (withEnd (r .metrics) (lsn end)) r2) l2
-          ∙ ap (λ (x : Bool). moved (offers e x reached (withMetrics (withEnd (r .metrics) (lsn end)) r2)) l2) passes)))
+          ∙ (ap (λ (x : List ℕ). givenOf (dataGives (boundaryOf x) start end time 25 len) b l2) d
+          ∙ (ap (λ (x : E.Given). givenOf x b l2) gives
+          ∙ ap (λ (x : Bool). moved (offers e x reached b) l2) passes)))
 
       offers-it : stepOf (r3 e reached) i l2 ≡ handing e (handedRun r m (atHand n (lsn end) reached e)) l2
       unfolding stateOf offeringOf
@@ -293,88 +316,48 @@ module _ (r : Run) (i : Input) (u p o : List ℕ) (n : ℕ) (state : r .state �
           twice-goes (twice stepOf) r i l (having (5 + n) q (moved r2 l)) both-read refl
           ∙ rw both-handed (ap (λ (k : ℕ). having k q (handing e (handedRun r m (atHand n (lsn end) reached e)) l2)) (omega arith))
 
-    by-boundary : (b : B.Said) → boundaryOf (drop 25 s) ≡ b → eqb (byBoundary n start end time len b .len) 0 ≡ false
-        → reaches r (byBoundary n start end time len b .reached) ≡ false
-        → advanceOf r i l ≡ handedOf r m (byBoundary n start end time len b) u p o
-    unfolding logicalOf
-    by-boundary (B.begin final commit-time xid) e h g =
-        four (Begin (lsn final) commit-time xid) (lsn final) g refl refl (λ x y. ap (λ (z : B.Said). boundaryBy z start end time 25 len x y) e)
-    by-boundary (B.commit position commit-end commit-time) e h g =
-        four (Commit (lsn position) (lsn commit-end) commit-time) (lsn commit-end) g refl refl (λ x y. ap (λ (z : B.Said). boundaryBy z start end time 25 len x y) e)
-    by-boundary (B.message flag position pf pl cf cl) e h g =
-        by-test (ltb pf (half 4))
-        (λ a. by-test (ltb cf (half 4))
-        (λ b.
-        rw (a, b)
-        (four (Message flag (lsn position) (25 + pf) pl (25 + cf) cl) (lsn end) (rw (a, b) at g) refl refl (λ x y. ap (λ (z : B.Said). boundaryBy z start end time 25 len x y) e)))
-        (λ b. never (rw (a, b) at h)))
-        (λ a. never (rw a at h))
-    by-boundary B.no-boundary e h g =
-        four (XLogData (lsn start) (lsn end) time 25 len) (lsn end) g refl refl (λ x y. ap (λ (z : B.Said). boundaryBy z start end time 25 len x y) e)
-    by-boundary (B.refused number) e h g = impossible cc
+    by-given : (x : E.Given) → dataGives (boundaryOf (at s 25 len)) start end time 25 len ≡ x → plainIn x → eqb (byGiven n (lsn end) x .len) 0 ≡ false
+        → reaches r (byGiven n (lsn end) x .reached) ≡ false
+        → advanceOf r i l ≡ handedOf r m (byGiven n (lsn end) x) u p o
+    unfolding plainIn
+    by-given (E.given e reached) gives plain h g = four e reached g plain gives
+    by-given (E.refused number) gives plain h g = impossible cc
 
-  by-copy-data : (queue : i .queue ≡ Free) (c : C.Said) → copyDataOf s ≡ c → partsIn n c → eqb (byCopyData n (drop 25 s) c .len) 0 ≡ false
-      → reaches r (byCopyData n (drop 25 s) c .reached) ≡ false
-      → advanceOf r i l ≡ handedOf r m (byCopyData n (drop 25 s) c) u p o
+  by-copy-data : (queue : i .queue ≡ Free) (c : C.Said) → copyDataOf s ≡ c → partsIn n c → eqb (byCopyData s c .len) 0 ≡ false
+      → reaches r (byCopyData s c .reached) ≡ false
+      → advanceOf r i l ≡ handedOf r m (byCopyData s c) u p o
   unfolding partsIn
   by-copy-data queue (C.w start end time from len) e k h g =
-      by-boundary queue start end time len (e ∙ rw (k .0)) (k .1) (boundaryOf (drop 25 s)) refl h g
+      let x : E.Given = dataGives (boundaryOf (at s from len)) start end time from len in
+      let y : x ≡ dataGives (boundaryOf (at s 25 len)) start end time 25 len = rw (k .0) in
+      let z : byCopyData s (C.w start end time from len) ≡ byGiven n (lsn end) x = ap (λ (v : ℕ). byGiven v (lsn end) x) s-long in
+      by-given queue start end time len (e ∙ rw (k .0)) (k .1) x (sym y) (data-plain (boundaryOf (at s from len)) start end time from len)
+      (rw z at h) (rw z at g) ∙ ap (λ (v : AtHand). handedOf r m v u p o) (sym z)
   by-copy-data queue (C.k end time reply) e k h g = impossible cc
   by-copy-data queue (C.refused number) e k h g = impossible cc
 
 -- its length is the payload's
-boundary-len : (n start end : ℕ) (time : ℤ) (len : ℕ) (b : B.Said) → eqb (byBoundary n start end time len b .len) 0 ≡ false → byBoundary n start end time len b .len ≡ n
-unfolding logicalOf
-boundary-len n start end time len (B.begin final commit-time xid) h = refl
-boundary-len n start end time len (B.commit position commit-end commit-time) h = refl
-boundary-len n start end time len (B.message flag position pf pl cf cl) h =
-    by-test (ltb pf (half 4))
-    (λ a. by-test (ltb cf (half 4)) (λ b. rw (a, b))
-    (λ b. never (rw (a, b) at h)))
-    (λ a. never (rw a at h))
-boundary-len n start end time len B.no-boundary h = refl
-boundary-len n start end time len (B.refused number) h = impossible cc
+given-len : (n : ℕ) (end : Lsn) (x : E.Given) → eqb (byGiven n end x .len) 0 ≡ false → byGiven n end x .len ≡ n
+given-len n end (E.given e reached) h = refl
+given-len n end (E.refused number) h = impossible cc
 
-copy-data-len : (n : ℕ) (d : List ℕ) (c : C.Said) → eqb (byCopyData n d c .len) 0 ≡ false → byCopyData n d c .len ≡ n
-copy-data-len n d (C.w start end time from len) h = boundary-len n start end time len (boundaryOf d) h
-copy-data-len n d (C.k end time reply) h = impossible cc
-copy-data-len n d (C.refused number) h = impossible cc
-
--- an XLogData is its letter and what is behind it
-by-letter : (s : List ℕ) → (length s ≡ 0 → ⊥) → getD s 0 0 ≡ 119 → copyDataOf s ≡ xlogOf (drop 1 s)
-unfolding copyDataOf
-by-letter [] h e = absurd (h refl)
-by-letter (letter ∷ t) h e = rw (eq-eqb letter 119 e)
-
-payload-is : (s : List ℕ) → eqb (messageOf s .len) 0 ≡ false → messageOf s ≡ byCopyData (length s) (drop 25 s) (copyDataOf s)
-unfolding messageOf xlogAtHand
-payload-is s h =
-    by-test (eqb (length s) 0)
-    (λ a. never (rw a at h))
-    (λ a. by-test (eqb (getD s 0 0) 119)
-    (λ b. by-test (ltb (length (drop 1 s)) 24)
-    (λ c. never (rw (a, b, c) at h))
-    (λ c.
-    let k : 24 ≤ length (drop 1 s) = ltb-false _ _ c in
-    let l : length (drop 1 s) ≡ length s - 1 = length-drop 1 s in
-    let n : length (drop 1 s) - 24 + 25 ≡ length s = omega arith in
-    let d : drop 24 (drop 1 s) ≡ drop 25 s = drop-drop 24 1 s in
-    let e : copyDataOf s ≡ xlogOf (drop 1 s) = by-letter s (eqb-false _ _ a) (eqb-true _ _ b) in
-    rw (e, a, b, c, n, d)))
-    (λ b. never (rw (a, b) at h)))
+copy-data-len : (s : List ℕ) (c : C.Said) → eqb (byCopyData s c .len) 0 ≡ false → byCopyData s c .len ≡ length s
+copy-data-len s (C.w start end time from len) h = given-len (length s) (lsn end) (dataGives (boundaryOf (at s from len)) start end time from len) h
+copy-data-len s (C.k end time reply) h = impossible cc
+copy-data-len s (C.refused number) h = impossible cc
 
 -- a message at hand is that of its payload
 at-hand-is : (u : List ℕ) → eqb (atHandOf u .len) 0 ≡ false
-    → (wholeAt u ≡ 0 → ⊥) × (atHandOf u ≡ byCopyData (length (at u 5 (wholeAt u))) (drop 25 (at u 5 (wholeAt u))) (copyDataOf (at u 5 (wholeAt u))))
-unfolding atHandOf
+    → (wholeAt u ≡ 0 → ⊥) × (atHandOf u ≡ byCopyData (at u 5 (wholeAt u)) (copyDataOf (at u 5 (wholeAt u))))
+unfolding atHandOf messageOf
 at-hand-is u h =
     by-test (eqb (wholeAt u) 0)
     (λ a. never (rw a at h))
-    (λ a. (eqb-false _ _ a, rw a (payload-is (at u 5 (wholeAt u)) (rw a at h))))
+    (λ a. (eqb-false _ _ a, rw a))
 
 pub hands-on-at-once : Hands-on-at-once
 unfolding appliesOf isBetween hasRoom
-hands-on-at-once r i u p o five h =
+hands-on-at-once r i u p o h =
     let limit : ℕ = limitOf (r .settings .«max_message_size») in
     let x : AtHand = atHandOf u in
     let a = neither (eqb (x .len) 0) h in
@@ -391,14 +374,13 @@ hands-on-at-once r i u p o five h =
     let g = at-hand-is u (a .0) in
     let w : Whole u (wholeAt u) = whole-is u (g .0) in
     let ls : length (at u 5 (wholeAt u)) ≡ wholeAt u = (let k = w .there in length-take-le (wholeAt u) (drop 5 u) (simp length-drop (omega arith))) in
-    let y : AtHand = byCopyData (wholeAt u) (drop 25 (at u 5 (wholeAt u))) (copyDataOf (at u 5 (wholeAt u))) in
-    let e : x ≡ y = g .1 ∙ ap (λ (k : ℕ). byCopyData k (drop 25 (at u 5 (wholeAt u))) (copyDataOf (at u 5 (wholeAt u)))) ls in
-    let some-len : eqb (y .len) 0 ≡ false = rw e at (a .0) in
+    let e : x ≡ byCopyData s (copyDataOf s) = g .1 in
+    let some-len : eqb (byCopyData s (copyDataOf s) .len) 0 ≡ false = rw e at (a .0) in
     let passes : reaches r (x .reached) ≡ false = not-true _ (d .1) in
-    let same-len : x .len ≡ wholeAt u = ap (λ (z : AtHand). z .len) e ∙ copy-data-len (wholeAt u) (drop 25 s) (copyDataOf s) some-len in
+    let same-len : x .len ≡ wholeAt u = ap (λ (z : AtHand). z .len) e ∙ copy-data-len s (copyDataOf s) some-len ∙ ls in
     let within-limit : wholeAt u ≤ limit = rw same-len at (ltb-false limit (x .len) (fits .0)) in
     rw e
-    (by-copy-data r i u p o (wholeAt u) (drain-is _ (drain .0)) five (eqb-true _ _ (filled .0)) (going .0) (ltb-true _ _ (going .1)) (ltb-false _ _ (room .0)) within-limit (ltb-false _ _ (out .0))
+    (by-copy-data r i u p o (wholeAt u) (drain-is _ (drain .0)) (eqb-true _ _ (filled .0)) (going .0) (ltb-true _ _ (going .1)) (ltb-false _ _ (room .0)) within-limit (ltb-false _ _ (out .0))
     (not-true _ (out .1)) w (free-is _ (b .0)) (copyDataOf s) refl (rw ls at (parts-are s)) some-len (rw e at passes))
 
 -- where it applies there is a message, and the payload buffer has room for its payload

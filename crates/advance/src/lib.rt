@@ -1,385 +1,96 @@
-// A message that lies at hand whole: what four steps make of it, found before any byte is taken.
+// Up to four steps in one call, with the same input: until one of them has something to tell.
+mod at_hand;
+
 ghost use mathlib.Core.Path.{_≡_};
-ghost use Prim.Native.Nat.{_+_, _-_, _≤_};
-ghost use lib.ListN.{length};
-ghost use Rattle.pgoutput.specs.Boundary.{saidBy};
-ghost use Rattle.worker.specs.Step.{reaches};
-ghost use Rattle.worker.specs.declared.Event.{Event};
-ghost use Rattle.advance.specs.AtHand.{atHand, nothing, logicalOf, within, wholeAt, byBoundary, xlogAtHand, messageOf, atHandOf, isDrain, isFree, isBetween, hasRoom, appliesOf, handedRun};
-use framing::MessageReader;
-use lsn::Lsn;
-use moment::Moment;
-use pgoutput::Boundary;
-use wire::field::FIRST_NEGATIVE_32;
-use wire::field::I64Field;
-use wire::field::U32Field;
-use wire::field::U64Field;
+ghost use mathlib.Core.List.{List};
+ghost use Prim.Native.Nat.{ℕ};
+ghost use Rattle.worker.specs.Answer.{lent, outcomeBy};
+ghost use Rattle.worker.specs.Step.{stepOf};
+ghost use Rattle.advance.specs.Advance.{isNothing, tells, twice, advanceOf};
+ghost use Rattle.worker.specs.Events.{saidBy};
+use crate::at_hand::applies;
+use crate::at_hand::at_hand;
+use crate::at_hand::hands_on;
+use wire::store::least;
 use worker::Event;
-use worker::Offer;
-use worker::Queue;
+use worker::Input;
 use worker::Run;
-use worker::State;
-use worker::Whole;
+use worker::Stepped;
+use worker::Verdict;
+use worker::steps::step;
 
-// A length from here on stands for a negative number, and no message reaches a place from here on.
-const TOO_FAR: usize = FIRST_NEGATIVE_32 as usize;
-
-// The payload's length, 0 where no message is at hand; the server's end; the position that it reaches; its event.
-pub struct AtHand {
-    pub len: usize,
-    pub wal_end: Lsn,
-    pub reached: Lsn,
-    pub event: Event,
-}
-
-// A part of the data: where it begins and how long it is.
-struct Part {
-    from: usize,
-    len: usize,
-}
-
-fn none() -> AtHand
-    ensures { λ r. ⌜ r ≡ nothing ⌝ }
+fn is_nothing(event: Event) -> bool
+    ensures { λ r. ⌜ r ≡ isNothing (saidBy event) ⌝ }
 {
-    AtHand {
-        len: 0,
-        wal_end: Lsn(0),
-        reached: Lsn(0),
-        event: Event::Nothing,
+    match event {
+        Event::Nothing => true,
+        Event::KeepAlive { .. } => false,
+        Event::Begin { .. } => false,
+        Event::Commit { .. } => false,
+        Event::Message { .. } => false,
+        Event::XLogData { .. } => false,
+        Event::StoppedAt { .. } => false,
     }
 }
 
-// The payload's length of a CopyData message that is whole, and long enough for an XLogData; 0 where there is none.
-fn whole_at(unread: &[u8]) -> usize
-    ensures { λ r. ⌜ (r ≡ wholeAt (now (unread .entry))) × (r ≤ length (now (unread .entry)) - 5) ⌝ }
+// Whether a step's answer has a refusal, bytes for the server, or an event.
+fn tells(stepped: Stepped) -> bool
+    ensures { λ r. ⌜ ((p o : List ℕ) → r ≡ tells (outcomeBy stepped p o)) ⌝ }
 {
-    if unread.len() < 30 {
-        return 0;
-    }
-    let tag = unread[0];
-    if framing::tag::is_copy_data(tag) {
-        let U32Field::Value(n) = wire::field::read_u32(unread, 1) else {
-            return 0;
-        };
-        return within(n as usize, unread.len());
-    }
-    0
-}
-
-// By the length that a message tells, and how many bytes there are.
-fn within(n: usize, unread: usize) -> usize
-    ensures { λ r. ⌜ (r ≡ within n unread) × (r ≤ unread - 5) ⌝ }
-{
-    if n < 29 {
-        return 0;
-    }
-    if TOO_FAR <= n {
-        return 0;
-    }
-    if unread < n + 1 {
-        return 0;
-    }
-    n - 4
-}
-
-fn begin(len: usize, end: Lsn, final_lsn: Lsn, commit_time: i64, xid: u32) -> AtHand
-    ensures { λ r. ⌜ r ≡ atHand len end «final_lsn» (Event.Begin «final_lsn» «commit_time» xid) ⌝ }
-{
-    let event = Event::Begin {
-        final_lsn,
-        commit_time,
-        xid,
-    };
-    AtHand {
-        len,
-        wal_end: end,
-        reached: final_lsn,
-        event,
-    }
-}
-
-fn commit(len: usize, end: Lsn, lsn: Lsn, end_lsn: Lsn, commit_time: i64) -> AtHand
-    ensures { λ r. ⌜ r ≡ atHand len end «end_lsn» (Event.Commit lsn «end_lsn» «commit_time») ⌝ }
-{
-    let event = Event::Commit {
-        lsn,
-        end_lsn,
-        commit_time,
-    };
-    AtHand {
-        len,
-        wal_end: end,
-        reached: end_lsn,
-        event,
-    }
-}
-
-fn other(len: usize, start: Lsn, end: Lsn, server_time: i64, data_len: usize) -> AtHand
-    ensures { λ r. ⌜ r ≡ atHand len end end (Event.XLogData start end «server_time» 25 «data_len») ⌝ }
-{
-    let event = Event::XLogData {
-        wal_start: start,
-        wal_end: end,
-        server_time,
-        from: 25,
-        len: data_len,
-    };
-    AtHand {
-        len,
-        wal_end: end,
-        reached: end,
-        event,
-    }
-}
-
-// A logical message, whose parts begin at places of the data.
-fn logical(len: usize, end: Lsn, flag: bool, lsn: Lsn, prefix: Part, content: Part) -> AtHand
-    ensures { λ r. ⌜ (r ≡ logicalOf len end flag lsn (prefix .from) (prefix .len) (content .from) (content .len)) × (r .len ≤ len) ⌝ }
-{
-    if prefix.from < TOO_FAR {
-        if content.from < TOO_FAR {
-            let event = Event::Message {
-                transactional: flag,
-                lsn,
-                prefix_from: 25 + prefix.from,
-                prefix_len: prefix.len,
-                content_from: 25 + content.from,
-                content_len: content.len,
-            };
-            return AtHand {
-                len,
-                wal_end: end,
-                reached: end,
-                event,
-            };
-        }
-        return none();
-    }
-    none()
-}
-
-fn by_boundary(
-    len: usize,
-    start: Lsn,
-    end: Lsn,
-    server_time: i64,
-    data_len: usize,
-    said: Boundary,
-) -> AtHand
-    ensures { λ r. ⌜ (r ≡ byBoundary len (start .0) (end .0) «server_time» «data_len» (saidBy said)) × (r .len ≤ len) ⌝ }
-{
-    match said {
-        Boundary::Begin {
-            final_lsn,
-            commit_time,
-            xid,
-        } => begin(len, end, final_lsn, commit_time, xid),
-        Boundary::Commit {
-            lsn,
-            end_lsn,
-            commit_time,
-        } => commit(len, end, lsn, end_lsn, commit_time),
-        Boundary::Message {
-            transactional: flag,
-            lsn,
-            prefix_from: pf,
-            prefix_len: pl,
-            content_from: cf,
-            content_len: cl,
-        } => logical(
-            len,
-            end,
-            flag,
-            lsn,
-            Part { from: pf, len: pl },
-            Part { from: cf, len: cl },
-        ),
-        Boundary::NotBoundary => other(len, start, end, server_time, data_len),
-        Boundary::Refused(_) => none(),
-    }
-}
-
-// An XLogData behind its letter. Its fields are read here: through the answer of `replication` they would go through memory.
-fn xlog_data(body: &[u8]) -> AtHand
-    ensures { λ r. ⌜ (r ≡ xlogAtHand (now (body .entry))) × (r .len ≤ 1 + length (now (body .entry))) ⌝ }
-{
-    if body.len() < 24 {
-        return none();
-    }
-    let U64Field::Value(start) = wire::field::read_u64(body, 0) else {
-        return none();
-    };
-    let U64Field::Value(end) = wire::field::read_u64(body, 8) else {
-        return none();
-    };
-    let I64Field::Value(server_time) = wire::field::read_i64(body, 16) else {
-        return none();
-    };
-    let said = pgoutput::parse_pgoutput_boundary(&body[24..]);
-    let n = body.len() - 24;
-    by_boundary(n + 25, Lsn(start), Lsn(end), server_time, n, said)
-}
-
-// Of the payload of a CopyData message.
-fn message(payload: &[u8]) -> AtHand
-    ensures { λ r. ⌜ (r ≡ messageOf (now (payload .entry))) × (r .len ≤ length (now (payload .entry))) ⌝ }
-{
-    if payload.len() == 0 {
-        return none();
-    }
-    if payload[0] == b'w' {
-        return xlog_data(&payload[1..]);
-    }
-    none()
-}
-
-pub fn at_hand(unread: &[u8]) -> AtHand
-    ensures { λ r. ⌜ (r ≡ atHandOf (now (unread .entry))) × (r .len ≤ length (now (unread .entry)) - 5) ⌝ }
-{
-    let n = whole_at(unread);
-    if n == 0 {
-        return none();
-    }
-    message(&unread[5..5 + n])
-}
-
-fn is_drain(state: State) -> bool
-    ensures { λ r. ⌜ r ≡ isDrain state ⌝ }
-{
-    match state {
-        State::Opening => false,
-        State::Turn => false,
-        State::Drain => true,
-        State::Reading => false,
-        State::Waiting => false,
-        State::Handling => false,
-        State::Offering => false,
-        State::Ended => false,
-    }
-}
-
-fn is_free(queue: Queue) -> bool
-    ensures { λ r. ⌜ r ≡ isFree queue ⌝ }
-{
-    match queue {
-        Queue::Free => true,
-        Queue::Full => false,
-        Queue::Closed => false,
-    }
-}
-
-// Whether the run is between two messages of a drain.
-fn is_between(run: Run) -> bool
-    ensures { λ r. ⌜ r ≡ isBetween run ⌝ }
-{
-    let state = run.state;
-    if is_drain(state) {
-        let reader = run.reader;
-        if reader.filled == 0 {
-            if reader.refused {
-                return false;
+    let verdict = stepped.verdict;
+    match verdict {
+        Verdict::Accepted => {
+            if stepped.written == 0 {
+                let event = stepped.event;
+                return !is_nothing(event);
             }
-            return run.drained < 256;
+            true
         }
-        return false;
+        Verdict::Refused(_) => true,
     }
-    false
 }
 
-// Whether a step is accepted, and the payload has room.
-fn has_room(run: Run, moment: Moment, payload_len: usize, out_len: usize, len: usize) -> bool
-    ensures { λ r. ⌜ r ≡ hasRoom run moment «payload_len» «out_len» len ⌝ }
+// A second step where the first told nothing.
+fn two_steps(run: Run, input: Input, unread: &[u8], payload: &mut [u8], out: &mut [u8]) -> Stepped
+    ensures { λ s. ⌜ outcomeBy s (now (payload .exit)) (now (out .exit)) ≡ twice stepOf run input (lent (now (unread .entry)) (now (payload .entry)) (now (out .entry))) ⌝ }
 {
-    let limit = framing::limit_of(run.settings.max_message_size);
-    if payload_len < limit {
-        return false;
+    let first = step(run, input, unread, payload, out);
+    if tells(first) {
+        return first;
     }
-    if limit < len {
-        return false;
-    }
-    if out_len < 39 {
-        return false;
-    }
-    if moment.is_in_range() {
-        return !moment.is_before(run.clock.last);
-    }
-    false
+    let taken = least(first.taken, unread.len());
+    let next = first.run;
+    let mut second = step(next, input, &unread[taken..], payload, out);
+    second.taken = taken + second.taken;
+    second
 }
 
-fn stops(run: Run, reached: Lsn) -> bool
-    ensures { λ r. ⌜ r ≡ reaches run reached ⌝ }
+// Two more where two told nothing.
+fn four_steps(run: Run, input: Input, unread: &[u8], payload: &mut [u8], out: &mut [u8]) -> Stepped
+    ensures { λ s. ⌜ outcomeBy s (now (payload .exit)) (now (out .exit)) ≡ advanceOf run input (lent (now (unread .entry)) (now (payload .entry)) (now (out .entry))) ⌝ }
 {
-    if run.settings.has_stop {
-        return !reached.is_below(run.settings.stop_at_lsn);
+    let first = two_steps(run, input, unread, payload, out);
+    if tells(first) {
+        return first;
     }
-    false
+    let taken = least(first.taken, unread.len());
+    let next = first.run;
+    let mut second = two_steps(next, input, &unread[taken..], payload, out);
+    second.taken = taken + second.taken;
+    second
 }
 
-// Whether four steps hand the message on.
-pub fn applies(
-    run: Run,
-    moment: Moment,
-    queue: Queue,
-    payload_len: usize,
-    out_len: usize,
-    message: AtHand,
-) -> bool
-    ensures { λ r. ⌜ r ≡ appliesOf run moment queue «payload_len» «out_len» message ⌝ }
+// A message that lies whole in the unread bytes, and that four steps would only hand on, is handed on at once.
+pub fn advance(run: Run, input: Input, unread: &[u8], payload: &mut [u8], out: &mut [u8]) -> Stepped
+    ensures { λ s. ⌜ outcomeBy s (now (payload .exit)) (now (out .exit)) ≡ advanceOf run input (lent (now (unread .entry)) (now (payload .entry)) (now (out .entry))) ⌝ }
 {
-    let len = message.len;
-    let reached = message.reached;
-    if len == 0 {
-        return false;
+    let message = at_hand(unread);
+    let moment = input.moment;
+    let queue = input.queue;
+    if applies(run, moment, queue, payload.len(), out.len(), message) {
+        let taken = 5 + message.len;
+        wire::store::copy(payload, &unread[5..taken]);
+        return hands_on(run, moment, message, taken);
     }
-    if is_free(queue) {
-        if is_between(run) {
-            if has_room(run, moment, payload_len, out_len, len) {
-                return !stops(run, reached);
-            }
-            return false;
-        }
-        return false;
-    }
-    false
-}
-
-// The run behind the four steps.
-pub fn handed(run: Run, moment: Moment, message: AtHand) -> Run
-    ensures { λ r. ⌜ r ≡ handedRun run moment message ⌝ }
-{
-    let settings = run.settings;
-    let progress = run.progress;
-    let status = run.status;
-    let mut clock = run.clock;
-    clock.last = moment;
-    let wal_end = message.wal_end;
-    let reached = message.reached;
-    let event = message.event;
-    let metrics = run.metrics;
-    let told = metrics.set_last_wal_end(wal_end);
-    let counted = told.record_event_forwarded();
-    let offer = Offer {
-        event,
-        stalled: false,
-        stops: false,
-        reached,
-    };
-    let whole = Whole {
-        tag: b'd',
-        len: message.len,
-        in_wait: false,
-    };
-    Run {
-        settings,
-        state: State::Drain,
-        reader: MessageReader::new(),
-        clock,
-        progress,
-        status,
-        drained: std::num::wrapping_add_u64(run.drained, 1),
-        pending: run.pending,
-        whole,
-        offer,
-        metrics: counted,
-    }
+    four_steps(run, input, unread, payload, out)
 }

@@ -26,6 +26,6 @@ boundaryMixed (B.message flag position pf pl cf cl) = plus (plus position pl) (p
 boundaryMixed B.no-boundary = 0
 boundaryMixed (B.refused n) = n
 
--- how many bytes a fresh reader takes of a first message, and the payload buffer behind it
+-- how many bytes a fresh reader takes of a first message, and the payload buffer after it
 abbrev pub readTaken : ℕ → List ℕ → List ℕ → ℕ × List ℕ
 readTaken limit u p = let x = readOf limit fresh u false p in (x .2, x .3)

@@ -1,6 +1,6 @@
 // Counters of a run.
 ghost use mathlib.Core.Path.{_≡_};
-ghost use Rattle.metrics.specs.Metrics.{none, withEvent, withStatus, withReply, withStall, withStallEnd, withEnd};
+ghost use Rattle.metrics.specs.Metrics.{noCounts, withEvent, withStatus, withReply, withStall, withStallEnd, withEnd};
 use lsn::Lsn;
 
 // The Rust's names: events handed on, statuses sent, those in reply to a keepalive, stalls begun, microseconds of stalls that ended, the position
@@ -17,7 +17,7 @@ pub struct Metrics {
 
 impl Metrics {
     pub fn new() -> Metrics
-        ensures { λ r. ⌜ r ≡ none ⌝ }
+        ensures { λ r. ⌜ r ≡ noCounts ⌝ }
     {
         Metrics {
             events_forwarded: 0,

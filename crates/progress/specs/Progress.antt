@@ -1,5 +1,5 @@
--- Progress: the position that a status would confirm, the signal and the pending moment. Document 01, "Progress": each call is one whole
--- operation. A pending moment of 0 stands for none.
+-- Progress: the position that a status would confirm, the signal and the pending moment. SCOPE 4.1; 01, "Progress". Each call is one operation as
+-- a whole. A pending moment of 0 stands for none.
 use mathlib.Core.Bool.{Bool, true, false, not}
 use lib.Dec.{eqb}
 use Rattle.wire.specs.Bytes.{pick}
@@ -21,11 +21,31 @@ noMoment = record { 0 = 0 }
 abbrev pub isNone : Moment → Bool
 isNone m = eqb (m .0) 0
 
--- the moment that is stored: one that is there stays; with timing off none is
+-- ---- what is read of a cell; who reads one elsewhere does so by these
+
+-- the position that a status would confirm
+abbrev pub cellPosition : ProgressCell → Lsn
+cellPosition c = c .applied
+
+-- a report raised the position since the signal was last taken
+abbrev pub cellSignal : ProgressCell → Bool
+cellSignal c = c .signalled
+
+-- since when a report waits for its confirmation, 0 for none
+abbrev pub cellPending : ProgressCell → Moment
+cellPending c = c .«pending_since»
+
+-- whether moments are stored
+abbrev pub cellTiming : ProgressCell → Bool
+cellTiming c = c .timed
+
+-- ---- the calls
+
+-- the moment that a raise leaves pending: one that is there stays; with timing off none is stored
 abbrev pub storedBy : ProgressCell → Moment → Moment
 storedBy c moment = pick (c .timed) (pick (isNone (c .«pending_since»)) moment (c .«pending_since»)) (c .«pending_since»)
 
--- a report: a position above the stored one is stored, signalled, and its moment kept; whether the signal is new
+-- a report: a position above the stored one is stored and signalled, and its moment is pending where none is; and whether the signal is new
 unfoldable pub raiseOf : ProgressCell → Lsn → Moment → Raised
 raiseOf c position moment =
     pick (isBelow (c .applied) position)
@@ -36,7 +56,7 @@ raiseOf c position moment =
 unfoldable pub lookedOf : ProgressCell → Looked
 lookedOf c = record { cell = cell (c .applied) false (c .«pending_since») (c .timed); applied = c .applied }
 
--- the pending moment taken for a position that was sent; where the stored one is above it, the moment at which it was read is pending
+-- the pending moment taken for a position that was sent; where the stored position is above that, the moment at which it was read is pending
 unfoldable pub reportedOf : ProgressCell → Lsn → Moment → Reported
 reportedOf c sent moment =
     record {
@@ -44,7 +64,7 @@ reportedOf c sent moment =
       since = c .«pending_since»;
     }
 
--- a pending moment from an earlier session: the older wins
+-- a pending moment is carried over from an earlier session: the older of two stays
 unfoldable pub carriedOf : ProgressCell → Moment → ProgressCell
 carriedOf c since =
     pick (c .timed)

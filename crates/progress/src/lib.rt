@@ -1,7 +1,7 @@
 // The position that a status would confirm, and what is known of reports that were not yet confirmed.
 ghost use mathlib.Core.Path.{_≡_};
 ghost use mathlib.Core.Bool.{false};
-ghost use Rattle.progress.specs.Progress.{cell, noMoment, storedBy, isNone, raiseOf, lookedOf, reportedOf, carriedOf};
+ghost use Rattle.progress.specs.Progress.{cell, noMoment, cellPosition, cellPending, storedBy, isNone, raiseOf, lookedOf, reportedOf, carriedOf};
 use lsn::Lsn;
 use moment::Moment;
 
@@ -13,7 +13,7 @@ pub struct ProgressCell {
     pub timed: bool,
 }
 
-// The cell behind a raise, and whether the signal is new.
+// The cell after a raise, and whether the signal is new.
 pub struct Raised {
     pub cell: ProgressCell,
     pub wake: bool,
@@ -25,7 +25,7 @@ pub struct Looked {
     pub applied: Lsn,
 }
 
-// The cell behind a status, and the moment that was pending.
+// The cell after a status, and the moment that was pending.
 pub struct Reported {
     pub cell: ProgressCell,
     pub since: Moment,
@@ -50,13 +50,13 @@ impl ProgressCell {
     }
 
     pub fn load(self) -> Lsn
-        ensures { λ r. ⌜ r ≡ self .applied ⌝ }
+        ensures { λ r. ⌜ r ≡ cellPosition self ⌝ }
     {
         self.applied
     }
 
     pub fn pending_since(self) -> Moment
-        ensures { λ r. ⌜ r ≡ self .«pending_since» ⌝ }
+        ensures { λ r. ⌜ r ≡ cellPending self ⌝ }
     {
         self.pending_since
     }

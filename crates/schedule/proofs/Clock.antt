@@ -51,7 +51,7 @@ module _ {m : ℕ} {r : Run} {n : ℕ} {q : Queue} where
   one-clock due true h moves stays = record { early = λ k. absurd (let a : due ≤ m = leb-true due m (sym h) in omega arith); late = λ k. moves }
   one-clock due false h moves stays = record { early = λ k. stays; late = λ k. absurd (let a : m < due = leb-false due m (sym h) in omega arith) }
 
-  -- one behind the other: the earlier counts
+  -- two tests, one after the other: the earlier moment counts
   pub two-clocks : (due other : ℕ) (b : Bool) {x y : Outcome} → b ≡ leb due m → Moves r x → Timed other m r n q y → Timed (min due other) m r n q (pick b x y)
   two-clocks due other true h moves timed = record { early = λ k. absurd (let a : due ≤ m = leb-true due m (sym h) in omega arith); late = λ k. moves }
   two-clocks due other false h moves timed =

@@ -30,7 +30,7 @@ use Rattle.worker.specs.declared.Run.{Run}
 use Rattle.worker.specs.declared.State.{State}
 use Rattle.worker.specs.declared.State.the-variants.{Opening, Turn, Drain, Reading, Waiting, Handling, Offering, Ended}
 use Rattle.worker.specs.Run.{lsn, withState, wholeOf, withDrained, withMetrics, withReader, withWhole, accepted}
-use Rattle.worker.specs.Step.{Lent, Outcome, back, behindEvent, boundaryBy, copyDataBy, doneWith, drainOf, endedWith, handing, handlingOf, having, idleOf, intervalPassed, isEnded, isStoppedAt, moved, offeringOf, offers, openingBy, openingOf, readingBy, readingOf, refusedWith, stallEnded, stalledOf, stalls, stateOf, statusDue, statusOf, stepOf, turnOf, waitingOf}
+use Rattle.worker.specs.Step.{Lent, Outcome, back, afterEvent, boundaryBy, copyDataBy, doneWith, drainOf, endedWith, handing, handlingOf, having, idleOf, intervalPassed, isEnded, isStoppedAt, moved, offeringOf, offers, openingBy, openingOf, readingBy, readingOf, refusedWith, stallEnded, stalledOf, stalls, stateOf, statusDue, statusOf, stepOf, turnOf, waitingOf}
 use Rattle.schedule.specs.NextStep.{Next, atOnce, onInput, never, beyond, byClock, idleMoment, isWhole, nextStepOf, offeringNext, openingNext, readingNext, stateNext, statusMoment, waitingNext}
 use Rattle.schedule.specs.Promise.{Moves, leaves, writes, passes, Stays, Not-both, Promised, quiet, noByte, Next-step-promised, Never-is-ended, Ended-is-never}
 use Rattle.schedule.proofs.Clock.{Timed, by-clock, in-range, one-clock, passed-by, two-clocks}
@@ -42,9 +42,9 @@ either true hx hy = hx
 either false hx hy = hy
 
 pub not-both : Not-both
-not-both r n q o (leaves f) s = f (s .state-kept)
+not-both r n q o (leaves f) s = f (s .same-state)
 not-both r n q o (writes h) s = let z : o .written ≡ 0 = s .none-written in omega arith
-not-both r n q o (passes f) s = f (s .offer-kept)
+not-both r n q o (passes f) s = f (s .same-offer)
 
 module _ (r : Run) (p out : List ℕ) (time : ℤ) (m : Moment) where
   abbrev l : Lent
@@ -114,9 +114,9 @@ module _ (r : Run) (p out : List ℕ) (time : ℤ) (m : Moment) where
   unfolding nextStepOf
   stays q s x h kept offered same =
       record {
-        state-kept = kept;
+        same-state = kept;
         none-written = refl;
-        offer-kept = offered;
+        same-offer = offered;
         none-refused = refl;
         none-handed-on = refl;
         none-taken = refl;
@@ -154,16 +154,16 @@ module _ (r : Run) (p out : List ℕ) (time : ℤ) (m : Moment) where
   -- ---- Offering
 
   -- another event follows, or none
-  behind-moves : (stops : Bool) (e : Event) (x : Run) → r .state ≡ Offering → isStoppedAt (r .offer .event) ≡ false
+  after-moves : (stops : Bool) (e : Event) (x : Run) → r .state ≡ Offering → isStoppedAt (r .offer .event) ≡ false
       → Moves r (handing e (pick stops (offers (StoppedAt (x .offer .reached)) false (lsn 0) x) (back x)) l)
-  behind-moves true e x h k = passes (λ j. let z : true ≡ isStoppedAt (r .offer .event) = ap isStoppedAt j in impossible cc)
-  behind-moves false e x h k = back-moves Offering e (x .whole .«in_wait») x h (λ j. impossible cc) (λ j. impossible cc)
+  after-moves true e x h k = passes (λ j. let z : true ≡ isStoppedAt (r .offer .event) = ap isStoppedAt j in impossible cc)
+  after-moves false e x h k = back-moves Offering e (x .whole .«in_wait») x h (λ j. impossible cc) (λ j. impossible cc)
 
   -- the event is handed on or dropped
   next-by : (stopped : Bool) (e : Event) (x : Run) → r .state ≡ Offering → isStoppedAt (r .offer .event) ≡ stopped
-      → Moves r (pick stopped (doneWith e x l) (handing e (behindEvent x) l))
+      → Moves r (pick stopped (doneWith e x l) (handing e (afterEvent x) l))
   next-by true e x h k = writes (omega arith)
-  next-by false e x h k = behind-moves (x .offer .stops) e x h k
+  next-by false e x h k = after-moves (x .offer .stops) e x h k
 
   -- stalled before, or from now on
   full-timed : (stalled : Bool) → r .state ≡ Offering → m .0 < beyond

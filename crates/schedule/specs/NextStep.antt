@@ -1,4 +1,5 @@
--- When a step moves next while nothing new comes: no byte, no end of the input, no stop request, no change of the queue, no report.
+-- When a step moves next while nothing new comes: no byte unread, no end of the input, no stop seen, no change of the queue, no report.
+-- SCOPE 5.9. It says nothing of a step that is lent unread bytes.
 use Prim.Native.Nat.{ℕ, _+_, _-_, min}
 use mathlib.Core.Bool.{Bool, false}
 use lib.ListN.{getD}
@@ -8,6 +9,7 @@ use Rattle.framing.specs.declared.MessageReader.{MessageReader}
 use Rattle.stream.specs.Tag.{isError, isCopyBothResponse}
 use Rattle.moment.specs.declared.Moment.{Moment}
 use Rattle.moment.specs.Moment.{last}
+use Rattle.progress.specs.Progress.{cellSignal}
 use Rattle.worker.specs.declared.Queue.{Queue}
 use Rattle.worker.specs.declared.Queue.the-variants.{Free, Full, Closed}
 use Rattle.worker.specs.declared.State.{State}
@@ -16,7 +18,7 @@ use Rattle.worker.specs.declared.Run.{Run}
 use Rattle.schedule.specs.declared.NextStep.{NextStep}
 use Rattle.schedule.specs.declared.NextStep.the-variants.{AtOnce, From, OnInput, Never}
 
--- the next step moves; those from a moment on move; none moves until something comes; none is accepted any more
+-- the next step moves; each step from a moment on moves, and none before; no step moves until something comes; no step is accepted any more
 pub data Next : Type 0 where
   atOnce : Next
   from : ℕ → Next
@@ -32,16 +34,16 @@ nextBy Never = never
 
 -- ---- the clock
 
--- the number behind the last moment
+-- the number after the last moment
 abbrev pub beyond : ℕ
 beyond = last + 1
 
--- the first moment at which an interval since another has passed: 0 where it is 0, for it always has, and the number behind the last moment
--- where it never will
+-- the first moment at which an interval since another has passed: 0 where the interval is 0, since it has always passed, and the number after the
+-- last moment where it never will
 unfoldable pub dueOf : ℕ → Moment → ℕ
 dueOf interval at = pick (eqb interval 0) 0 (min (at .0 + interval) beyond)
 
--- a step moves from such a moment on
+-- the answer where steps move from a due moment on
 unfoldable pub byClock : ℕ → Next
 byClock due = pick (eqb due 0) atOnce (pick (ltb due beyond) (from due) onInput)
 
@@ -55,13 +57,13 @@ idleMoment r = dueOf (r .settings .«idle_wakeup_interval») (r .clock .«wait_b
 
 -- ---- the reader, with a payload buffer of so many bytes
 
--- the message lacks nothing. A read that makes it whole leaves a reader at the next one, so no call leaves such a reader
+-- the reader's message lacks no byte. No call leaves such a reader: the read that makes a message whole leaves a reader at the next one
 unfoldable pub isWhole : MessageReader → ℕ → Bool
 isWhole x n = pick (ltb (x .filled) 5) false (leb (min (x .«payload_len») n) (x .filled - 5))
 
 -- ---- each state
 
--- a remembered 7 ends the run; of whole messages only these two are not skipped
+-- Opening: a remembered 7 ends the run; of whole messages CopyBothResponse and ErrorResponse are not skipped
 unfoldable pub openingNext : MessageReader → ℕ → Next
 openingNext x n =
     let tag : ℕ = getD (x .header) 0 0 in
@@ -69,18 +71,18 @@ openingNext x n =
     (pick (isWhole x n) (pick (isCopyBothResponse tag) atOnce (pick (isError tag) atOnce onInput))
     onInput)
 
--- .. and here none
+-- Reading: a remembered 7 ends the run, and a whole message is never skipped
 unfoldable pub readingNext : MessageReader → ℕ → Next
 readingNext x n = pick (x .refused) atOnce (pick (isWhole x n) atOnce onInput)
 
--- a status by either clock where a position is pending; else the signal, or the idle status
+-- Waiting: where a position is pending, the status of either interval; else the signal, or the idle interval's status
 unfoldable pub waitingNext : Run → Next
 waitingNext r =
     pick (r .pending) (byClock (min (statusMoment r) (idleMoment r)))
-    (pick (r .progress .signalled) atOnce
+    (pick (cellSignal (r .progress)) atOnce
     (byClock (idleMoment r)))
 
--- while the queue is full there is a status at each interval
+-- Offering: a full queue leaves only the status of each interval
 unfoldable pub offeringNext : Run → Queue → Next
 offeringNext r Free = atOnce
 offeringNext r Closed = atOnce

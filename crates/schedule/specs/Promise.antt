@@ -1,4 +1,4 @@
--- What the answer promises of a step that brings nothing new, for every run value.
+-- What the answer promises of a step that brings nothing new, for every run value. SCOPE 5.9.
 use Prim.Native.Nat.{ℕ, _<_, _≤_}
 use mathlib.Core.Bool.{false}
 use mathlib.Core.Path.{_≡_}
@@ -7,11 +7,11 @@ use lib.ListN.{length}
 use lib.IntN.{ℤ}
 use Rattle.framing.specs.Read.{limitOf}
 use Rattle.moment.specs.declared.Moment.{Moment}
-use Rattle.worker.specs.declared.Event.the-variants.{Nothing}
 use Rattle.worker.specs.declared.Input.{Input}
 use Rattle.worker.specs.declared.Queue.{Queue}
 use Rattle.worker.specs.declared.Run.{Run}
 use Rattle.worker.specs.declared.State.the-variants.{Ended}
+use Rattle.worker.specs.Events as E
 use Rattle.worker.specs.Step.{Lent, Outcome, badMoment, refusedWith, stepOf}
 use Rattle.schedule.specs.NextStep.{Next, atOnce, from, onInput, never, nextStepOf}
 
@@ -27,25 +27,26 @@ noByte p out = record { unread = []; payload = p; out = out }
 abbrev pub quietStep : Run → Moment → ℤ → Queue → List ℕ → List ℕ → Outcome
 quietStep r m time q p out = stepOf r (quiet m time q) (noByte p out)
 
--- none of 3, 4 and 5
+-- the step is refused with none of 3, 4 and 5
 pub record Accepts (r : Run) (m : Moment) (p out : List ℕ) : Type 0 where
   pub payload-fits : limitOf (r .settings .«max_message_size») ≤ length p
   pub status-fits : 39 ≤ length out
   pub good-moment : badMoment r m ≡ false
 
--- the state is left, or bytes are written, or another event is offered: StoppedAt, behind one that was handed on or dropped
+-- the run leaves its state, or writes bytes, or offers another event: StoppedAt, after one that was handed on or dropped
 pub data Moves (r : Run) (o : Outcome) : Type 0 where
   leaves : (o .run .state ≡ r .state → ⊥) → Moves r o
   writes : 0 < o .written → Moves r o
   passes : (o .run .offer .event ≡ r .offer .event → ⊥) → Moves r o
 
--- none of these, no refusal, no event and no byte taken; and the answer is the same again, so it holds for any number of such steps
+-- the run does none of these, refuses nothing, hands nothing on and takes no byte; and its next answer is the same again, so that this holds for
+-- any number of such steps
 pub record Stays (r : Run) (n : ℕ) (q : Queue) (o : Outcome) : Type 0 where
-  pub state-kept : o .run .state ≡ r .state
+  pub same-state : o .run .state ≡ r .state
   pub none-written : o .written ≡ 0
-  pub offer-kept : o .run .offer .event ≡ r .offer .event
+  pub same-offer : o .run .offer .event ≡ r .offer .event
   pub none-refused : o .refusal ≡ 0
-  pub none-handed-on : o .event ≡ Nothing
+  pub none-handed-on : o .event ≡ E.nothing
   pub none-taken : o .taken ≡ 0
   pub same-answer : nextStepOf (o .run) n q ≡ nextStepOf r n q
 

@@ -10,11 +10,12 @@ use worker::Queue;
 use worker::Run;
 use worker::State;
 
-// The number behind the last moment: no step is accepted at it.
+// The number after the last moment: no step is accepted at it.
 const BEYOND: u64 = moment::LAST + 1;
 
-// When a step moves next while nothing new comes: no byte, no end of the input, no stop request, no change of the queue, no report.
-// From: not before this moment, and at every step from it on; it may lie at or before the last accepted one. Never: the run has ended.
+// When a step moves next while nothing new comes: no byte, no end of the input, no stop, no change of the queue, no report.
+// From: no step moves before this moment, and every step from it on does; it may lie at or before the last accepted moment.
+// OnInput: no step moves until something comes. Never: the run has ended.
 pub enum NextStep {
     AtOnce,
     From(Moment),
@@ -28,7 +29,7 @@ fn sooner(a: u64, b: u64) -> u64
     if a < b { a } else { b }
 }
 
-// The first moment at which the interval has passed. No sum wraps: it is taken only below the number behind the last moment.
+// The first moment at which the interval has passed. The sum does not wrap: it is made only where it is at most the last moment.
 fn due(interval: u64, at: Moment) -> u64
     ensures { λ r. ⌜ r ≡ dueOf interval at ⌝ }
 {
@@ -62,7 +63,7 @@ fn tag_of(header: [u8; 5]) -> u8
     header[0]
 }
 
-// Only a reader that no call left is whole.
+// Whether the reader's message lacks no byte; no call leaves such a reader.
 fn is_whole(reader: MessageReader, payload_len: usize) -> bool
     ensures { λ r. ⌜ r ≡ isWhole reader «payload_len» ⌝ }
 {
@@ -129,7 +130,8 @@ fn offering(run: Run, queue: Queue) -> NextStep
     }
 }
 
-// The payload buffer's length, and the queue as it is now.
+// The answer is promised of a step that is lent no unread byte, with the input not ended, no stop seen, a payload buffer of this length and
+// the queue as it is now. A host that has unread bytes, or sees the input's end or a stop, makes a step at once instead.
 pub fn next_step(run: Run, payload_len: usize, queue: Queue) -> NextStep
     ensures { λ r. ⌜ nextBy r ≡ nextStepOf run «payload_len» queue ⌝ }
 {

@@ -12,6 +12,7 @@ use lib.Dec.{ltb}
 use Rattle.wire.proofs.Laws.{by-test}
 use Rattle.wire.specs.Bytes.{pick, put}
 use Rattle.error.specs.Writer.{writing}
+use Rattle.progress.specs.Progress.{cellSignal}
 use Rattle.frontend.specs.Frontend.{statusBody, statusUpdate, copyDone, copyData}
 use Rattle.frontend.proofs.Laws.{length-framed, length-status}
 use Rattle.worker.specs.Step.{Outcome, Lent, having, intervalPassed, isReadable, waitingRead, waitingOf}
@@ -48,7 +49,7 @@ fourth a b c d v w x y z p q r s = rw (p, q, r, s)
 
 -- a wait that reads: the tests before the read fail
 pub waiting-reads : (r : Run) (i : Input) (l : Lent) → i .stop ≡ false → pick (r .pending) (intervalPassed r) false ≡ false
-    → pick (r .pending) false (r .progress .signalled) ≡ false → isReadable i l ≡ true → waitingOf r i l ≡ waitingRead r i l
+    → pick (r .pending) false (cellSignal (r .progress)) ≡ false → isReadable i l ≡ true → waitingOf r i l ≡ waitingRead r i l
 unfolding waitingOf
 waiting-reads r i l p q s t = fourth _ _ _ _ _ _ _ _ _ p q s t
 

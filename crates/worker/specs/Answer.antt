@@ -1,4 +1,4 @@
--- What the answers of the code say, in the words of the rules.
+-- What the answers of the code say: a refusal by its number, an enum by the values of its cases. SCOPE 1.4, 5.5.
 use Prim.Native.Nat.{ℕ}
 use mathlib.Core.List.{List}
 use mathlib.Core.Option.{Option, some, none}
@@ -16,10 +16,11 @@ use Rattle.worker.specs.declared.Opened.{Opened}
 use Rattle.worker.specs.declared.AlreadyOpen.{AlreadyOpen}
 use Rattle.worker.specs.declared.ErrorPart.{ErrorPart}
 use Rattle.worker.specs.declared.ErrorPart.the-variants.{Absent, Front}
+use Rattle.worker.specs.Events as E
 use Rattle.worker.specs.Opening as O
 use Rattle.worker.specs.Step.{Outcome, Lent, isEnded}
 
--- document 01's number, 0 for none
+-- the refusal's number, 0 for none
 abbrev pub verdictNumber : Verdict → ℕ
 verdictNumber Accepted = 0
 verdictNumber (Refused r) = numberOf r
@@ -39,7 +40,7 @@ outcomeBy s p o =
       run = s .run;
       refusal = verdictNumber (s .verdict);
       taken = s .taken;
-      event = s .event;
+      event = E.saidBy (s .event);
       written = s .written;
       waited = waitedOption (s .waited);
       payload = p;
@@ -53,6 +54,11 @@ openedBy a out = record { run = a .run; outcome = outcome (a .written); out = ou
 abbrev pub alreadyOpenBy : AlreadyOpen → ℕ × Run
 alreadyOpenBy a = (verdictNumber (a .verdict), a .run)
 
--- the error message that ended a run; 19: "they leave the payload at the buffer's front"
-abbrev pub errorPartOf : Run → ErrorPart
-errorPartOf r = pick (isEnded (r .state)) (pick (isError (r .whole .tag)) (Front (r .whole .len)) Absent) Absent
+-- the length of the error's payload at the payload buffer's front, or none where no error ended the run
+abbrev pub errorPart : ErrorPart → Option ℕ
+errorPart Absent = none
+errorPart (Front n) = some n
+
+-- the ErrorResponse that ended a run with 19. SCOPE 5.8; 01, "Where each call turns back"
+abbrev pub errorPartOf : Run → Option ℕ
+errorPartOf r = pick (isEnded (r .state)) (pick (isError (r .whole .tag)) (some (r .whole .len)) none) none

@@ -1,5 +1,6 @@
 pub mod Rows
 pub mod Run
+pub mod Events
 pub mod Step
 pub mod Opening
 pub mod Answer

@@ -1,4 +1,4 @@
--- Opening a run, a run that is already open, and a report. Document 01, "Events and confirmations".
+-- Opening a run, a run that is already open, and a report. SCOPE 5.1, 5.2, 5.3, 5.7; 01, "Events and confirmations".
 use Prim.Native.Nat.{ℕ, _+_}
 use mathlib.Core.Bool.{Bool, true}
 use mathlib.Core.List.{List}
@@ -18,30 +18,30 @@ use Rattle.worker.specs.declared.State.the-variants.{Opening, Turn}
 use Rattle.worker.specs.declared.Run.{Run}
 use Rattle.worker.specs.Run.{freshRun, withProgress}
 
--- 1: "Status and idle intervals: 0 to 86,400,000,000,000 ns"
+-- 1: an interval is at most a day
 abbrev pub isTooLong : ℕ → Bool
 isTooLong interval = ltb 86400000000000 interval
 
 abbrev pub badInterval : Settings → Bool
 badInterval s = pick (isTooLong (s .«status_interval»)) true (isTooLong (s .«idle_wakeup_interval»))
 
--- the run, which is there where the number is 0; document 01's number and how many bytes were written; the output
+-- the run, which counts only where the refusal's number is 0; that number and how many bytes were written; the output
 pub record Opened : Type 0 where
   pub run : Run
   pub outcome : ℕ × ℕ
   pub out : List ℕ
 
--- opening: "writes the query of `start_replication` .. or refuses with 1, 25 or 4"
+-- the query of `start_replication` is written, from the query position; confirmations begin at the start. Refusals in their order: 1, 25, 4
 unfoldable pub openOf : Settings → List ℕ → List (RefT (List ℕ)) → Lsn → Lsn → List ℕ → Opened
 openOf s slot publications position start out =
     let w : (ℕ × ℕ) × List ℕ = writing (length slot + total publications) (query (startReplication (s .binary) slot publications position)) out in
     pick (badInterval s) (record { run = freshRun s Opening start; outcome = (1, 0); out = out })
     (record { run = freshRun s Opening start; outcome = w .0; out = w .1 })
 
--- already open: in Turn, with no query
+-- the run begins in Turn, and no query is written
 unfoldable pub alreadyOpenOf : Settings → Lsn → ℕ × Run
 alreadyOpenOf s start = (pick (badInterval s) 1 0, freshRun s Turn start)
 
--- a report between steps
+-- a report raises the run's cell and changes nothing else
 unfoldable pub reportOf : Run → Lsn → Moment → Run
 reportOf r position moment = withProgress (raiseOf (r .progress) position moment .cell) r

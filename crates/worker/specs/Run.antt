@@ -1,4 +1,4 @@
--- A run and the single changes of it. Document 01, "Events and confirmations".
+-- A run and the single changes of it. SCOPE 5; 01, "Events and confirmations".
 use Prim.Native.Nat.{ℕ, _/_}
 use mathlib.Core.Bool.{Bool, false}
 use lib.Dec.{eqb}
@@ -6,11 +6,13 @@ use Rattle.framing.specs.declared.MessageReader.{MessageReader}
 use Rattle.framing.specs.Read.{fresh}
 use Rattle.lsn.specs.declared.Lsn.{Lsn}
 use Rattle.metrics.specs.declared.Metrics.{Metrics}
-use Rattle.metrics.specs.Metrics.{none}
+use Rattle.metrics.specs.Metrics.{noCounts}
 use Rattle.moment.specs.declared.Moment.{Moment}
 use Rattle.progress.specs.declared.ProgressCell.{ProgressCell}
 use Rattle.progress.specs.Progress.{cell, noMoment}
 use Rattle.worker.specs.declared.Settings.{Settings}
+use Rattle.worker.specs.declared.Queue.{Queue}
+use Rattle.worker.specs.declared.Queue.the-variants.{Free, Full, Closed}
 use Rattle.worker.specs.declared.State.{State}
 use Rattle.worker.specs.declared.State.the-variants.{Opening, Turn, Drain, Reading, Waiting, Handling, Offering, Ended}
 use Rattle.worker.specs.declared.Clock.{Clock}
@@ -23,7 +25,7 @@ use Rattle.worker.specs.declared.Run.{Run}
 
 -- ---- states
 
--- a state's row in the step table; Ended stands behind them
+-- a state's row in the step table, counted from 0; Ended has the next number
 abbrev pub stateNumber : State → ℕ
 stateNumber Opening = 0
 stateNumber Turn = 1
@@ -34,7 +36,13 @@ stateNumber Handling = 5
 stateNumber Offering = 6
 stateNumber Ended = 7
 
--- one state is the other
+-- how the consumer's queue is found
+abbrev pub queueNumber : Queue → ℕ
+queueNumber Free = 0
+queueNumber Full = 1
+queueNumber Closed = 2
+
+-- two states are the same
 abbrev pub isIn : State → State → Bool
 isIn a b = eqb (stateNumber a) (stateNumber b)
 
@@ -71,11 +79,11 @@ run settings state reader clock progress status drained pending whole offer metr
       metrics = metrics;
     }
 
--- a run before its first step: "the start, from which confirmations begin"
+-- a run before its first step, whose cell holds the start
 unfoldable pub freshRun : Settings → State → Lsn → Run
 freshRun s state start =
     run s state fresh (clock noMoment noMoment noMoment) (cell start false noMoment (s .timing)) (lastStatus false (lsn 0) noMoment) 0 false
-    (wholeOf 0 0 false) (offer Nothing false false (lsn 0)) none
+    (wholeOf 0 0 false) (offer Nothing false false (lsn 0)) noCounts
 
 -- ---- one part changed
 
@@ -111,7 +119,7 @@ withMetrics x r = run (r .settings) (r .state) (r .reader) (r .clock) (r .progre
 
 -- ---- moments
 
--- a step was accepted at a moment, from then on "the last accepted"
+-- a step was accepted at a moment, which is from then on the last accepted one
 abbrev pub accepted : Moment → Run → Run
 accepted m r = withClock (clock m (r .clock .«wait_began») (r .clock .«stall_began»)) r
 

@@ -1,5 +1,5 @@
--- One step: document 01's step table, row by row and test by test, and the tests 2 to 5 before it.
-use Prim.Native.Nat.{ℕ, _+_}
+-- One step: the step table, row by row and test by test, and the refusals 2 to 5 before it. SCOPE 6; 01, "Events and confirmations".
+use Prim.Native.Nat.{ℕ}
 use mathlib.Core.Bool.{Bool, true, false, not}
 use mathlib.Core.List.{List, [], _∷_}
 use mathlib.Core.Option.{Option, some, none}
@@ -18,7 +18,7 @@ use Rattle.moment.specs.declared.Moment.{Moment}
 use Rattle.moment.specs.Moment.{isBefore, inRange, sinceOf}
 use Rattle.pgoutput.specs.Boundary.{boundaryOf}
 use Rattle.pgoutput.specs.Boundary as B
-use Rattle.progress.specs.Progress.{isNone, lookedOf, reportedOf}
+use Rattle.progress.specs.Progress.{isNone, cellPosition, cellSignal, cellPending, cellTiming, lookedOf, reportedOf}
 use Rattle.replication.specs.CopyData.{copyDataOf}
 use Rattle.replication.specs.CopyData as C
 use Rattle.worker.specs.declared.State.{State}
@@ -29,22 +29,24 @@ use Rattle.worker.specs.declared.Event.{Event}
 use Rattle.worker.specs.declared.Event.the-variants.{Nothing, KeepAlive, Begin, Commit, Message, XLogData, StoppedAt}
 use Rattle.worker.specs.declared.Input.{Input}
 use Rattle.worker.specs.declared.Run.{Run}
+use Rattle.worker.specs.Events.{dataGives}
+use Rattle.worker.specs.Events as E
 use Rattle.worker.specs.Rows.{_⇒_, firstOf, both, unless}
 use Rattle.worker.specs.Run.{lsn, lastStatus, wholeOf, offer, withState, withReader, withProgress, withLastStatus, withDrained, withPending, withWhole, withOffer, withMetrics, accepted, waitBegun, stallBegun, micros}
 
--- what a step answers and leaves: the run, document 01's number (0 for none), the taken count, the event handed on, how many bytes were
--- written, how long a confirmed position waited where that is told, the payload buffer and the output
+-- what a step answers and leaves: the run, the refusal's number (0 for none), the taken count, the event handed on, how many bytes were written,
+-- how long a confirmed position waited where that is told, the payload buffer and the output. SCOPE 5.5
 pub record Outcome : Type 0 where
   pub run : Run
   pub refusal : ℕ
   pub taken : ℕ
-  pub event : Event
+  pub event : E.Said
   pub written : ℕ
   pub waited : Option ℕ
   pub payload : List ℕ
   pub out : List ℕ
 
--- what a step is lent: unread bytes, payload buffer, output
+-- what a step is lent: unread bytes, payload buffer, output. SCOPE 5.4
 pub record Lent : Type 0 where
   pub unread : List ℕ
   pub payload : List ℕ
@@ -52,75 +54,76 @@ pub record Lent : Type 0 where
 
 -- ---- the ends of a step
 
--- an event is handed on, and else nothing but the run changes
+-- an event is handed on; besides it only the run changes
 abbrev pub handing : Event → Run → Lent → Outcome
-handing e r l = record { run = r; refusal = 0; taken = 0; event = e; written = 0; waited = none; payload = l .payload; out = l .out }
+handing e r l = record { run = r; refusal = 0; taken = 0; event = E.saidBy e; written = 0; waited = none; payload = l .payload; out = l .out }
 
 abbrev pub moved : Run → Lent → Outcome
 moved r l = handing Nothing r l
 
 -- refused with a number
 abbrev pub refusedWith : ℕ → Run → Lent → Outcome
-refusedWith n r l = record { run = r; refusal = n; taken = 0; event = Nothing; written = 0; waited = none; payload = l .payload; out = l .out }
+refusedWith n r l = record { run = r; refusal = n; taken = 0; event = E.nothing; written = 0; waited = none; payload = l .payload; out = l .out }
 
--- "6 to 19 end a run"
+-- a refusal that ends the run. SCOPE 7.3
 abbrev pub endedWith : ℕ → Run → Lent → Outcome
 endedWith n r l = refusedWith n (withState Ended r) l
 
--- a CopyDone, and the run's end
+-- a CopyDone is written, and the run ends
 abbrev pub doneWith : Event → Run → Lent → Outcome
 doneWith e r l =
-    record { run = withState Ended r; refusal = 0; taken = 0; event = e; written = 5; waited = none; payload = l .payload; out = put (l .out) 0 copyDone }
+    record { run = withState Ended r; refusal = 0; taken = 0; event = E.saidBy e; written = 5; waited = none; payload = l .payload; out = put (l .out) 0 copyDone }
 
--- so many bytes were taken, and this is the payload buffer
+-- the outcome with its taken count and its payload buffer
 abbrev pub having : ℕ → List ℕ → Outcome → Outcome
 having k p o =
     record { run = o .run; refusal = o .refusal; taken = k; event = o .event; written = o .written; waited = o .waited; payload = p; out = o .out }
 
--- ---- status
+-- ---- status: SCOPE 4.2, 4.3
 
--- "status interval passed"
+-- the status interval has passed since the last status
 abbrev pub intervalPassed : Run → Bool
 intervalPassed r = leb (r .settings .«status_interval») (sinceOf (r .clock .last) (r .status .at))
 
--- "the first or whose position is above the last sent"; nothing sent, or position above last sent
+-- no status was sent yet, or the position rose above the one last sent
 abbrev pub isAbove : Run → Bool
-isAbove r = pick (r .status .sent) (isBelow (r .status .position) (r .progress .applied)) true
+isAbove r = pick (r .status .sent) (isBelow (r .status .position) (cellPosition (r .progress))) true
 
--- such a status takes the pending moment where timing is on
+-- with timing on, such a status takes the pending moment
 abbrev pub takesPending : Run → Bool
-takesPending r = pick (r .progress .timed) (isAbove r) false
+takesPending r = pick (cellTiming (r .progress)) (isAbove r) false
 
--- how long the pending moment has waited
+-- how long the report has waited whose moment is pending
 abbrev pub waitedBy : Run → Option ℕ
 waitedBy r =
     pick (takesPending r)
-    (pick (isNone (r .progress .«pending_since»)) none (some (sinceOf (r .clock .last) (r .progress .«pending_since»))))
+    (pick (isNone (cellPending (r .progress))) none (some (sinceOf (r .clock .last) (cellPending (r .progress)))))
     none
 
 -- the run after a status
 abbrev pub confirmed : Run → Run
 confirmed r =
-    withMetrics (withStatus (r .metrics) (r .progress .applied))
-    (withLastStatus (lastStatus true (r .progress .applied) (r .clock .last))
-    (withProgress (pick (takesPending r) (reportedOf (r .progress) (r .progress .applied) (r .clock .last) .cell) (r .progress)) r))
+    withMetrics (withStatus (r .metrics) (cellPosition (r .progress)))
+    (withLastStatus (lastStatus true (cellPosition (r .progress)) (r .clock .last))
+    (withProgress (pick (takesPending r) (reportedOf (r .progress) (cellPosition (r .progress)) (r .clock .last) .cell) (r .progress)) r))
 
--- a status with a reply byte; it confirms the position as it is now
+-- a status with a reply byte; it confirms the cell's position
 unfoldable pub statusOf : Bool → State → Run → Input → Lent → Outcome
 statusOf reply to r i l =
     record {
       run = withState to (confirmed r);
       refusal = 0;
       taken = 0;
-      event = Nothing;
+      event = E.nothing;
       written = 39;
       waited = waitedBy r;
       payload = l .payload;
-      out = put (l .out) 0 (statusUpdate (r .progress .applied .0) (i .«client_time») reply);
+      out = put (l .out) 0 (statusUpdate (cellPosition (r .progress) .0) (i .«client_time») reply);
     }
 
--- ---- Opening: "`W`: turn; `E`: 19; others skipped"
+-- ---- Opening: SCOPE 6.3
 
+-- CopyBothResponse begins the stream; ErrorResponse ends the run with 19, and its payload's length is kept for `error_part`; others are skipped
 abbrev pub openingBy : R.Said → Run → Lent → Outcome
 openingBy R.more r l = moved r l
 openingBy (R.whole tag n) r l =
@@ -131,33 +134,33 @@ openingBy (R.whole tag n) r l =
     (moved r l)
 openingBy (R.refused n) r l = endedWith n r l
 
--- a read of what the message still lacks
+-- a read of the bytes that the reader's message lacks
 abbrev pub readBy : Run → Input → Lent → Result
 readBy r i l = readOf (r .settings .«max_message_size») (r .reader) (l .unread) (i .ended) (l .payload)
 
--- the message is tested in the step in which it is whole
+-- the step that makes a message whole tests it, too
 unfoldable pub openingOf : Run → Input → Lent → Outcome
 openingOf r i l = let x : Result = readBy r i l in having (x .2) (x .3) (openingBy (x .0) (withReader (x .1) r) l)
 
--- ---- Turn: "no status yet, or status interval passed: status; then drain"
+-- ---- Turn: SCOPE 6.4
 
 abbrev pub statusDue : Run → Bool
 statusDue r = pick (r .status .sent) (intervalPassed r) true
 
--- the count of drained messages begins anew
+-- a status where it is due; the count of drained messages begins anew
 unfoldable pub turnOf : Run → Input → Lent → Outcome
 turnOf r i l =
     let none-drained : Run = withDrained 0 r in
     pick (statusDue r) (statusOf false Drain none-drained i l)
     (moved (withState Drain none-drained) l)
 
--- ---- Drain: "under 256 messages and 5 bytes unread: read; some drained: stop gives CopyDone and end, else turn; none drained: clear signal,
--- fix "pending" (nothing sent, or position above last sent), wait"
+-- ---- Drain: SCOPE 6.5
 
+-- the wait begins: the signal is cleared, and whether a position is pending is fixed
 abbrev pub waits : Run → Run
 waits r = withState Waiting (waitBegun (withPending (isAbove r) (withProgress (lookedOf (r .progress) .cell) r)))
 
--- stop is looked at only behind a drained message
+-- a round has at most 256 messages; stop is looked at only after one of them
 unfoldable pub drainOf : Run → Input → Lent → Outcome
 drainOf r i l =
     firstOf
@@ -167,9 +170,9 @@ drainOf r i l =
     ∷ [])
     (moved (withState Turn r) l)
 
--- ---- Reading: "message whole: handle; else stay, whatever the clock"
+-- ---- Reading: SCOPE 6.6
 
--- "a whole message is handled by the next step"
+-- the next step handles the message
 abbrev pub toHandle : ℕ → ℕ → Bool → Run → Run
 toHandle tag n in-wait r = withState Handling (withWhole (wholeOf tag n in-wait) r)
 
@@ -182,9 +185,9 @@ readingBy (R.refused n) r l = endedWith n r l
 unfoldable pub readingOf : Run → Input → Lent → Outcome
 readingOf r i l = let x : Result = readBy r i l in having (x .2) (x .3) (readingBy (x .0) (withReader (x .1) r) l)
 
--- ---- Waiting: "stop: CopyDone, end; pending and interval passed: status, turn; not pending and signalled: turn; bytes or input ended: read,
--- and a whole message is handled, then turn; idle interval since the wait began: status, turn; else stay with what was read"
+-- ---- Waiting: SCOPE 6.7
 
+-- the idle interval since the wait's beginning ends the wait with a status
 abbrev pub idleOf : Run → Input → Lent → Outcome
 idleOf r i l =
     pick (leb (r .settings .«idle_wakeup_interval») (sinceOf (r .clock .last) (r .clock .«wait_began»))) (statusOf false Turn r i l)
@@ -201,28 +204,28 @@ waitingRead r i l = let x : Result = readBy r i l in having (x .2) (x .3) (waiti
 abbrev pub isReadable : Input → Lent → Bool
 isReadable i l = pick (eqb (length (l .unread)) 0) (i .ended) true
 
--- the tests in their order
+-- in this order: stop; a pending position whose interval has passed; the signal, where none is pending; a read; the idle interval
 unfoldable pub waitingOf : Run → Input → Lent → Outcome
 waitingOf r i l =
     firstOf
     ((i .stop ⇒ doneWith Nothing r l)
     ∷ (both (r .pending) (intervalPassed r) ⇒ statusOf false Turn r i l)
-    ∷ (unless (r .pending) (r .progress .signalled) ⇒ moved (withState Turn r) l)
+    ∷ (unless (r .pending) (cellSignal (r .progress)) ⇒ moved (withState Turn r) l)
     ∷ (isReadable i l ⇒ waitingRead r i l)
     ∷ [])
     (idleOf r i l)
 
--- ---- Handling: "`E`: 19; not `d`: skipped; `k` asking a reply: status with reply byte 1, then its event"
+-- ---- Handling: SCOPE 6.8
 
--- back "to drain, or to turn after a wait"
+-- after a message the run drains on, or begins a new round where the message was read in a wait
 abbrev pub back : Run → Run
 back r = withState (pick (r .whole .«in_wait») Turn Drain) r
 
--- an event is offered, behind which StoppedAt follows or not
+-- an event is offered; a flag says whether StoppedAt follows it
 abbrev pub offers : Event → Bool → Lsn → Run → Run
 offers e stops reached r = withState Offering (withOffer (offer e false stops reached) r)
 
--- "at or above it"
+-- a position at or above the stop position. SCOPE 6.12
 abbrev pub reaches : Run → Lsn → Bool
 reaches r p = pick (r .settings .«has_stop») (not (isBelow p (r .settings .«stop_at_lsn»))) false
 
@@ -230,21 +233,20 @@ reaches r p = pick (r .settings .«has_stop») (not (isBelow p (r .settings .«s
 abbrev pub offersAt : Event → Lsn → Run → Lent → Outcome
 offersAt e p r l = moved (offers e (reaches r p) p r) l
 
--- "Keepalives never stop"
+-- a keepalive reaches no position; where it asks for a reply, a status with reply byte 1 goes before its event
 abbrev pub keepAliveOf : ℕ → ℤ → Bool → Run → Input → Lent → Outcome
 keepAliveOf end time reply r i l =
     let offered : Run = offers (KeepAlive (lsn end) time reply) false (lsn 0) r in
     pick reply (statusOf true Offering (withMetrics (withReply (offered .metrics)) offered) i l) (moved offered l)
 
--- "`B` reaches its final position, `C` its end, `M` and other data wal_end". The data begin at a place of the payload buffer
+-- the event of an XLogData's data is offered, or their refusal ends the run
+abbrev pub givenOf : E.Given → Run → Lent → Outcome
+givenOf (E.given e reached) r l = offersAt e reached r l
+givenOf (E.refused n) r l = endedWith n r l
+
+-- .. by the boundary in the data
 abbrev pub boundaryBy : B.Said → ℕ → ℕ → ℤ → ℕ → ℕ → Run → Lent → Outcome
-boundaryBy (B.begin final time xid) start end wal-time from len r l = offersAt (Begin (lsn final) time xid) (lsn final) r l
-boundaryBy (B.commit position commit-end time) start end wal-time from len r l =
-    offersAt (Commit (lsn position) (lsn commit-end) time) (lsn commit-end) r l
-boundaryBy (B.message flag position pf pl cf cl) start end wal-time from len r l =
-    offersAt (Message flag (lsn position) (from + pf) pl (from + cf) cl) (lsn end) r l
-boundaryBy B.no-boundary start end wal-time from len r l = offersAt (XLogData (lsn start) (lsn end) wal-time from len) (lsn end) r l
-boundaryBy (B.refused n) start end wal-time from len r l = endedWith n r l
+boundaryBy b start end time from len r l = givenOf (dataGives b start end time from len) r l
 
 abbrev pub copyDataBy : C.Said → Run → Input → Lent → Outcome
 copyDataBy (C.k end time reply) r i l = keepAliveOf end time reply (withMetrics (withEnd (r .metrics) (lsn end)) r) i l
@@ -261,8 +263,7 @@ handlingOf r i l =
     ∷ [])
     (moved (back r) l)
 
--- ---- Offering: "first try: free hands on, closed drops, full begins a stall and goes on in the same step; then stop: CopyDone, end, event
--- dropped; free or closed: stall ends; interval passed: status; else stay"
+-- ---- Offering: SCOPE 6.9
 
 abbrev pub isStoppedAt : Event → Bool
 isStoppedAt Nothing = false
@@ -273,13 +274,13 @@ isStoppedAt (Message flag position pf pl cf cl) = false
 isStoppedAt (XLogData start end time from len) = false
 isStoppedAt (StoppedAt reached) = true
 
--- behind an event: "the event, then StoppedAt, then CopyDone"
-abbrev pub behindEvent : Run → Run
-behindEvent r = pick (r .offer .stops) (offers (StoppedAt (r .offer .reached)) false (lsn 0) r) (back r)
+-- after an event that reached the stop position StoppedAt is offered; after any other the run goes back
+abbrev pub afterEvent : Run → Run
+afterEvent r = pick (r .offer .stops) (offers (StoppedAt (r .offer .reached)) false (lsn 0) r) (back r)
 
--- an event is handed on, or Nothing where it is dropped
+-- an event is handed on, or Nothing where it is dropped; with StoppedAt the run ends
 abbrev pub nextOf : Event → Run → Lent → Outcome
-nextOf e r l = pick (isStoppedAt (r .offer .event)) (doneWith e r l) (handing e (behindEvent r) l)
+nextOf e r l = pick (isStoppedAt (r .offer .event)) (doneWith e r l) (handing e (afterEvent r) l)
 
 abbrev pub handsOn : Run → Lent → Outcome
 handsOn r l = nextOf (r .offer .event) (withMetrics (withEvent (r .metrics)) r) l
@@ -299,7 +300,7 @@ stalledBy Free r i l = handsOn (stallEnded r) l
 stalledBy Closed r i l = drops (stallEnded r) l
 stalledBy Full r i l = pick (intervalPassed r) (statusOf false Offering r i l) (moved r l)
 
--- with its stall begun
+-- a later try, or the first after it has begun a stall: stop comes before the queue
 unfoldable pub stalledOf : Run → Input → Lent → Outcome
 stalledOf r i l = pick (i .stop) (doneWith Nothing r l) (stalledBy (i .queue) r i l)
 
@@ -308,7 +309,7 @@ firstBy Free r i l = handsOn r l
 firstBy Closed r i l = drops r l
 firstBy Full r i l = stalledOf (stalls r) i l
 
--- an event whose stall has not begun is at its first try
+-- a first try, whose stall has not begun, looks at the queue alone; a full queue begins the stall
 unfoldable pub offeringOf : Run → Input → Lent → Outcome
 offeringOf r i l = pick (r .offer .stalled) (stalledOf r i l) (firstBy (i .queue) r i l)
 
@@ -335,7 +336,7 @@ isEnded Handling = false
 isEnded Offering = false
 isEnded Ended = true
 
--- 5: "moment outside its range or before the last accepted"
+-- 5: a moment that is none, or that lies before the last accepted one
 abbrev pub badMoment : Run → Moment → Bool
 badMoment r m = pick (inRange m) (isBefore m (r .clock .last)) true
 

@@ -1,10 +1,10 @@
-// Offering: an event is handed on, dropped, or stalls.
+// Offering: an event is handed on, dropped, or stalls; and where the run goes when none is left.
 ghost use mathlib.Core.Path.{_≡_};
 ghost use mathlib.Core.List.{List};
 ghost use Prim.Native.Nat.{ℕ, _≤_};
 ghost use lib.ListN.{length};
 ghost use Rattle.worker.specs.Answer.{lent, outcomeBy};
-ghost use Rattle.worker.specs.Step.{isStoppedAt, behindEvent, nextOf, handsOn, stallEnded, stalls, stalledBy, stalledOf, offeringOf};
+ghost use Rattle.worker.specs.Step.{Lent, back, offers, reaches, offersAt, isStoppedAt, afterEvent, nextOf, handsOn, stallEnded, stalls, stalledBy, stalledOf, offeringOf};
 ghost use Rattle.worker.specs.declared.Queue.{Queue};
 use crate::Event;
 use crate::Input;
@@ -16,14 +16,47 @@ use crate::changes::offer;
 use crate::changes::stall_begun;
 use crate::changes::with_metrics;
 use crate::changes::with_offer;
+use crate::changes::with_state;
 use crate::ends::done;
 use crate::ends::handing;
 use crate::ends::moved;
-use crate::offered::back;
-use crate::offered::offers;
 use crate::status::interval_passed;
 use crate::status::send_feedback;
 use lsn::Lsn;
+
+// After a message the run drains on, or begins a new round where the message was read in a wait.
+pub(crate) fn back(run: Run) -> Run
+    ensures { λ r. ⌜ r ≡ back run ⌝ }
+{
+    if run.whole.in_wait {
+        return with_state(State::Turn, run);
+    }
+    with_state(State::Drain, run)
+}
+
+// An event is offered; `stops` says whether StoppedAt follows it.
+pub(crate) fn offers(event: Event, stops: bool, reached: Lsn, run: Run) -> Run
+    ensures { λ r. ⌜ r ≡ offers event stops reached run ⌝ }
+{
+    let first = offer(event, false, stops, reached);
+    with_state(State::Offering, with_offer(first, run))
+}
+
+fn reaches(run: Run, position: Lsn) -> bool
+    ensures { λ r. ⌜ r ≡ reaches run position ⌝ }
+{
+    if run.settings.has_stop {
+        return !position.is_below(run.settings.stop_at_lsn);
+    }
+    false
+}
+
+// An event that reaches a position.
+pub(crate) fn offers_at(event: Event, position: Lsn, run: Run) -> Stepped
+    ensures { λ s. ⌜ ((l : Lent) → outcomeBy s (l .payload) (l .out) ≡ offersAt event position run l) ⌝ }
+{
+    moved(offers(event, reaches(run, position), position, run))
+}
 
 fn is_stopped_at(event: Event) -> bool
     ensures { λ r. ⌜ r ≡ isStoppedAt event ⌝ }
@@ -39,9 +72,9 @@ fn is_stopped_at(event: Event) -> bool
     }
 }
 
-// The event, then StoppedAt, then CopyDone.
-fn behind_event(run: Run) -> Run
-    ensures { λ r. ⌜ r ≡ behindEvent run ⌝ }
+// After an event that reached the stop position StoppedAt is offered; after any other the run goes back.
+fn after_event(run: Run) -> Run
+    ensures { λ r. ⌜ r ≡ afterEvent run ⌝ }
 {
     if run.offer.stops {
         let reached = run.offer.reached;
@@ -50,7 +83,7 @@ fn behind_event(run: Run) -> Run
     back(run)
 }
 
-// An event is handed on, or Nothing where it is dropped.
+// An event is handed on, or Nothing where it is dropped; with StoppedAt the run ends.
 fn next(event: Event, run: Run, out: &mut [u8]) -> Stepped
     requires { ⌜ 39 ≤ length (now out) ⌝ }
     ensures { λ s. ⌜ ((u p : List ℕ) → outcomeBy s p (now (out .exit)) ≡ nextOf event run (lent u p (now (out .entry)))) ⌝ }
@@ -60,7 +93,7 @@ fn next(event: Event, run: Run, out: &mut [u8]) -> Stepped
     if is_stopped_at(offered) {
         return done(event, run, out);
     }
-    handing(event, behind_event(run))
+    handing(event, after_event(run))
 }
 
 fn hands_on(run: Run, out: &mut [u8]) -> Stepped
@@ -108,7 +141,7 @@ fn stays(run: Run, input: Input, out: &mut [u8]) -> Stepped
     moved(run)
 }
 
-// A later try, or the first one behind the stall that it began: stop comes before the queue.
+// A later try, or the first one after it has begun a stall: stop comes before the queue.
 fn stalled(run: Run, input: Input, out: &mut [u8]) -> Stepped
     requires { ⌜ 39 ≤ length (now out) ⌝ }
     ensures { λ s. ⌜ ((u p : List ℕ) → outcomeBy s p (now (out .exit)) ≡ stalledOf run input (lent u p (now (out .entry)))) ⌝ }

@@ -1,4 +1,4 @@
-// The ends of a step: what the rows of the table come to.
+// The ends of a step: how each row of the step table answers.
 ghost use mathlib.Core.Path.{_≡_};
 ghost use mathlib.Core.List.{List};
 ghost use Prim.Native.Nat.{ℕ, _≤_};
@@ -15,7 +15,7 @@ use crate::Waited;
 use crate::changes::with_state;
 use error::Refusal;
 
-// An event is handed on, and else nothing but the run changes.
+// An event is handed on; besides it only the run changes.
 pub(crate) fn handing(event: Event, run: Run) -> Stepped
     ensures { λ s. ⌜ ((l : Lent) → outcomeBy s (l .payload) (l .out) ≡ handing event run l) ⌝ }
 {
@@ -54,7 +54,7 @@ pub(crate) fn ended(refusal: Refusal, run: Run) -> Stepped
     refused(refusal, with_state(State::Ended, run))
 }
 
-// A CopyDone, and the run's end.
+// A CopyDone is written, and the run ends.
 pub(crate) fn done(event: Event, run: Run, out: &mut [u8]) -> Stepped
     requires { ⌜ 39 ≤ length (now out) ⌝ }
     ensures { λ s. ⌜ ((u p : List ℕ) → outcomeBy s p (now (out .exit)) ≡ doneWith event run (lent u p (now (out .entry)))) ⌝ }
@@ -71,7 +71,7 @@ pub(crate) fn done(event: Event, run: Run, out: &mut [u8]) -> Stepped
     }
 }
 
-// A read is answered by what follows from it; the bytes it took are told beside.
+// The answer of a step that read: what the read led to, with the number of bytes that it took.
 pub(crate) fn having(taken: usize, mut stepped: Stepped) -> Stepped
     ensures { λ s. ⌜ ((p q o : List ℕ) → outcomeBy s p o ≡ having taken p (outcomeBy stepped q o)) ⌝ }
 {

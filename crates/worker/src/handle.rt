@@ -1,29 +1,36 @@
-// Handling: a whole message is told apart, and what it says is offered.
+// Handling: the run offers the event that a whole message gives.
 ghost use mathlib.Core.Path.{_≡_};
 ghost use mathlib.Core.List.{List};
 ghost use Prim.Native.Nat.{ℕ, _≤_};
 ghost use lib.ListN.{length, take};
+ghost use Rattle.pgoutput.specs.Boundary.{boundaryOf};
+ghost use Rattle.pgoutput.specs.Boundary as B;
 ghost use Rattle.replication.specs.CopyData.{copyDataOf, saidBy};
+ghost use Rattle.wire.specs.Bytes.{at};
 ghost use Rattle.metrics.specs.Metrics.{withEnd, withReply};
 ghost use Rattle.worker.specs.Answer.{lent, outcomeBy};
+ghost use Rattle.worker.specs.Events.{given, givenBy, dataGives};
 ghost use Rattle.worker.specs.Run.{withMetrics};
-ghost use Rattle.worker.specs.Step.{keepAliveOf, copyDataBy, handlingOf};
+ghost use Rattle.worker.specs.Step.{keepAliveOf, boundaryBy, copyDataBy, handlingOf};
+ghost use Rattle.worker.specs.declared.Event.{Event};
+use crate::DataEvent;
 use crate::Event;
 use crate::Input;
 use crate::Run;
 use crate::State;
 use crate::Stepped;
-use crate::boundaries::xlog_data;
 use crate::changes::with_metrics;
+use crate::deliver::back;
+use crate::deliver::offers;
+use crate::deliver::offers_at;
 use crate::ends::ended;
 use crate::ends::moved;
-use crate::offered::back;
-use crate::offered::offers;
 use crate::status::send_feedback;
 use error::Refusal;
 use framing::tag::is_copy_data;
 use framing::tag::is_error;
 use lsn::Lsn;
+use pgoutput::Boundary;
 use replication::CopyData;
 use wire::store::least;
 
@@ -67,7 +74,124 @@ fn keep_alive(
     moved(offered)
 }
 
-// What the first bytes say, as far as they are there.
+// The boundary in the first `len` of these bytes, or in all of them where there are fewer.
+fn boundary_in(rest: &[u8], len: usize) -> Boundary
+    ensures { λ r. ⌜ B.saidBy r ≡ boundaryOf (take len (now (rest .entry))) ⌝ }
+{
+    let n = least(len, rest.len());
+    pgoutput::parse_pgoutput_boundary(&rest[..n])
+}
+
+// The boundary in the data that begin at a place of the payload.
+fn boundary_at(payload: &[u8], from: usize, len: usize) -> Boundary
+    ensures { λ r. ⌜ B.saidBy r ≡ boundaryOf (at (now (payload .entry)) from len) ⌝ }
+{
+    if payload.len() < from {
+        return Boundary::NotBoundary;
+    }
+    boundary_in(&payload[from..], len)
+}
+
+fn begin(final_lsn: Lsn, commit_time: i64, xid: u32) -> DataEvent
+    ensures { λ r. ⌜ givenBy r ≡ given (Event.Begin «final_lsn» «commit_time» xid) «final_lsn» ⌝ }
+{
+    let event = Event::Begin {
+        final_lsn,
+        commit_time,
+        xid,
+    };
+    DataEvent::Offered(event, final_lsn)
+}
+
+fn commit(lsn: Lsn, end_lsn: Lsn, commit_time: i64) -> DataEvent
+    ensures { λ r. ⌜ givenBy r ≡ given (Event.Commit lsn «end_lsn» «commit_time») «end_lsn» ⌝ }
+{
+    let event = Event::Commit {
+        lsn,
+        end_lsn,
+        commit_time,
+    };
+    DataEvent::Offered(event, end_lsn)
+}
+
+fn other(start: Lsn, end: Lsn, server_time: i64, from: usize, len: usize) -> DataEvent
+    ensures { λ r. ⌜ givenBy r ≡ given (Event.XLogData start end «server_time» from len) end ⌝ }
+{
+    let event = Event::XLogData {
+        wal_start: start,
+        wal_end: end,
+        server_time,
+        from,
+        len,
+    };
+    DataEvent::Offered(event, end)
+}
+
+// The event of an XLogData whose data begin at a place of the payload, with the position that it reaches; or why the data are refused.
+pub fn event_at(
+    payload: &[u8],
+    from: usize,
+    len: usize,
+    start: Lsn,
+    end: Lsn,
+    server_time: i64,
+) -> DataEvent
+    ensures { λ r. ⌜ givenBy r ≡ dataGives (boundaryOf (at (now (payload .entry)) from len)) (start .0) (end .0) «server_time» from len ⌝ }
+{
+    match boundary_at(payload, from, len) {
+        Boundary::Begin {
+            final_lsn,
+            commit_time,
+            xid,
+        } => begin(final_lsn, commit_time, xid),
+        Boundary::Commit {
+            lsn,
+            end_lsn,
+            commit_time,
+        } => commit(lsn, end_lsn, commit_time),
+        Boundary::Message {
+            transactional,
+            lsn,
+            prefix_from,
+            prefix_len,
+            content_from,
+            content_len,
+        } => {
+            let prefix = from + prefix_from;
+            let content = from + content_from;
+            let event = Event::Message {
+                transactional,
+                lsn,
+                prefix_from: prefix,
+                prefix_len,
+                content_from: content,
+                content_len,
+            };
+            DataEvent::Offered(event, end)
+        }
+        Boundary::NotBoundary => other(start, end, server_time, from, len),
+        Boundary::Refused(refusal) => DataEvent::Refused(refusal),
+    }
+}
+
+fn xlog_data(
+    start: Lsn,
+    end: Lsn,
+    server_time: i64,
+    from: usize,
+    len: usize,
+    run: Run,
+    payload: &[u8],
+) -> Stepped
+    ensures { λ s. ⌜ ((u o : List ℕ) → outcomeBy s (now (payload .entry)) o ≡ boundaryBy (boundaryOf (at (now (payload .entry)) from len)) (start .0) (end .0) «server_time» from len run (lent u (now (payload .entry)) o)) ⌝ }
+{
+    match event_at(payload, from, len, start, end, server_time) {
+        DataEvent::Offered(event, reached) => offers_at(event, reached, run),
+        DataEvent::Refused(refusal) => ended(refusal, run),
+    }
+}
+
+// What the first `len` bytes of the payload say, or all of them where there are fewer.
 fn copy_data_in(payload: &[u8], len: usize) -> CopyData
     ensures { λ r. ⌜ saidBy r ≡ copyDataOf (take len (now (payload .entry))) ⌝ }
 {

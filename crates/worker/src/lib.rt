@@ -1,10 +1,8 @@
 // A run: what it holds, what a step is given, what it answers. The rules are in specs/.
-mod boundaries;
 mod changes;
 mod deliver;
 mod ends;
-mod handle;
-mod offered;
+pub mod handle;
 mod receive;
 mod rounds;
 pub mod session;
@@ -85,6 +83,12 @@ pub enum Event {
     StoppedAt {
         reached: Lsn,
     },
+}
+
+// What the data of an XLogData give: an event and the position that it reaches, or why they are refused.
+pub enum DataEvent {
+    Offered(Event, Lsn),
+    Refused(Refusal),
 }
 
 // What a step is given beside the lent bytes.

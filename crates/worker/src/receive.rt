@@ -1,4 +1,4 @@
-// Opening and Reading: bytes of the input are taken, whatever the clock.
+// Opening and Reading: the run takes unread bytes, and looks neither at the clock nor at a stop.
 ghost use mathlib.Core.Path.{_≡_};
 ghost use mathlib.Core.List.{List};
 ghost use Prim.Native.Nat.{ℕ};
@@ -46,7 +46,7 @@ fn opening_by(answer: Answer, run: Run) -> Stepped
     }
 }
 
-// The message is tested in the step in which it is whole.
+// The step that makes a message whole tests it, too.
 pub(crate) fn opening(run: Run, input: Input, unread: &[u8], payload: &mut [u8]) -> Stepped
     ensures { λ s. ⌜ ((o : List ℕ) → outcomeBy s (now (payload .exit)) o ≡ openingOf run input (lent (now (unread .entry)) (now (payload .entry)) o)) ⌝ }
 {
@@ -64,7 +64,7 @@ fn drained(run: Run) -> Run
     with_drained(n, run)
 }
 
-// A whole message is handled by the next step.
+// The next step handles the message.
 pub(crate) fn to_handle(tag: u8, n: usize, in_wait: bool, run: Run) -> Stepped
     ensures { λ s. ⌜ ((l : Lent) → outcomeBy s (l .payload) (l .out) ≡ moved (toHandle tag n «in_wait» run) l) ⌝ }
 {
@@ -81,7 +81,6 @@ fn reading_by(answer: Answer, run: Run) -> Stepped
     }
 }
 
-// Neither stop nor clock is looked at.
 pub(crate) fn reading(run: Run, input: Input, unread: &[u8], payload: &mut [u8]) -> Stepped
     ensures { λ s. ⌜ ((o : List ℕ) → outcomeBy s (now (payload .exit)) o ≡ readingOf run input (lent (now (unread .entry)) (now (payload .entry)) o)) ⌝ }
 {

@@ -56,7 +56,7 @@ fn goes_on(run: Run, unread: &[u8]) -> bool
     false
 }
 
-// Stop is looked at only behind a drained message.
+// A round has at most 256 messages; stop is looked at only after one of them.
 pub(crate) fn drain(run: Run, input: Input, unread: &[u8], out: &mut [u8]) -> Stepped
     requires { ⌜ 39 ≤ length (now out) ⌝ }
     ensures { λ s. ⌜ ((p : List ℕ) → outcomeBy s p (now (out .exit)) ≡ drainOf run input (lent (now (unread .entry)) p (now (out .entry)))) ⌝ }

@@ -1,6 +1,7 @@
 // Opening a run, a run that is already open, reports between steps, and views.
 ghost use mathlib.Core.Path.{_≡_};
-ghost use Rattle.worker.specs.Answer.{openedBy, alreadyOpenBy, errorPartOf};
+ghost use Rattle.progress.specs.Progress.{cellPosition};
+ghost use Rattle.worker.specs.Answer.{openedBy, alreadyOpenBy, errorPart, errorPartOf};
 ghost use Rattle.worker.specs.Opening.{badInterval, openOf, alreadyOpenOf, reportOf};
 ghost use Rattle.worker.specs.Run.{freshRun};
 use crate::AlreadyOpen;
@@ -65,7 +66,7 @@ fn fresh_run(settings: Settings, state: State, start: Lsn) -> Run
     }
 }
 
-// Of the status and the idle interval.
+// The status and the idle interval may be at most a day, in nanoseconds.
 pub const LONGEST_INTERVAL: u64 = 86400000000000;
 
 fn bad_interval(settings: Settings) -> bool
@@ -77,7 +78,7 @@ fn bad_interval(settings: Settings) -> bool
     LONGEST_INTERVAL < settings.idle_wakeup_interval
 }
 
-// Confirmations begin from the start, whatever position the query asks for.
+// The query of `start_replication` is written, from `position`; confirmations begin at `start`, whatever the query asks for.
 pub fn open(
     settings: Settings,
     slot: &[u8],
@@ -99,7 +100,7 @@ pub fn open(
     Opened { run, written }
 }
 
-// The stream has begun already: no query is sent.
+// For a stream that has begun already: no query is written.
 pub fn already_open(settings: Settings, start: Lsn) -> AlreadyOpen
     ensures { λ a. ⌜ alreadyOpenBy a ≡ alreadyOpenOf settings start ⌝ }
 {
@@ -116,7 +117,7 @@ pub fn already_open(settings: Settings, start: Lsn) -> AlreadyOpen
     }
 }
 
-// The consumer has applied all before a position.
+// The consumer reports that it has applied all before a position.
 pub fn report(run: Run, position: Lsn, moment: Moment) -> Run
     ensures { λ r. ⌜ r ≡ reportOf run position moment ⌝ }
 {
@@ -140,7 +141,7 @@ pub fn metrics(run: Run) -> Metrics
 
 // What a status would confirm now.
 pub fn position(run: Run) -> Lsn
-    ensures { λ r. ⌜ r ≡ run .progress .applied ⌝ }
+    ensures { λ r. ⌜ r ≡ cellPosition (run .progress) ⌝ }
 {
     run.progress.applied
 }
@@ -153,7 +154,7 @@ pub fn last_sent(run: Run) -> LastStatus
 
 // The error message that ended the run, where one did.
 pub fn error_part(run: Run) -> ErrorPart
-    ensures { λ r. ⌜ r ≡ errorPartOf run ⌝ }
+    ensures { λ r. ⌜ errorPart r ≡ errorPartOf run ⌝ }
 {
     let state = run.state;
     if is_ended(state) {

@@ -5,7 +5,7 @@ ghost use Prim.Native.Nat.{ℕ, _≤_};
 ghost use lib.ListN.{length};
 ghost use mathlib.Core.Bool.{true};
 ghost use Rattle.wire.specs.Bytes.{pick};
-ghost use Rattle.progress.specs.Progress.{reportedOf};
+ghost use Rattle.progress.specs.Progress.{cellPosition, reportedOf};
 ghost use Rattle.worker.specs.Answer.{lent, outcomeBy, waitedOption};
 ghost use Rattle.worker.specs.Run.{lastStatus, withLastStatus};
 ghost use Rattle.worker.specs.Step.{intervalPassed, isAbove, takesPending, waitedBy, confirmed, statusOf, statusDue};
@@ -30,7 +30,7 @@ pub(crate) fn interval_passed(run: Run) -> bool
     run.settings.status_interval <= now.since(at)
 }
 
-// Whether the position is above the last sent, or nothing was sent.
+// Whether no status was sent yet, or the position rose above the one last sent.
 pub(crate) fn is_above(run: Run) -> bool
     ensures { λ r. ⌜ r ≡ isAbove run ⌝ }
 {
@@ -60,7 +60,7 @@ fn takes_pending(run: Run) -> bool
     false
 }
 
-// How long the pending moment has waited.
+// How long the report has waited whose moment is pending.
 fn waited_by(run: Run) -> Waited
     ensures { λ r. ⌜ waitedOption r ≡ waitedBy run ⌝ }
 {
@@ -75,9 +75,9 @@ fn waited_by(run: Run) -> Waited
     Waited::Untold
 }
 
-// The progress behind a status.
+// The cell after a status.
 fn reported(run: Run) -> ProgressCell
-    ensures { λ r. ⌜ r ≡ pick (takesPending run) (reportedOf (run .progress) (run .progress .applied) (run .clock .last) .cell) (run .progress) ⌝ }
+    ensures { λ r. ⌜ r ≡ pick (takesPending run) (reportedOf (run .progress) (cellPosition (run .progress)) (run .clock .last) .cell) (run .progress) ⌝ }
 {
     let cell = run.progress;
     if takes_pending(run) {
@@ -89,7 +89,7 @@ fn reported(run: Run) -> ProgressCell
 }
 
 fn with_last_status(mut run: Run) -> Run
-    ensures { λ r. ⌜ r ≡ withLastStatus (lastStatus true (run .progress .applied) (run .clock .last)) run ⌝ }
+    ensures { λ r. ⌜ r ≡ withLastStatus (lastStatus true (cellPosition (run .progress)) (run .clock .last)) run ⌝ }
 {
     let position = run.progress.applied;
     let at = run.clock.last;
@@ -112,7 +112,7 @@ fn confirmed(run: Run) -> Run
     with_metrics(counted, with_progress(cell, with_last_status(run)))
 }
 
-// A status with a reply byte, and the state behind it. It confirms the position as it is now.
+// A status with a reply byte is written, and the run enters the state `to`. It confirms the cell's position.
 pub(crate) fn send_feedback(
     reply: bool,
     to: State,

@@ -1,4 +1,4 @@
-// Waiting: what ends a wait, in its order.
+// Waiting: what ends a wait, test by test in the order of the step table.
 ghost use mathlib.Core.Path.{_≡_};
 ghost use mathlib.Core.Bool.{true};
 ghost use mathlib.Core.List.{List};
@@ -8,6 +8,7 @@ ghost use lib.Dec.{eqb, leb};
 ghost use Rattle.wire.specs.Bytes.{pick};
 ghost use Rattle.moment.specs.Moment.{sinceOf};
 ghost use Rattle.framing.specs.Read.{saidBy};
+ghost use Rattle.progress.specs.Progress.{cellSignal};
 ghost use Rattle.worker.specs.Answer.{lent, outcomeBy};
 ghost use Rattle.worker.specs.Rows.{both, unless};
 ghost use Rattle.worker.specs.Step.{intervalPassed, idleOf, waitingBy, waitingRead, waitingOf};
@@ -37,7 +38,7 @@ fn pending_due(run: Run) -> bool
 }
 
 fn is_woken(run: Run) -> bool
-    ensures { λ r. ⌜ r ≡ unless (run .pending) (run .progress .signalled) ⌝ }
+    ensures { λ r. ⌜ r ≡ unless (run .pending) (cellSignal (run .progress)) ⌝ }
 {
     if run.pending {
         return false;

@@ -1,4 +1,4 @@
--- The sum is taken where it is below the number behind the last moment.
+-- The sum is made where it is below the number after the last moment.
 use native.Mathlib.Omega.{arith}
 use Rattle.schedule.specs.NextStep.{dueOf}
 use borrow.Author.Tests.{eq-eqb, ne-eqb}

@@ -12,7 +12,7 @@ returns-2 : tie.Need-returns-2
 returns-2 c = λ u p. rw (
   ← c .before .before .before .is-stopped-at .ensures,
   c .before .before .if1 .left,
-  ← c .before .behind-event .ensures,
+  ← c .before .after-event .ensures,
 ) (c .handing .ensures (lent u p _))
 
 pub next-spec : {M : Type 1} → statement M

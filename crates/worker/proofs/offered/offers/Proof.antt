@@ -1,9 +1,0 @@
-use borrow.Author.Needs.{needs}
-use Rattle.worker.proofs.offered.offers.Statement.{statement}
-use Rattle.worker.proofs.offered.offers.Tie as tie
-
-returns : tie.Need-returns
-returns c = rw (c .with-state .ensures, c .before .with-offer .ensures, c .before .before .offer .ensures)
-
-pub offers-spec : {M : Type 1} → statement M
-offers-spec = tie.close (tie.spec (search needs) (search needs) (search needs) returns)
