@@ -1,36 +1,91 @@
 -- What each end of a step answers, in the table's words: a law for each of worker's `handing`, `refusedWith`, `doneWith` and `statusOf`. Rows and
--- Kept take them.
+-- Preserved take them.
 use mathlib.Core.Path.{_≡_, refl, sym, ap}
 use mathlib.Core.Bool.{Bool}
+use mathlib.Core.List.{List, []}
 use Prim.Native.Nat.{ℕ}
+use lib.ListN.{length, take}
 use Rattle.wire.specs.Bytes.{put}
 use Rattle.wire.proofs.Laws.{put-none}
 use Rattle.frontend.specs.Frontend.{statusUpdate}
 use Rattle.lsn.specs.declared.Lsn.{Lsn}
+use Rattle.progress.specs.Progress.{cellPosition}
 use Rattle.worker.specs.declared.State.{State}
+use Rattle.worker.specs.declared.State.the-variants.{Ended}
 use Rattle.worker.specs.declared.Input.{Input}
 use Rattle.worker.specs.declared.Event.{Event}
+use Rattle.worker.specs.declared.Event.the-variants.{Nothing}
 use Rattle.worker.specs.declared.Run.{Run}
-use Rattle.worker.specs.Step.{Lent, doneWith, handing, refusedWith, statusOf}
-use Rattle.claims.specs.Table.{nothing, done, status, say, Answers}
+use Rattle.worker.specs.Step.{Lent, doneWith, handing, moved, refusedWith, statusOf, waitedBy}
+use Rattle.worker.specs.Events as E
+use Rattle.claims.specs.Happened.{Happened, happenedOf, Parts}
+use Rattle.claims.specs.Trace.{Setup, Trace, takenBy, nothing, done, status, confirmedOf}
+use Rattle.claims.specs.Table.{limitBy, lastMessage, respond, enters, writes}
+use Rattle.claims.specs.Traced.{Answers}
+use Rattle.claims.specs.Traced as T
 
 -- nothing is taken, so the payload buffer stays
-module _ {position : Lsn} {i : Input} {l : Lent} where
-  pub handing-answers : (e : Event) (r : Run) → Answers position i l (say 0 nothing) (handing e r l)
-  handing-answers e r = record { refusal = refl; taken = refl; payload = sym (put-none (l .payload) 0); output = refl }
+module _ {s : Setup} {h : Trace} {i : Input} {l : Lent} where
+  pub handing-answers : (e : Event) (r : Run) {es : List Happened} → happenedOf (E.saidBy e) (l .payload) ≡ es
+      → Parts (E.saidBy e) (length (lastMessage (limitBy s) (take (takenBy h) (s .bytes)) .1))
+      → Answers s h i l (respond 0 nothing (r .state) es) (handing e r l)
+  handing-answers e r he w =
+      record {
+        refusal = refl;
+        taken = refl;
+        payload = sym (put-none (l .payload) 0);
+        output = refl;
+        waited = refl;
+        state = refl;
+        event = he;
+        parts =
+            w;
+      }
 
-  pub refused-answers : (n : ℕ) (r : Run) → Answers position i l (say n nothing) (refusedWith n r l)
-  refused-answers n r = record { refusal = refl; taken = refl; payload = sym (put-none (l .payload) 0); output = refl }
+  pub moved-answers : (r : Run) → Answers s h i l (enters (r .state)) (moved r l)
+  moved-answers r = handing-answers Nothing r refl tt
 
-  pub done-answers : (e : Event) (r : Run) → Answers position i l (say 0 done) (doneWith e r l)
-  done-answers e r = record { refusal = refl; taken = refl; payload = sym (put-none (l .payload) 0); output = refl }
+  pub refused-answers : (n : ℕ) (r : Run) → Answers s h i l (respond n nothing (r .state) []) (refusedWith n r l)
+  refused-answers n r =
+      record {
+        refusal = refl;
+        taken = refl;
+        payload = sym (put-none (l .payload) 0);
+        output = refl;
+        waited = refl;
+        state = refl;
+        event = refl;
+        parts = tt;
+      }
 
-  pub status-answers : (reply : Bool) (to : State) (r : Run) → r .progress .applied ≡ position → Answers position i l (say 0 (status reply)) (statusOf reply to r i l)
+  pub done-answers : (e : Event) (r : Run) {es : List Happened} → happenedOf (E.saidBy e) (l .payload) ≡ es
+      → Parts (E.saidBy e) (length (lastMessage (limitBy s) (take (takenBy h) (s .bytes)) .1))
+      → Answers s h i l (respond 0 done Ended es) (doneWith e r l)
+  done-answers e r he w =
+      record {
+        refusal = refl;
+        taken = refl;
+        payload = sym (put-none (l .payload) 0);
+        output = refl;
+        waited = refl;
+        state = refl;
+        event = he;
+        parts =
+            w;
+      }
+
+  pub status-answers : (reply : Bool) (to : State) (r : Run) → cellPosition (r .progress) ≡ confirmedOf (s .start) h
+      → waitedBy r ≡ T.waitedBy s h i (status reply)
+      → Answers s h i l (writes (status reply) to) (statusOf reply to r i l)
   unfolding statusOf
-  status-answers reply to r e =
+  status-answers reply to r e w =
       record {
         refusal = refl;
         taken = refl;
         payload = sym (put-none (l .payload) 0);
         output = ap (λ (p : Lsn). (39, put (l .out) 0 (statusUpdate (p .0) (i .«client_time») reply))) e;
+        waited = w;
+        state = refl;
+        event = refl;
+        parts = tt;
       }

@@ -18,7 +18,7 @@ use Rattle.stream.specs.Tag.{isError, isCopyBothResponse}
 use Rattle.worker.specs.declared.Queue.{Queue}
 use Rattle.worker.specs.declared.Queue.the-variants.{Free, Full, Closed}
 use Rattle.claims.specs.Happened.{Happened}
-use Rattle.claims.specs.Plain.{Msg, Told, Gives, messageGives, wholeOnes, behindOpening, given, eventsOf, spanOf, behindByte, acceptedOnes, isRefusedEarly, byQueue, isCutOff, offered, takenOf, plainOf}
+use Rattle.claims.specs.Plain.{Msg, Observation, Gives, messageGives, wholeOnes, afterOpening, given, eventsOf, spanOf, afterByte, acceptedOnes, isRefusedEarly, byQueue, isCutOff, offered, takenOf, plainOf}
 use Rattle.claims.specs.Begins.{Begins, isClosed, NoneClosed, Plain-begins, Plain-agree}
 
 -- ---- beginnings
@@ -36,7 +36,11 @@ module _ {A : Type 0} where
 
   begins-then : {xs ys zs : List A} → Begins xs ys → Begins ys zs → Begins xs zs
   begins-then {xs} b c =
-      record { rest = b .rest ++ c .rest; joined = sym (append-assoc xs (b .rest) (c .rest)) ∙ ap (λ (r : List A). r ++ c .rest) (b .joined) ∙ c .joined }
+      record {
+        rest = b .rest ++ c .rest;
+        joined = sym (append-assoc xs (b .rest) (c .rest)) ∙ ap (λ (r : List A). r ++ c .rest) (b .joined) ∙ c
+            .joined;
+      }
 
   -- one of two, as a test says
   either-begins : (t : Bool) {xs ys zs : List A} → Begins xs zs → Begins ys zs → Begins (pick t xs ys) zs
@@ -59,13 +63,14 @@ queue-begins Free zs h b c = b
 queue-begins Full zs h b c = c
 queue-begins Closed zs h b c = impossible cc
 
-offered-begins : (es : List Happened) (full : Bool) (ts : List Told) → NoneClosed ts → Begins (offered es full ts) es
+offered-begins : (es : List Happened) (full : Bool) (ts : List Observation) → NoneClosed ts → Begins (offered es full ts) es
 unfolding offered
 offered-begins es full [] h = none-begins es
 offered-begins [] full (t ∷ ts) h = none-begins []
 offered-begins (e ∷ es) full (t ∷ ts) h =
     either-begins (isCutOff t full) (none-begins (e ∷ es))
-    (queue-begins (t .queue) (offered es false ts) (h .0) (also-begins e (offered-begins es false ts (h .1))) (offered-begins (e ∷ es) true ts (h .1)))
+    (queue-begins (t .queue) (offered es false ts) (h .0) (also-begins e (offered-begins es false ts (h .1)))
+    (offered-begins (e ∷ es) true ts (h .1)))
 
 -- ---- more messages give more
 
@@ -80,20 +85,21 @@ given-begins stop [] ns = none-begins (given stop ns)
 given-begins stop (m ∷ ms) ns =
     let g : Gives = messageGives stop (m .0) (m .1) in behind-begins (g .events) (unless-ends (g .ends) (given-begins stop ms ns))
 
-opened-begins : (w e : Bool) (ms ns : List Msg) {xs ys : List Msg} → Begins xs ys → Begins (pick w ms (pick e [] xs)) (pick w (ms ++ ns) (pick e [] ys))
+opened-begins : (w e : Bool) (ms ns : List Msg) {xs ys : List Msg} → Begins xs ys
+    → Begins (pick w ms (pick e [] xs)) (pick w (ms ++ ns) (pick e [] ys))
 opened-begins true e ms ns b = record { rest = ns; joined = refl }
 opened-begins false true ms ns b = none-begins []
 opened-begins false false ms ns b = b
 
-opening-begins : (ms ns : List Msg) → Begins (behindOpening ms) (behindOpening (ms ++ ns))
-unfolding behindOpening
-opening-begins [] ns = none-begins (behindOpening ns)
+opening-begins : (ms ns : List Msg) → Begins (afterOpening ms) (afterOpening (ms ++ ns))
+unfolding afterOpening
+opening-begins [] ns = none-begins (afterOpening ns)
 opening-begins (m ∷ ms) ns = opened-begins (isCopyBothResponse (m .0)) (isError (m .0)) ms ns (opening-begins ms ns)
 
 events-begin : (stop : Option ℕ) (opening : Bool) (ms ns : List Msg) → Begins (eventsOf stop opening ms) (eventsOf stop opening (ms ++ ns))
 events-begin stop true ms ns =
-    let b : Begins (behindOpening ms) (behindOpening (ms ++ ns)) = opening-begins ms ns in
-    rw (← b .joined) (given-begins stop (behindOpening ms) (b .rest))
+    let b : Begins (afterOpening ms) (afterOpening (ms ++ ns)) = opening-begins ms ns in
+    rw (← b .joined) (given-begins stop (afterOpening ms) (b .rest))
 events-begin stop false ms ns = given-begins stop ms ns
 
 -- .. for a beginning of the messages
@@ -113,38 +119,39 @@ cut-begins limit k bytes =
 
 -- ---- no queue closes
 
-pub closed-more : (ts : List Told) (x : Told) → NoneClosed ts → isClosed (x .queue) ≡ false → NoneClosed (ts ++ (x ∷ []))
+pub closed-more : (ts : List Observation) (x : Observation) → NoneClosed ts → isClosed (x .queue) ≡ false → NoneClosed (ts ++ (x ∷ []))
 closed-more [] x h q = (q, tt)
 closed-more (t ∷ ts) x h q = (h .0, closed-more ts x (h .1) q)
 
-pub closed-before : (ts : List Told) (x : Told) → NoneClosed (ts ++ (x ∷ [])) → NoneClosed ts × (isClosed (x .queue) ≡ false)
+pub closed-before : (ts : List Observation) (x : Observation) → NoneClosed (ts ++ (x ∷ [])) → NoneClosed ts × (isClosed (x .queue) ≡ false)
 closed-before [] x h = (tt, h .0)
 closed-before (t ∷ ts) x h = let k = closed-before ts x (h .1) in ((h .0, k .0), k .1)
 
-either-closed : (b : Bool) (ts us : List Told) → NoneClosed ts → NoneClosed us → NoneClosed (pick b ts us)
+either-closed : (b : Bool) (ts us : List Observation) → NoneClosed ts → NoneClosed us → NoneClosed (pick b ts us)
 either-closed true ts us a c = a
 either-closed false ts us a c = c
 
-accepted-closed : (ts : List Told) → NoneClosed ts → NoneClosed (acceptedOnes ts)
+accepted-closed : (ts : List Observation) → NoneClosed ts → NoneClosed (acceptedOnes ts)
 unfolding acceptedOnes
 accepted-closed [] h = tt
 accepted-closed (t ∷ ts) h =
     let c : NoneClosed (acceptedOnes ts) = accepted-closed ts (h .1) in
     either-closed (isRefusedEarly (t .refusal)) (acceptedOnes ts) (t ∷ acceptedOnes ts) c (h .0, c)
 
-behind-closed : (n : ℕ) (ts : List Told) → NoneClosed ts → NoneClosed (behindByte n ts)
-unfolding behindByte
+behind-closed : (n : ℕ) (ts : List Observation) → NoneClosed ts → NoneClosed (afterByte n ts)
+unfolding afterByte
 behind-closed n [] h = tt
-behind-closed n (t ∷ ts) h = either-closed (leb n (t .taken)) ts (behindByte (n - t .taken) ts) (h .1) (behind-closed (n - t .taken) ts (h .1))
+behind-closed n (t ∷ ts) h = either-closed (leb n (t .taken)) ts (afterByte (n - t .taken) ts) (h .1) (behind-closed (n - t .taken) ts (h .1))
 
-later-closed : (ts : List Told) → NoneClosed ts → NoneClosed (drop 1 ts)
+later-closed : (ts : List Observation) → NoneClosed ts → NoneClosed (drop 1 ts)
 later-closed [] h = tt
 later-closed (t ∷ ts) h = h .1
 
 -- ---- the plain reading
 
--- what begins all, and some of the rest behind it
-and-some : {before all : List Happened} (ts : List Told) → NoneClosed ts → Begins before all → Begins (before ++ offered (drop (length before) all) false ts) all
+-- what begins all, and some of the rest after it
+and-some : {before all : List Happened} (ts : List Observation) → NoneClosed ts → Begins before all
+    → Begins (before ++ offered (drop (length before) all) false ts) all
 and-some {before} {all} ts h b =
     let e : drop (length before) all ≡ b .rest = rw (← b .joined) (drop-append-seam before (b .rest)) in
     let c : Begins (before ++ offered (b .rest) false ts) (before ++ b .rest) = behind-begins before (offered-begins (b .rest) false ts h) in
@@ -154,7 +161,7 @@ pub plain-begins : Plain-begins
 unfolding plainOf
 plain-begins b opening bytes ts h =
     let ms : List Msg = wholeOnes (cutOf (b .limit) (take (takenOf ts) bytes) .items) in
-    let since : List Told = acceptedOnes (behindByte (spanOf ms) ts) in
+    let since : List Observation = acceptedOnes (afterByte (spanOf ms) ts) in
     let front : Begins (take (length ms - 1) ms) ms = record { rest = drop (length ms - 1) ms; joined = take-append-drop (length ms - 1) ms } in
     begins-then
     (and-some (drop 1 since) (later-closed since (accepted-closed _ (behind-closed (spanOf ms) ts h))) (events-of (b .stop) opening front))

@@ -1,15 +1,40 @@
--- Condition 3, its four parts together; the second of them, that each call is as told, read off what holds behind any list of calls (Kept).
-use Rattle.claims.specs.Calls.{played}
-use Rattle.claims.specs.Table.{Calls-as-told}
+-- Condition 3, its eight parts together; the second of them, that each call answers as the table says, is read off what holds after any list of
+-- calls (Preserved).
+use mathlib.Core.List.{List}
+use Prim.Native.Nat.{ℕ}
+use lib.ListN.{length}
+use Rattle.claims.specs.Trace.{Setup}
+use Rattle.claims.specs.Calls.{played, setupOf}
+use Rattle.claims.specs.Traced.{traceOf, Calls-traced}
+use Rattle.claims.specs.Refused.{Refused-leaves}
 use Rattle.claims.specs.Condition3.{Condition-3}
+use Rattle.claims.proofs.Beginnings.{beginnings-answer}
 use Rattle.claims.proofs.Confirms.{confirms-largest}
+use Rattle.claims.proofs.Counters.{counters-traced}
+use Rattle.claims.proofs.Failed.{error-shown}
 use Rattle.claims.proofs.HandsOn.{hands-on, events-begin}
-use Rattle.claims.proofs.Kept.{step-next, played-stood}
-use Rattle.claims.proofs.Standing.{setup}
+use Rattle.claims.proofs.Preserved.{step-next, refused-leaves, played-preserved}
 
-pub calls-as-told : Calls-as-told
-calls-as-told s opening start bytes p cs i n out =
-    step-next (setup s opening start bytes) (played s opening start bytes p cs) (played-stood s opening start bytes p cs) i n out .answers
+pub calls-traced : Calls-traced
+calls-traced s b bytes p cs =
+    let x : Setup = setupOf s b bytes (length p) in
+    let w = played-preserved s b bytes p cs in
+    record { follows = w .follows; next = λ i n out. step-next x (traceOf x cs) (played s b bytes p cs) w i n out .answers }
+
+pub calls-refused : Refused-leaves
+calls-refused s b bytes p cs i n out =
+    let x : Setup = setupOf s b bytes (length p) in
+    refused-leaves x (traceOf x cs) (played s b bytes p cs) (played-preserved s b bytes p cs) i n out .left
 
 pub condition-3 : Condition-3
-condition-3 = record { confirms = confirms-largest; answers = calls-as-told; events = hands-on; begins = events-begin }
+condition-3 =
+    record {
+      beginnings = beginnings-answer;
+      confirms = confirms-largest;
+      answers = calls-traced;
+      refused = calls-refused;
+      error = error-shown;
+      counters = counters-traced;
+      events = hands-on;
+      begins = events-begin;
+    }

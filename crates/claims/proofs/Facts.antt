@@ -1,156 +1,281 @@
--- What a run remembers, until it ends, is what the calls tell: at first, behind a report, a refused step and a status, and by what else a step
--- changes. Rows takes these for each row of the step, Kept for any list of calls.
+-- What a run remembers is what its trace says, until it ends; its counters are the trace's also then. At first, after a report, after a refused
+-- step, after a status, and by what else a step changes. Rows takes these laws for each row of the step, Preserved for any list of calls.
 use mathlib.Core.Path.{_≡_, refl, ap, _∙_}
 use mathlib.Core.Bool.{Bool, true, false}
 use mathlib.Core.List.{List, [], _∷_}
-use Prim.Native.Nat.{ℕ, _<_}
+use Prim.Native.Nat.{ℕ, _+_, _<_}
+use native.Mathlib.Omega.{arith}
+use borrow.Author.Tests.{le-ltb}
+use lib.ListN.{length}
 use Rattle.wire.specs.Bytes.{pick}
 use Rattle.wire.proofs.Laws.{by-test, impossible}
 use Rattle.lsn.specs.declared.Lsn.{Lsn}
 use Rattle.lsn.specs.Position.{isBelow}
+use Rattle.metrics.specs.declared.Metrics.{Metrics}
+use Rattle.metrics.specs.Metrics.{more, metrics, withStatus, withReply, withEnd}
 use Rattle.moment.specs.declared.Moment.{Moment}
+use Rattle.moment.specs.Moment.{sinceOf}
 use Rattle.progress.specs.declared.ProgressCell.{ProgressCell}
-use Rattle.progress.specs.Progress.{raiseOf, reportedOf}
+use Rattle.progress.specs.Progress.{noMoment, isNone, cellPosition, cellSignal, cellPending, cellTiming, raiseOf, reportedOf}
+use Rattle.worker.specs.declared.Clock.{Clock}
 use Rattle.worker.specs.declared.Input.{Input}
 use Rattle.worker.specs.declared.LastStatus.{LastStatus}
 use Rattle.worker.specs.declared.Run.{Run}
 use Rattle.worker.specs.declared.Settings.{Settings}
 use Rattle.worker.specs.declared.State.{State}
 use Rattle.worker.specs.declared.State.the-variants.{Opening, Turn, Drain, Reading, Waiting, Handling, Offering, Ended}
-use Rattle.worker.specs.Run.{lastStatus, freshRun, accepted}
+use Rattle.worker.specs.Rows.{both}
+use Rattle.worker.specs.Run.{clock, lastStatus, freshRun, accepted, micros}
 use Rattle.worker.specs.Step.{confirmed, isEnded, isStoppedAt, takesPending}
 use Rattle.worker.specs.Opening.{reportOf}
+use Rattle.claims.specs.Happened.{Happened}
 use Rattle.claims.specs.Plain.{isRefusedEarly}
-use Rattle.claims.specs.Past.{Past, a-step, a-report, confirmedOf, lastAccepted, hasSent, sentAt, sentPosition, waitBegan, pendingOf, signalledOf, drainedOf, fullBefore, stoppedNext}
+use Rattle.claims.specs.Trace.{Setup, Trace, a-step, a-report, nothing, isStatus, isReply, confirmedOf, lastAccepted, hasSent, sentAt, sentPosition, pendingSince, waitBegan, pendingOf, signalledOf, drainedOf, readInWait, fullBefore, goneOf}
+use Rattle.claims.specs.Table.{respond}
+use Rattle.claims.specs.Counters.{beginsStall, endsStall, stallBegan, lastEnd}
+
+-- ---- counters of 64 bits, as a run counts them
+
+-- events, by those that a step hands on
+abbrev pub counted : List Happened → ℕ → ℕ
+counted [] n = n
+counted (e ∷ es) n = more n (length es + 1)
+
+unfoldable pub events : Trace → ℕ
+events [] = 0
+events (a-step i from y ∷ h) = counted (y .event) (events h)
+events (a-report p m ∷ h) = events h
+
+unfoldable pub statuses : Trace → ℕ
+statuses [] = 0
+statuses (a-step i from y ∷ h) = pick (isStatus (y .writing)) (more (statuses h) 1) (statuses h)
+statuses (a-report p m ∷ h) = statuses h
+
+unfoldable pub replies : Trace → ℕ
+replies [] = 0
+replies (a-step i from y ∷ h) = pick (isReply (y .writing)) (more (replies h) 1) (replies h)
+replies (a-report p m ∷ h) = replies h
+
+unfoldable pub stalls : Trace → ℕ
+stalls [] = 0
+stalls (a-step i from y ∷ h) = pick (beginsStall h i from y) (more (stalls h) 1) (stalls h)
+stalls (a-report p m ∷ h) = stalls h
+
+unfoldable pub stall-micros : Trace → ℕ
+stall-micros [] = 0
+stall-micros (a-step i from y ∷ h) =
+    pick (endsStall h i from y) (more (stall-micros h) (micros (sinceOf (i .moment) (stallBegan h)))) (stall-micros h)
+stall-micros (a-report p m ∷ h) = stall-micros h
+
+-- ---- facts
+
+-- of the reports: the position to confirm, whether a report has raised it since the wait began, the pending moment, whether timing is on
+pub record Reports : Type 0 where
+  pub applied : Lsn
+  pub signalled : Bool
+  pub since : Moment
+  pub timed : Bool
+
+abbrev reports : Lsn → Bool → Moment → Bool → Reports
+reports applied signalled since timed = record { applied = applied; signalled = signalled; since = since; timed = timed }
+
+-- the reports of a cell
+abbrev told-by : ProgressCell → Reports
+told-by c = reports (cellPosition c) (cellSignal c) (cellPending c) (cellTiming c)
+
+-- of the offered event: whether its stall has begun, and how many events of its message are gone
+pub record Tries : Type 0 where
+  pub stalled : Bool
+  pub gone : ℕ
+
+abbrev pub tries : Bool → ℕ → Tries
+tries stalled gone = record { stalled = stalled; gone = gone }
 
 pub record Facts : Type 0 where
   pub settings : Settings
-  -- the moments of the last accepted step and of the wait's beginning
-  pub last : Moment
-  pub wait : Moment
-  -- the position to confirm, and whether a report has raised it since the wait began
-  pub applied : Lsn
-  pub signalled : Bool
-  -- the last status
+  pub clock : Clock
+  pub reports : Reports
   pub status : LastStatus
   pub drained : ℕ
   pub pending : Bool
-  -- the offered event: whether its stall has begun, and whether it is StoppedAt
-  pub stalled : Bool
-  pub stopped : Bool
+  pub tries : Tries
+  pub in-wait : Bool
+  pub metrics : Metrics
 
-abbrev facts : Settings → Moment → Moment → Lsn → Bool → LastStatus → ℕ → Bool → Bool → Bool → Facts
-facts settings last wait applied signalled status drained pending stalled stopped =
+abbrev facts : Settings → Clock → Reports → LastStatus → ℕ → Bool → Tries → Bool → Metrics → Facts
+facts settings clock reports status drained pending tries in-wait metrics =
     record {
       settings = settings;
-      last = last;
-      wait = wait;
-      applied = applied;
-      signalled = signalled;
+      clock = clock;
+      reports = reports;
       status = status;
       drained = drained;
       pending = pending;
-      stalled = stalled;
-      stopped = stopped;
+      tries = tries;
+      in-wait = in-wait;
+      metrics = metrics;
     }
+
+-- StoppedAt is the second event of its message
+abbrev pub gone-by : Bool → ℕ
+gone-by stopped = pick stopped 1 0
 
 -- as a run remembers them
 abbrev pub factsBy : Run → Facts
 factsBy r =
-    facts (r .settings) (r .clock .last) (r .clock .«wait_began») (r .progress .applied) (r .progress .signalled) (r .status) (r .drained) (r .pending)
-    (r .offer .stalled) (isStoppedAt (r .offer .event))
+    facts (r .settings) (r .clock) (told-by (r .progress))
+    (r .status) (r .drained) (r .pending) (tries (r .offer .stalled) (gone-by (isStoppedAt (r .offer .event)))) (r .whole .«in_wait») (r .metrics)
 
--- as the calls tell them; who unfolds it unfolds what they tell
-unfoldable pub factsOf : Settings → Lsn → List Past → Facts
-unfolding lastAccepted waitBegan sentAt confirmedOf sentPosition signalledOf hasSent drainedOf pendingOf fullBefore stoppedNext
-factsOf s start h =
-    facts s (lastAccepted h) (waitBegan h) (confirmedOf start h) (signalledOf start h) (lastStatus (hasSent h) (sentPosition start h) (sentAt h))
-    (drainedOf h) (pendingOf start h) (fullBefore h) (stoppedNext h)
+-- as the trace says; unfolding it unfolds each question that is asked of the trace
+unfoldable pub factsOf : Setup → Trace → Facts
+unfolding lastAccepted waitBegan stallBegan sentAt confirmedOf sentPosition pendingSince signalledOf hasSent drainedOf pendingOf readInWait fullBefore goneOf lastEnd events statuses replies stalls stall-micros
+factsOf s h =
+    facts (s .settings) (clock (lastAccepted h) (waitBegan h) (stallBegan h))
+    (reports (confirmedOf (s .start) h) (signalledOf (s .start) h) (pendingSince s h) (s .settings .timing))
+    (lastStatus (hasSent h) (sentPosition (s .start) h) (sentAt h)) (drainedOf h) (pendingOf (s .start) h) (tries (fullBefore h) (goneOf h))
+    (readInWait h)
+    (metrics (events h) (statuses h) (replies h) (stalls h) (stall-micros h) (sentPosition (s .start) h) (lastEnd s h))
 
-pub fresh-facts : (s : Settings) (state : State) (start : Lsn) → factsBy (freshRun s state start) ≡ factsOf s start []
+pub fresh-facts : (s : Setup) (state : State) → factsBy (freshRun (s .settings) state (s .start)) ≡ factsOf s []
 unfolding freshRun factsOf
-fresh-facts s state start = refl
+fresh-facts s state = refl
 
 -- ---- a report
 
--- the position rises with a signal, or nothing changes
-abbrev raised : Lsn → Facts → Facts
-raised p f =
-    facts (f .settings) (f .last) (f .wait) (pick (isBelow (f .applied) p) p (f .applied)) (pick (isBelow (f .applied) p) true (f .signalled)) (f .status)
-    (f .drained) (f .pending) (f .stalled) (f .stopped)
+-- the position rises with a signal and perhaps a pending moment, or nothing changes
+abbrev raised-by : Lsn → Moment → Reports → Reports
+raised-by p m c =
+    reports (pick (isBelow (c .applied) p) p (c .applied)) (pick (isBelow (c .applied) p) true (c .signalled))
+    (pick (both (c .timed) (both (isBelow (c .applied) p) (isNone (c .since)))) m (c .since)) (c .timed)
 
-raise-cell : (c : ProgressCell) (p : Lsn) (m : Moment)
-    → (raiseOf c p m .cell .applied ≡ pick (isBelow (c .applied) p) p (c .applied)) × (raiseOf c p m .cell .signalled ≡ pick (isBelow (c .applied) p) true (c .signalled))
+abbrev raised : Lsn → Moment → Facts → Facts
+raised p m f =
+    facts (f .settings) (f .clock) (raised-by p m (f .reports)) (f .status) (f .drained) (f .pending) (f .tries) (f .in-wait) (f .metrics)
+
+raise-cell : (c : ProgressCell) (p : Lsn) (m : Moment) → told-by (raiseOf c p m .cell) ≡ raised-by p m (told-by c)
 unfolding raiseOf
-raise-cell c p m = by-test (isBelow (c .applied) p) (λ e. (simp e, simp e)) (λ e. (simp e, simp e))
+raise-cell c p m = by (isBelow (cellPosition c) p) (cellTiming c) (isNone (cellPending c)) refl refl refl
+  where
+    by : (a b d : Bool) → isBelow (cellPosition c) p ≡ a → cellTiming c ≡ b → isNone (cellPending c) ≡ d
+        → told-by (raiseOf c p m .cell) ≡ raised-by p m (told-by c)
+    by true true true ea eb ed = simp (ea, eb, ed)
+    by true true false ea eb ed = simp (ea, eb, ed)
+    by true false d ea eb ed = simp (ea, eb)
+    by false true d ea eb ed = simp (ea, eb)
+    by false false d ea eb ed = simp (ea, eb)
 
-report-facts : (s : Settings) (start : Lsn) (h : List Past) (r : Run) (p : Lsn) (m : Moment) → factsBy r ≡ factsOf s start h
-    → factsBy (reportOf r p m) ≡ factsOf s start (a-report p ∷ h)
+report-facts : (s : Setup) (h : Trace) (r : Run) (p : Lsn) (m : Moment) → factsBy r ≡ factsOf s h
+    → factsBy (reportOf r p m) ≡ factsOf s (a-report p m ∷ h)
 unfolding reportOf factsOf
-report-facts s start h r p m e =
-    let c = raise-cell (r .progress) p m in
-    let a : factsBy (reportOf r p m) ≡ raised p (factsBy r) = rw (c .0, c .1) in
-    a ∙ ap (raised p) e
+report-facts s h r p m e =
+    let f : Facts = factsBy r in
+    ap (λ (c : Reports). facts (f .settings) (f .clock) c (f .status) (f .drained) (f .pending) (f .tries) (f .in-wait) (f .metrics))
+    (raise-cell (r .progress) p m)
+    ∙ ap (raised p m) e
 
 -- ---- a step refused with 2 to 5
 
-pub early-facts : (s : Settings) (start : Lsn) (h : List Past) (i : Input) (state : State) (n : ℕ) → isRefusedEarly n ≡ true
-    → factsOf s start (a-step i state state n 0 ∷ h) ≡ factsOf s start h
+pub early-facts : (s : Setup) (h : Trace) (i : Input) (state : State) (n : ℕ) → isRefusedEarly n ≡ true
+    → factsOf s (a-step i state (respond n nothing state []) ∷ h) ≡ factsOf s h
 unfolding factsOf
-early-facts s start h i Opening n e = simp e
-early-facts s start h i Turn n e = simp e
-early-facts s start h i Drain n e = simp e
-early-facts s start h i Reading n e = simp e
-early-facts s start h i Waiting n e = simp e
-early-facts s start h i Handling n e = simp e
-early-facts s start h i Offering n e = simp e
-early-facts s start h i Ended n e = simp e
+early-facts s h i Opening n e = simp e
+early-facts s h i Turn n e = simp e
+early-facts s h i Drain n e = simp e
+early-facts s h i Reading n e = simp e
+early-facts s h i Waiting n e = simp e
+early-facts s h i Handling n e = simp e
+early-facts s h i Offering n e = simp e
+early-facts s h i Ended n e = simp e
 
 -- ---- a status
 
--- the position is kept, and the signal
-pub status-cell : (b : Bool) (c : ProgressCell) (p : Lsn) (m : Moment)
-    → (pick b (reportedOf c p m .cell) c .applied ≡ c .applied) × (pick b (reportedOf c p m .cell) c .signalled ≡ c .signalled)
+-- whether it takes the pending moment
+abbrev pub takes : Facts → Bool
+takes f = both (f .reports .timed) (pick (f .status .sent) (isBelow (f .status .position) (f .reports .applied)) true)
+
+-- the position and the signal stay
+abbrev pub reported-by : Bool → Reports → Reports
+reported-by b c = reports (c .applied) (c .signalled) (pick b noMoment (c .since)) (c .timed)
+
+pub status-cell : (b : Bool) (c : ProgressCell) (m : Moment) → told-by (pick b (reportedOf c (cellPosition c) m .cell) c) ≡ reported-by b (told-by c)
 unfolding reportedOf
-status-cell true c p m = (refl, refl)
-status-cell false c p m = (refl, refl)
+status-cell true c m =
+    let e : isBelow (cellPosition c) (cellPosition c) ≡ false = le-ltb (cellPosition c .0) (cellPosition c .0) (omega arith) in simp e
+status-cell false c m = refl
 
 -- a status was sent now
 abbrev pub with-status : Moment → Facts → Facts
 with-status m f =
-    facts (f .settings) m (f .wait) (f .applied) (f .signalled) (lastStatus true (f .applied) m) (f .drained) (f .pending) (f .stalled) (f .stopped)
+    facts (f .settings) (clock m (f .clock .«wait_began») (f .clock .«stall_began»)) (reported-by (takes f) (f .reports))
+    (lastStatus true (f .reports .applied) m)
+    (f .drained) (f .pending) (f .tries) (f .in-wait) (withStatus (f .metrics) (f .reports .applied))
 
 pub confirmed-facts : (r : Run) (m : Moment) → factsBy (confirmed (accepted m r)) ≡ with-status m (factsBy r)
 confirmed-facts r m =
-    let c = status-cell (takesPending (accepted m r)) (r .progress) (r .progress .applied) m in
-    rw (c .0, c .1)
+    let f : Facts = with-status m (factsBy r) in
+    ap (λ (c : Reports). facts (f .settings) (f .clock) c (f .status) (f .drained) (f .pending) (f .tries) (f .in-wait) (f .metrics))
+    (status-cell (takesPending (accepted m r)) (r .progress) m)
 
 -- ---- what else a step changes
 
 -- a step was accepted
 abbrev pub at-moment : Moment → Facts → Facts
 at-moment m f =
-    facts (f .settings) m (f .wait) (f .applied) (f .signalled) (f .status) (f .drained) (f .pending) (f .stalled) (f .stopped)
+    facts (f .settings) (clock m (f .clock .«wait_began») (f .clock .«stall_began»)) (f .reports) (f .status) (f .drained) (f .pending) (f .tries)
+    (f .in-wait)
+    (f .metrics)
 
 -- so many are drained
 abbrev pub with-drained : ℕ → Facts → Facts
-with-drained d f =
-    facts (f .settings) (f .last) (f .wait) (f .applied) (f .signalled) (f .status) d (f .pending) (f .stalled) (f .stopped)
+with-drained d f = facts (f .settings) (f .clock) (f .reports) (f .status) d (f .pending) (f .tries) (f .in-wait) (f .metrics)
 
 -- the wait begins
 abbrev pub with-wait : Moment → Facts → Facts
 with-wait m f =
-    facts (f .settings) m m (f .applied) false (f .status) (f .drained) (pick (f .status .sent) (isBelow (f .status .position) (f .applied)) true)
-    (f .stalled) (f .stopped)
+    facts (f .settings) (clock m m (f .clock .«stall_began»)) (reports (f .reports .applied) false (f .reports .since) (f .reports .timed))
+    (f .status) (f .drained)
+    (pick (f .status .sent) (isBelow (f .status .position) (f .reports .applied)) true) (f .tries) (f .in-wait) (f .metrics)
 
--- an event is offered, at its first try or not, StoppedAt or not
-abbrev pub with-offer : Bool → Bool → Facts → Facts
-with-offer stalled stopped f =
-    facts (f .settings) (f .last) (f .wait) (f .applied) (f .signalled) (f .status) (f .drained) (f .pending) stalled stopped
+-- a message was read, in a wait or not
+abbrev pub with-read : Bool → Facts → Facts
+with-read b f = facts (f .settings) (f .clock) (f .reports) (f .status) (f .drained) (f .pending) (f .tries) b (f .metrics)
+
+-- an event is offered
+abbrev pub with-tries : Bool → ℕ → Facts → Facts
+with-tries stalled gone f =
+    facts (f .settings) (f .clock) (f .reports) (f .status) (f .drained) (f .pending) (tries stalled gone) (f .in-wait) (f .metrics)
+
+-- the message at hand told the server's end
+abbrev pub with-end : Lsn → Facts → Facts
+with-end v f = facts (f .settings) (f .clock) (f .reports) (f .status) (f .drained) (f .pending) (f .tries) (f .in-wait) (withEnd (f .metrics) v)
+
+-- a status answers a keepalive
+abbrev pub with-reply : Facts → Facts
+with-reply f = facts (f .settings) (f .clock) (f .reports) (f .status) (f .drained) (f .pending) (f .tries) (f .in-wait) (withReply (f .metrics))
+
+-- the events es were handed on; d: a stall ended
+abbrev pub passing : Bool → List Happened → Moment → Facts → Facts
+passing d es m f =
+    let c : Metrics = f .metrics in
+    facts (f .settings) (clock m (f .clock .«wait_began») (f .clock .«stall_began»)) (f .reports) (f .status) (f .drained) (f .pending) (f .tries)
+    (f .in-wait)
+    (metrics (counted es (c .«events_forwarded»)) (c .«feedback_sent») (c .«keepalive_replies») (c .«stall_count»)
+    (pick d (more (c .«stall_micros_total») (micros (sinceOf m (f .clock .«stall_began»)))) (c .«stall_micros_total»)) (c .«last_applied_lsn»)
+    (c .«last_wal_end»))
+
+-- the queue was full; g: a stall began
+abbrev pub stalling : Bool → Moment → Facts → Facts
+stalling g m f =
+    let c : Metrics = f .metrics in
+    facts (f .settings) (clock m (f .clock .«wait_began») (pick g m (f .clock .«stall_began»))) (f .reports) (f .status) (f .drained) (f .pending)
+    (tries true (f .tries .gone)) (f .in-wait)
+    (metrics (c .«events_forwarded») (c .«feedback_sent») (c .«keepalive_replies») (pick g (more (c .«stall_count») 1) (c .«stall_count»))
+    (c .«stall_micros_total»)
+    (c .«last_applied_lsn») (c .«last_wal_end»))
 
 -- ---- agreement, by state
 
--- until the run ends, what it remembers is what the calls tell; and where a message is read, fewer than 256 are drained
+-- until the run ends, what it remembers is what the trace says, then its counters are; and where a message is read, fewer than 256 are drained
 abbrev pub Agrees : State → Facts → Facts → Type 0
 Agrees Opening f g = f ≡ g
 Agrees Turn f g = f ≡ g
@@ -159,7 +284,7 @@ Agrees Reading f g = (f ≡ g) × (f .drained < 256)
 Agrees Waiting f g = f ≡ g
 Agrees Handling f g = f ≡ g
 Agrees Offering f g = f ≡ g
-Agrees Ended f g = Unit
+Agrees Ended f g = f .metrics ≡ g .metrics
 
 pub agree-now : (x : State) (f g : Facts) → isEnded x ≡ false → Agrees x f g → f ≡ g
 agree-now Opening f g e a = a
@@ -171,14 +296,24 @@ agree-now Handling f g e a = a
 agree-now Offering f g e a = a
 agree-now Ended f g e a = impossible cc
 
-pub report-agrees : (s : Settings) (start : Lsn) (h : List Past) (x : State) (r : Run) (p : Lsn) (m : Moment) → Agrees x (factsBy r) (factsOf s start h)
-    → Agrees x (factsBy (reportOf r p m)) (factsOf s start (a-report p ∷ h))
-unfolding reportOf
-report-agrees s start h Opening r p m a = report-facts s start h r p m a
-report-agrees s start h Turn r p m a = report-facts s start h r p m a
-report-agrees s start h Drain r p m a = report-facts s start h r p m a
-report-agrees s start h Reading r p m a = (report-facts s start h r p m (a .0), a .1)
-report-agrees s start h Waiting r p m a = report-facts s start h r p m a
-report-agrees s start h Handling r p m a = report-facts s start h r p m a
-report-agrees s start h Offering r p m a = report-facts s start h r p m a
-report-agrees s start h Ended r p m a = tt
+pub agree-metrics : (x : State) (f g : Facts) → Agrees x f g → f .metrics ≡ g .metrics
+agree-metrics Opening f g a = ap (λ (k : Facts). k .metrics) a
+agree-metrics Turn f g a = ap (λ (k : Facts). k .metrics) a
+agree-metrics Drain f g a = ap (λ (k : Facts). k .metrics) a
+agree-metrics Reading f g a = ap (λ (k : Facts). k .metrics) (a .0)
+agree-metrics Waiting f g a = ap (λ (k : Facts). k .metrics) a
+agree-metrics Handling f g a = ap (λ (k : Facts). k .metrics) a
+agree-metrics Offering f g a = ap (λ (k : Facts). k .metrics) a
+agree-metrics Ended f g a = a
+
+pub report-agrees : (s : Setup) (h : Trace) (x : State) (r : Run) (p : Lsn) (m : Moment) → Agrees x (factsBy r) (factsOf s h)
+    → Agrees x (factsBy (reportOf r p m)) (factsOf s (a-report p m ∷ h))
+unfolding reportOf factsOf
+report-agrees s h Opening r p m a = report-facts s h r p m a
+report-agrees s h Turn r p m a = report-facts s h r p m a
+report-agrees s h Drain r p m a = report-facts s h r p m a
+report-agrees s h Reading r p m a = (report-facts s h r p m (a .0), a .1)
+report-agrees s h Waiting r p m a = report-facts s h r p m a
+report-agrees s h Handling r p m a = report-facts s h r p m a
+report-agrees s h Offering r p m a = report-facts s h r p m a
+report-agrees s h Ended r p m a = a

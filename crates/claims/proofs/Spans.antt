@@ -33,7 +33,7 @@ unfolding itemsOf wholeOnes
 whole-items [] = refl
 whole-items (m ∷ ms) = ap (λ (ns : List Msg). m ∷ ns) (whole-items ms)
 
--- a bad length behind them gives none
+-- a bad length after them gives none
 pub whole-bad : (ms : List Msg) → wholeOnes (itemsOf ms ++ (bad ∷ [])) ≡ ms
 unfolding itemsOf wholeOnes
 whole-bad [] = refl
@@ -56,7 +56,8 @@ unfolding spans itemsOf spanOf
 spans-items [] = refl
 spans-items (m ∷ ms) = let h = spans-items ms in omega arith
 
-span-by : (limit : ℕ) (s : List ℕ) (f : Front) (go : ℕ → Cut) → Shows limit s f → ((k : ℕ) → length (drop k s) ≡ spans (go k .items) + length (go k .rest))
+span-by : (limit : ℕ) (s : List ℕ) (f : Front) (go : ℕ → Cut) → Shows limit s f
+    → ((k : ℕ) → length (drop k s) ≡ spans (go k .items) + length (go k .rest))
     → length s ≡ spans (cutBy s f go .items) + length (cutBy s f go .rest)
 unfolding spans
 span-by limit s in-header go w h = omega arith

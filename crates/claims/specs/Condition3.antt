@@ -1,15 +1,27 @@
--- Condition 3, whole: one claim about every list of calls, in four parts. Each part's statement stands in the file named beside it.
+-- Condition 3, whole: one claim about every list of calls, in eight parts. Each part's statement stands in the file named beside it. SCOPE 8; 01,
+-- "Events and confirmations".
+use Rattle.claims.specs.Beginnings.{Beginnings-answer}
 use Rattle.claims.specs.Confirms.{Confirms-largest}
-use Rattle.claims.specs.Table.{Calls-as-told}
+use Rattle.claims.specs.Failed.{Error-shown}
+use Rattle.claims.specs.Refused.{Refused-leaves}
+use Rattle.claims.specs.Traced.{Calls-traced}
+use Rattle.claims.specs.Counters.{Counters-traced}
 use Rattle.claims.specs.HandsOn.{Hands-on, Events-begin}
 
 pub record Condition-3 : Type 0 where
-  -- Confirms: "In every such list each status update confirms the largest of the start and the positions reported before it", whatever each
-  -- step is lent
+  -- Beginnings: `open` and `already_open` refuse, write and answer by their arguments; each part below is about a run that they made
+  pub beginnings : Beginnings-answer
+  -- Confirms: each status confirms the largest of the start and the positions reported before it, whatever each step is lent
   pub confirms : Confirms-largest
-  -- Table: with the payload buffer and the untaken server bytes handed on, "each call refuses, takes and writes as document 01 says"
-  pub answers : Calls-as-told
+  -- Traced: with the payload buffer and the untaken server bytes handed on, each call answers as the step table says of the calls before it
+  pub answers : Calls-traced
+  -- Refused: a step refused with 2 to 5 leaves the run as it was
+  pub refused : Refused-leaves
+  -- Failed: after 19 the run shows the server's error, the payload of the last whole message
+  pub error : Error-shown
+  -- Counters: the numbers of `metrics` are those that the calls and the server's bytes give
+  pub counters : Counters-traced
   -- HandsOn: if no queue closes, the events handed on are exactly the plain reading
   pub events : Hands-on
-  -- HandsOn: two lists over the same server bytes, stop position and limit: "the events of one begin the other's"
+  -- HandsOn: of two lists over the same server bytes, stop position and limit, the events of one begin the other's
   pub begins : Events-begin

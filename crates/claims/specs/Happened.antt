@@ -1,11 +1,11 @@
--- Events as document 01 compares them: "by kind, numbers and the bytes their parts name at handing on". Plain gives them, Calls collects them.
-use Prim.Native.Nat.{ℕ}
+-- Two events are the same where kind and numbers are, and the bytes that their parts name in the payload buffer at that time. Plain gives events,
+-- Calls collects them. SCOPE 5.6; 01, "Events and confirmations".
+use Prim.Native.Nat.{ℕ, _+_, _≤_}
 use mathlib.Core.Bool.{Bool}
 use mathlib.Core.List.{List, [], _∷_}
 use lib.IntN.{ℤ}
 use Rattle.wire.specs.Bytes.{at}
-use Rattle.worker.specs.declared.Event.{Event}
-use Rattle.worker.specs.declared.Event.the-variants.{Nothing, KeepAlive, Begin, Commit, Message, XLogData, StoppedAt}
+use Rattle.worker.specs.Events as E
 
 pub data Happened : Type 0 where
   keepAlive : ℕ → ℤ → Bool → Happened
@@ -15,12 +15,22 @@ pub data Happened : Type 0 where
   xlogData : ℕ → ℕ → ℤ → List ℕ → Happened
   stoppedAt : ℕ → Happened
 
--- an event of a step, with the bytes that its parts name in the payload buffer
-abbrev pub happenedBy : Event → List ℕ → List Happened
-happenedBy Nothing p = []
-happenedBy (KeepAlive end time reply) p = keepAlive (end .0) time reply ∷ []
-happenedBy (Begin final time xid) p = begin (final .0) time xid ∷ []
-happenedBy (Commit position end time) p = commit (position .0) (end .0) time ∷ []
-happenedBy (Message flag position pf pl cf cl) p = message flag (position .0) (at p pf pl) (at p cf cl) ∷ []
-happenedBy (XLogData start end time from len) p = xlogData (start .0) (end .0) time (at p from len) ∷ []
-happenedBy (StoppedAt reached) p = stoppedAt (reached .0) ∷ []
+-- what a step hands on, with the bytes that its parts name in the payload buffer
+abbrev pub happenedOf : E.Said → List ℕ → List Happened
+happenedOf E.nothing p = []
+happenedOf (E.keepAlive end time reply) p = keepAlive end time reply ∷ []
+happenedOf (E.begin final time xid) p = begin final time xid ∷ []
+happenedOf (E.commit position end time) p = commit position end time ∷ []
+happenedOf (E.message flag position pf pl cf cl) p = message flag position (at p pf pl) (at p cf cl) ∷ []
+happenedOf (E.xlogData start end time from len) p = xlogData start end time (at p from len) ∷ []
+happenedOf (E.stoppedAt reached) p = stoppedAt reached ∷ []
+
+-- the parts that it names lie within the first n bytes
+abbrev pub Parts : E.Said → ℕ → Type 0
+Parts E.nothing n = Unit
+Parts (E.keepAlive end time reply) n = Unit
+Parts (E.begin final time xid) n = Unit
+Parts (E.commit position end time) n = Unit
+Parts (E.message flag position pf pl cf cl) n = (pf + pl ≤ n) × (cf + cl ≤ n)
+Parts (E.xlogData start end time from len) n = from + len ≤ n
+Parts (E.stoppedAt reached) n = Unit

@@ -1,6 +1,7 @@
--- The plain reading: document 01, "Its plain reading is fed the settings, whether the run began in Opening or already open, the server bytes
--- and each step's stop and queue, with the refusal and taken count that this document gives the step." It knows no run and no reader.
--- HandsOn holds the events handed on against it.
+-- The plain reading: which events a stream of server bytes gives, and which of them the steps hand on. Its inputs are the stop position and the
+-- limit, how the run began, the bytes, and what is observed of each step: its stop request, the queue, and how the step table refused it or how
+-- many bytes it took (Trace). It knows no run and no reader. HandsOn holds the events handed on against it. SCOPE 8.4, 8.5; 01, "Events and
+-- confirmations".
 use Prim.Native.Nat.{ℕ, _+_, _-_}
 use mathlib.Core.Bool.{Bool, true, false}
 use mathlib.Core.List.{List, [], _∷_, _++_}
@@ -25,8 +26,8 @@ pub record Bounds : Type 0 where
   pub stop : Option ℕ
   pub limit : ℕ
 
--- of a step
-pub record Told : Type 0 where
+-- what the plain reading observes of a step
+pub record Observation : Type 0 where
   pub stop : Bool
   pub queue : Queue
   pub refusal : ℕ
@@ -41,12 +42,12 @@ pub record Gives : Type 0 where
 abbrev pub gives : List Happened → Bool → Gives
 gives es ends = record { events = es; ends = ends }
 
--- "Where the stop position is reached, StoppedAt follows, then the end"
+-- an event that reaches the stop position is followed by StoppedAt, and the reading ends
 abbrev pub reaching : Option ℕ → ℕ → Happened → Gives
 reaching none position e = gives (e ∷ []) false
 reaching (some stop) position e = pick (leb stop position) (gives (e ∷ H.stoppedAt position ∷ []) true) (gives (e ∷ []) false)
 
--- the data of a `w` with its start, end and time: "no boundary: other data"
+-- the data of a `w` with its start, end and time; what is no boundary is other data
 abbrev pub dataGives : Option ℕ → ℕ → ℕ → ℤ → List ℕ → B.Said → Gives
 dataGives stop start end time bytes (B.begin final at-time xid) = reaching stop final (H.begin final at-time xid)
 dataGives stop start end time bytes (B.commit position commit-end at-time) = reaching stop commit-end (H.commit position commit-end at-time)
@@ -55,14 +56,14 @@ dataGives stop start end time bytes (B.message flag position pf pl cf cl) =
 dataGives stop start end time bytes B.no-boundary = reaching stop end (H.xlogData start end time bytes)
 dataGives stop start end time bytes (B.refused n) = gives [] true
 
--- "Keepalives never stop"
+-- a keepalive stops nothing
 abbrev pub payloadGives : Option ℕ → List ℕ → C.Said → Gives
 payloadGives stop payload (C.w start end time from len) =
     dataGives stop start end time (at payload from len) (boundaryOf (at payload from len))
 payloadGives stop payload (C.k end time reply) = gives (H.keepAlive end time reply ∷ []) false
 payloadGives stop payload (C.refused n) = gives [] true
 
--- "or an `E`, ends the reading. Else only a `d` gives events"
+-- an `E` ends the reading; of other messages only a `d` gives events
 abbrev pub messageGives : Option ℕ → ℕ → List ℕ → Gives
 messageGives stop tag payload =
     pick (isError tag) (gives [] true)
@@ -75,24 +76,24 @@ messageGives stop tag payload =
 abbrev pub Msg : Type 0
 Msg = ℕ × List ℕ
 
--- whole messages before a length below 4: "A message unfinished or refused with 6 or 7 .. ends the reading"
+-- the whole messages before a length below 4; after a message that is unfinished or over the limit the cut has no more
 unfoldable pub wholeOnes : List Item → List Msg
 wholeOnes [] = []
 wholeOnes (refused ∷ is) = []
 wholeOnes (message tag payload ∷ is) = (tag, payload) ∷ wholeOnes is
 
--- "In Opening, those up to the first `W` give nothing", an `E` ends the reading
-unfoldable pub behindOpening : List Msg → List Msg
-behindOpening [] = []
-behindOpening (m ∷ ms) = pick (isCopyBothResponse (m .0)) ms (pick (isError (m .0)) [] (behindOpening ms))
+-- the messages after the first `W`, for a run that began in Opening; an `E` before it ends the reading
+unfoldable pub afterOpening : List Msg → List Msg
+afterOpening [] = []
+afterOpening (m ∷ ms) = pick (isCopyBothResponse (m .0)) ms (pick (isError (m .0)) [] (afterOpening ms))
 
--- what the messages give, one behind the other, until one ends the reading
+-- what the messages give, one after the other, until one ends the reading
 unfoldable pub given : Option ℕ → List Msg → List Happened
 given stop [] = []
 given stop (m ∷ ms) = let g : Gives = messageGives stop (m .0) (m .1) in g .events ++ pick (g .ends) [] (given stop ms)
 
 abbrev pub eventsOf : Option ℕ → Bool → List Msg → List Happened
-eventsOf stop opening ms = given stop (pick opening (behindOpening ms) ms)
+eventsOf stop opening ms = given stop (pick opening (afterOpening ms) ms)
 
 -- ---- the last whole message
 
@@ -101,17 +102,17 @@ unfoldable pub spanOf : List Msg → ℕ
 spanOf [] = 0
 spanOf (m ∷ ms) = 5 + length (m .1) + spanOf ms
 
--- the steps behind the one that took the n-th byte
-unfoldable pub behindByte : ℕ → List Told → List Told
-behindByte n [] = []
-behindByte n (t ∷ ts) = pick (leb n (t .taken)) ts (behindByte (n - t .taken) ts)
+-- the steps after the one that took the n-th byte
+unfoldable pub afterByte : ℕ → List Observation → List Observation
+afterByte n [] = []
+afterByte n (t ∷ ts) = pick (leb n (t .taken)) ts (afterByte (n - t .taken) ts)
 
--- "refused with 2 to 5"
+-- a refusal with 2 to 5
 abbrev pub isRefusedEarly : ℕ → Bool
 isRefusedEarly n = pick (ltb n 2) false (leb n 5)
 
 -- the steps that are not
-unfoldable pub acceptedOnes : List Told → List Told
+unfoldable pub acceptedOnes : List Observation → List Observation
 acceptedOnes [] = []
 acceptedOnes (t ∷ ts) = pick (isRefusedEarly (t .refusal)) (acceptedOnes ts) (t ∷ acceptedOnes ts)
 
@@ -124,13 +125,13 @@ byQueue Closed a b c = c
 abbrev pub isFull : Queue → Bool
 isFull q = byQueue q false true false
 
--- "with stop seen now, and the queue full now or at an earlier offer of it"
-abbrev pub isCutOff : Told → Bool → Bool
+-- stop is seen now, and the queue is full now or was at an earlier offer of the event
+abbrev pub isCutOff : Observation → Bool → Bool
 isCutOff t full = pick (t .stop) (pick (isFull (t .queue)) true full) false
 
--- events offered step by step; whether the queue was full at an earlier offer of the first. "A free queue takes it; but .. it is dropped and
--- the rest cut off. Else it waits." A closed queue, which condition 3 leaves out, loses it
-unfoldable pub offered : List Happened → Bool → List Told → List Happened
+-- events offered step by step; whether the queue was full at an earlier offer of the first. An event that is cut off ends the list; else a free
+-- queue takes it, a full one lets it wait, and a closed one, which condition 3 leaves out, loses it
+unfoldable pub offered : List Happened → Bool → List Observation → List Happened
 offered es full [] = []
 offered [] full (t ∷ ts) = []
 offered (e ∷ es) full (t ∷ ts) =
@@ -140,14 +141,15 @@ offered (e ∷ es) full (t ∷ ts) =
 -- ---- the reading
 
 -- the sum of the taken counts
-unfoldable pub takenOf : List Told → ℕ
+unfoldable pub takenOf : List Observation → ℕ
 takenOf [] = 0
 takenOf (t ∷ ts) = t .taken + takenOf ts
 
--- "All are handed on, save some of the last whole message's": the first accepted step behind it handles it, each later one offers
-unfoldable pub plainOf : Bounds → Bool → List ℕ → List Told → List Happened
+-- all events but the last whole message's are handed on; of its own, those that the accepted steps since its last byte offer, of which the
+-- first handles the message
+unfoldable pub plainOf : Bounds → Bool → List ℕ → List Observation → List Happened
 plainOf b opening bytes ts =
     let ms : List Msg = wholeOnes (cutOf (b .limit) (take (takenOf ts) bytes) .items) in
     let before : List Happened = eventsOf (b .stop) opening (take (length ms - 1) ms) in
     let last : List Happened = drop (length before) (eventsOf (b .stop) opening ms) in
-    before ++ offered last false (drop 1 (acceptedOnes (behindByte (spanOf ms) ts)))
+    before ++ offered last false (drop 1 (acceptedOnes (afterByte (spanOf ms) ts)))

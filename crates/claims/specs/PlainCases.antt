@@ -14,33 +14,33 @@ use Rattle.worker.specs.declared.Queue.{Queue}
 use Rattle.worker.specs.declared.Queue.the-variants.{Free, Full}
 use Rattle.claims.specs.Happened.{Happened}
 use Rattle.claims.specs.Happened as H
-use Rattle.claims.specs.Plain.{Told, plainOf}
+use Rattle.claims.specs.Plain.{Observation, plainOf}
 use Rattle.claims.specs.RunCases.{keepAliveBytes, beginAt, commitAt, computed}
 
 -- ---- steps
 
 -- takes so many bytes
-abbrev pub takes : ℕ → Told
+abbrev pub takes : ℕ → Observation
 takes n = record { stop = false; queue = Free; refusal = 0; taken = n }
 
 -- takes none, with stop seen or not and a queue
-abbrev pub meets : Bool → Queue → Told
+abbrev pub meets : Bool → Queue → Observation
 meets stop queue = record { stop = stop; queue = queue; refusal = 0; taken = 0 }
 
 -- is refused with a number
-abbrev pub isRefused : ℕ → Told
+abbrev pub isRefused : ℕ → Observation
 isRefused n = record { stop = false; queue = Free; refusal = n; taken = 0 }
 
-abbrev pub free : Told
+abbrev pub free : Observation
 free = meets false Free
 
-abbrev pub full : Told
+abbrev pub full : Observation
 full = meets false Full
 
-abbrev pub free-stop : Told
+abbrev pub free-stop : Observation
 free-stop = meets true Free
 
-abbrev pub full-stop : Told
+abbrev pub full-stop : Observation
 full-stop = meets true Full
 
 -- ---- messages: a Begin has 51 bytes on the wire
@@ -56,10 +56,10 @@ empty tag = framed tag []
 -- ---- readings
 
 -- with a limit of 64
-abbrev pub reading : Option ℕ → Bool → List ℕ → List Told → List Happened
+abbrev pub reading : Option ℕ → Bool → List ℕ → List Observation → List Happened
 reading stop opening bytes ts = plainOf (record { stop = stop; limit = 64 }) opening bytes ts
 
--- already open, no stop position, all bytes taken by one step, and steps enough for two events behind it
+-- already open, no stop position, all bytes taken by one step, and steps enough for two events after it
 abbrev pub all : List ℕ → List Happened
 all bytes = reading none false bytes (takes 1000 ∷ free ∷ free ∷ free ∷ [])
 
@@ -68,50 +68,50 @@ abbrev pub begun : ℕ → Happened
 begun final = H.begin final (pos 0) 7
 
 pub record PlainCases : Type 0 where
-  -- "The first server bytes, as many as the counts add up to, are cut into messages"
+  -- as many of the first bytes are cut into messages as the taken counts add up to
   pub counts-add-up : reading none false (beginAt 1 ++ beginAt 2) (takes 20 ∷ takes 31 ∷ free ∷ free ∷ []) ≡ begun 1 ∷ []
   pub next-bytes : reading none false (beginAt 1 ++ beginAt 2) (takes 20 ∷ takes 31 ∷ takes 51 ∷ free ∷ free ∷ []) ≡ begun 1 ∷ begun 2 ∷ []
-  -- "In Opening, those up to the first `W` give nothing"
-  pub behind-opening :
+  -- a run that began in Opening has no events before the first `W`
+  pub after-opening :
       reading none true (keepAliveBytes ++ (empty 0x57 ++ (beginAt 1 ++ keepAliveBytes))) (takes 1000 ∷ free ∷ free ∷ [])
       ≡ begun 1 ∷ H.keepAlive 0x10 (pos 0) false ∷ []
   pub never-opened : reading none true (keepAliveBytes ++ beginAt 1) (takes 1000 ∷ free ∷ free ∷ []) ≡ []
   pub error-in-opening : reading none true (empty 0x45 ++ (empty 0x57 ++ beginAt 1)) (takes 1000 ∷ free ∷ free ∷ []) ≡ []
-  -- "A message unfinished or refused with 6 or 7, or an `E`, ends the reading"
+  -- an unfinished message, one that its header refuses, and an `E` end the reading
   pub unfinished : all (beginAt 1 ++ take 50 (beginAt 2)) ≡ begun 1 ∷ []
   pub length-three : all (beginAt 1 ++ (0x64 ∷ 0 ∷ 0 ∷ 0 ∷ 3 ∷ beginAt 2)) ≡ begun 1 ∷ []
   pub over-the-limit : all (beginAt 1 ++ (framed 0x64 (replicate 65 0) ++ beginAt 2)) ≡ begun 1 ∷ []
   pub server-error : all (beginAt 1 ++ (empty 0x45 ++ beginAt 2)) ≡ begun 1 ∷ []
-  -- "Else only a `d` gives events"
+  -- of other messages only a `d` gives events
   pub others-skipped : all (empty 0x4E ++ (beginAt 1 ++ (empty 0x57 ++ beginAt 2))) ≡ begun 1 ∷ begun 2 ∷ []
-  -- "one by the CopyData and boundary rules (no boundary: other data)"
+  -- a `d` gives one event by the rules of CopyData and boundaries; what is no boundary is other data
   pub a-commit : all (commitAt 0x200 0x50) ≡ H.commit 0x200 0x50 (pos 0) ∷ []
   pub a-message :
       all (framed 0x64 (xlogData 0 0 (pos 0) (messageBytes 1 5 (0x61 ∷ []) (0x62 ∷ 0x63 ∷ [])))) ≡ H.message true 5 (0x61 ∷ []) (0x62 ∷ 0x63 ∷ []) ∷ []
   pub other-data : all (insertAt 2) ≡ H.xlogData 1 2 (pos 3) (0x49 ∷ 0 ∷ []) ∷ []
-  -- "or, refused with 10 to 18, none, and the reading ends": an empty CopyData (10), a Begin of its letter alone (16)
+  -- a `d` that is refused ends the reading without an event: an empty CopyData (10), a Begin of its letter alone (16)
   pub copy-data-refused : all (beginAt 1 ++ (empty 0x64 ++ beginAt 2)) ≡ begun 1 ∷ []
   pub boundary-refused : all (beginAt 1 ++ (framed 0x64 (xlogData 0 0 (pos 0) (66 ∷ [])) ++ beginAt 2)) ≡ begun 1 ∷ []
-  -- "Where the stop position is reached, StoppedAt follows, then the end"
+  -- StoppedAt follows the event that reaches the stop position, and ends the reading
   pub stop-reached :
       reading (some 2) false (beginAt 1 ++ (insertAt 2 ++ beginAt 3)) (takes 1000 ∷ free ∷ free ∷ free ∷ [])
       ≡ begun 1 ∷ H.xlogData 1 2 (pos 3) (0x49 ∷ 0 ∷ []) ∷ H.stoppedAt 2 ∷ []
   pub keepalive-goes-on :
       reading (some 0x10) false (keepAliveBytes ++ beginAt 1) (takes 1000 ∷ free ∷ free ∷ []) ≡ H.keepAlive 0x10 (pos 0) false ∷ begun 1 ∷ []
-  -- "All are handed on, save some of the last whole message's"
+  -- events of messages before the last whole one are all handed on
   pub all-but-the-last : reading none false (beginAt 1 ++ beginAt 2) (takes 51 ∷ takes 51 ∷ []) ≡ begun 1 ∷ []
-  -- "after the step that took its last byte, the first step not refused with 2 to 5 handles it, and each later one offers its next event"
+  -- of the accepted steps since its last byte, the first handles the message, each later one offers an event
   pub not-handled : reading none false (beginAt 1) (takes 51 ∷ []) ≡ []
   pub not-offered : reading none false (beginAt 1) (takes 51 ∷ free ∷ []) ≡ []
   pub offered-then : reading none false (beginAt 1) (takes 51 ∷ free ∷ free ∷ []) ≡ begun 1 ∷ []
   pub refused-do-neither : reading none false (beginAt 1) (takes 51 ∷ isRefused 5 ∷ free ∷ isRefused 2 ∷ isRefused 3 ∷ isRefused 4 ∷ []) ≡ []
-  -- "A free queue takes it"
+  -- a free queue takes an event
   pub taken-at-once : reading none false (beginAt 1) (takes 51 ∷ full-stop ∷ free-stop ∷ []) ≡ begun 1 ∷ []
-  -- "but with stop seen now, and the queue full now or at an earlier offer of it, it is dropped and the rest cut off"
+  -- a stop request cuts an event and the rest off, where the queue is full now or was before
   pub dropped-now : reading none false (beginAt 1) (takes 51 ∷ free ∷ full-stop ∷ free ∷ []) ≡ []
   pub dropped-later : reading none false (beginAt 1) (takes 51 ∷ free ∷ full ∷ free-stop ∷ free ∷ []) ≡ []
   pub rest-cut-off : reading (some 1) false (beginAt 1) (takes 51 ∷ free ∷ free ∷ full-stop ∷ free ∷ []) ≡ begun 1 ∷ []
-  -- "Else it waits"
+  -- else an event waits
   pub still-waits : reading none false (beginAt 1) (takes 51 ∷ free ∷ full ∷ full ∷ []) ≡ []
   pub waited : reading none false (beginAt 1) (takes 51 ∷ free ∷ full ∷ full ∷ free ∷ []) ≡ begun 1 ∷ []
 
@@ -122,7 +122,7 @@ plain-cases =
     record {
       counts-add-up = refl;
       next-bytes = refl;
-      behind-opening = refl;
+      after-opening = refl;
       never-opened = refl;
       error-in-opening = refl;
       unfinished = refl;

@@ -1,4 +1,4 @@
--- Document 01's run cases, computed of the definitions: what the steps hand on, and that the plain reading gives the same.
+-- 01's run cases, computed of the definitions: what the steps hand on, and that the plain reading gives the same. SCOPE 11.2.
 use mathlib.Core.Path.{_≡_, refl}
 use mathlib.Core.Bool.{Bool, true, false}
 use mathlib.Core.List.{List, [], _∷_, _++_}
@@ -17,10 +17,13 @@ use Rattle.progress.specs.Progress.{raiseOf, lookedOf, reportedOf}
 use Rattle.worker.specs.declared.Settings.{Settings}
 use Rattle.worker.specs.declared.Queue.the-variants.{Free}
 use Rattle.worker.specs.Run.{lsn, freshRun}
-use Rattle.worker.specs.Step.{statusOf, openingOf, turnOf, drainOf, readingOf, waitingOf, handlingOf, stalledOf, offeringOf, stateOf, stepOf, isEnded}
+use Rattle.worker.specs.Step.{statusOf, openingOf, turnOf, drainOf, readingOf, waitingOf, handlingOf, stalledOf, offeringOf, stateOf, stepOf}
+use Rattle.worker.specs.Opening.{alreadyOpenOf}
+use Rattle.claims.specs.Tests.{isEnded}
 use Rattle.claims.specs.Happened as H
-use Rattle.claims.specs.Plain.{Told, wholeOnes, behindOpening, given, spanOf, behindByte, acceptedOnes, offered, takenOf, plainOf}
-use Rattle.claims.specs.Calls.{Call, step, Played, playAll, played, boundsOf}
+use Rattle.claims.specs.Plain.{Observation, wholeOnes, afterOpening, given, spanOf, afterByte, acceptedOnes, offered, takenOf, plainOf}
+use Rattle.claims.specs.Trace.{boundsOf}
+use Rattle.claims.specs.Calls.{Call, step, Played, playAll, played, is-open}
 
 -- an hour's status interval, a limit of 64 bytes, and a stop position or none
 abbrev pub settings : Bool → ℕ → Settings
@@ -43,14 +46,14 @@ onwardWith stop n ended = step (record { moment = record { 0 = 1 }; «client_tim
 abbrev pub onward : Bool → Call
 onward ended = onwardWith false 1000 ended
 
--- n of them behind one another
+-- n of them, one after the other
 unfoldable pub steps : ℕ → Bool → List Call
 steps zero ended = []
 steps (suc n) ended = onward ended ∷ steps n ended
 
 -- a run that was already open, n steps on
 abbrev pub after : Settings → List ℕ → ℕ → Bool → Played
-after s bytes n ended = played s false (lsn 0) bytes (replicate 64 0) (steps n ended)
+after s bytes n ended = played s (is-open (lsn 0)) bytes (replicate 64 0) (steps n ended)
 
 -- 64 00 00 00 16 6B, seven zero bytes, 10, nine zero bytes
 abbrev pub keepAliveBytes : List ℕ
@@ -65,25 +68,25 @@ abbrev pub commitAt : ℕ → ℕ → List ℕ
 commitAt position end = framed 0x64 (xlogData 0 0 (pos 0) (commitBytes 0 position end (pos 0)))
 
 -- the numbers that the steps were refused with
-unfoldable pub refusals : List Told → List ℕ
+unfoldable pub refusals : List Observation → List ℕ
 refusals [] = []
 refusals (t ∷ ts) = t .refusal ∷ refusals ts
 
 -- stop seen from the first step on, two messages unread
 abbrev pub stopping : Played
-stopping = played (settings false 0) false (lsn 0) (beginAt 1 ++ beginAt 2) (replicate 64 0) (replicate 10 (onwardWith true 1000 false))
+stopping = played (settings false 0) (is-open (lsn 0)) (beginAt 1 ++ beginAt 2) (replicate 64 0) (replicate 10 (onwardWith true 1000 false))
 
 -- intervals of 0: a wait that took three bytes of a header is broken off at once
 abbrev pub broken : Played
 broken =
     played (record { «status_interval» = 0; «idle_wakeup_interval» = 0; «max_message_size» = 64; «has_stop» = false; «stop_at_lsn» = lsn 0; timing = false; binary = false })
-    false (lsn 0) (beginAt 1) (replicate 64 0)
+    (is-open (lsn 0)) (beginAt 1) (replicate 64 0)
     (onward false ∷ onwardWith false 3 false ∷ onwardWith false 3 false ∷ steps 5 false)
 
 pub record RunCases : Type 0 where
   -- the program's case: `K 0/10 0 0`, then `END 8`
   pub keepalive-then-end : after (settings false 0) keepAliveBytes 9 true .events ≡ H.keepAlive 0x10 (pos 0) false ∷ []
-  pub ends-with-eight : refusals (after (settings false 0) keepAliveBytes 9 true .told) ≡ 0 ∷ 0 ∷ 0 ∷ 0 ∷ 0 ∷ 0 ∷ 0 ∷ 0 ∷ 8 ∷ []
+  pub ends-with-eight : refusals (after (settings false 0) keepAliveBytes 9 true .observed) ≡ 0 ∷ 0 ∷ 0 ∷ 0 ∷ 0 ∷ 0 ∷ 0 ∷ 0 ∷ 8 ∷ []
   -- Stop 0x100: Begin 0xFF goes on
   pub begin-goes-on : after (settings true 0x100) (beginAt 0xFF) 7 false .events ≡ H.begin 0xFF (pos 0) 7 ∷ []
   pub still-running : isEnded (after (settings true 0x100) (beginAt 0xFF) 7 false .run .state) ≡ false
@@ -92,36 +95,36 @@ pub record RunCases : Type 0 where
   pub ended : isEnded (after (settings true 0x100) (beginAt 0x100) 6 false .run .state) ≡ true
   -- the plain reading of the same
   pub keepalive-read :
-      plainOf (boundsOf (settings false 0)) false keepAliveBytes (after (settings false 0) keepAliveBytes 9 true .told) ≡ H.keepAlive 0x10 (pos 0) false ∷ []
+      plainOf (boundsOf (settings false 0)) false keepAliveBytes (after (settings false 0) keepAliveBytes 9 true .observed) ≡ H.keepAlive 0x10 (pos 0) false ∷ []
   pub begin-read :
-      plainOf (boundsOf (settings true 0x100)) false (beginAt 0x100) (after (settings true 0x100) (beginAt 0x100) 6 false .told)
+      plainOf (boundsOf (settings true 0x100)) false (beginAt 0x100) (after (settings true 0x100) (beginAt 0x100) 6 false .observed)
       ≡ H.begin 0x100 (pos 0) 7 ∷ H.stoppedAt 0x100 ∷ []
   -- .. and before StoppedAt was offered
   pub begin-read-early :
-      plainOf (boundsOf (settings true 0x100)) false (beginAt 0x100) (after (settings true 0x100) (beginAt 0x100) 5 false .told)
+      plainOf (boundsOf (settings true 0x100)) false (beginAt 0x100) (after (settings true 0x100) (beginAt 0x100) 5 false .observed)
       ≡ H.begin 0x100 (pos 0) 7 ∷ []
 
--- document 01's wrong turns, each with a run that would show it
+-- 01's wrong turns (SCOPE 11.3), each with a run that would show it
 pub record WrongTurns : Type 0 where
-  -- "Commit's first position used for stopping"
+  -- a Commit stops by its end, not by its first position
   pub commit-goes-on : after (settings true 0x100) (commitAt 0x200 0x50) 6 false .events ≡ H.commit 0x200 0x50 (pos 0) ∷ []
   pub commit-read :
-      plainOf (boundsOf (settings true 0x100)) false (commitAt 0x200 0x50) (after (settings true 0x100) (commitAt 0x200 0x50) 6 false .told)
+      plainOf (boundsOf (settings true 0x100)) false (commitAt 0x200 0x50) (after (settings true 0x100) (commitAt 0x200 0x50) 6 false .observed)
       ≡ H.commit 0x200 0x50 (pos 0) ∷ []
-  -- "reply byte 0 answering a keepalive"
+  -- a keepalive that asks for a reply gets reply byte 1
   pub reply-is-asked :
       after (settings false 0) (framed 0x64 (keepAlive 0x10 (pos 0) 1)) 5 false .written
       ≡ statusUpdate 0 (pos 0) false ∷ [] ∷ [] ∷ statusUpdate 0 (pos 0) true ∷ [] ∷ []
-  -- "acting on stop between two messages of a drain"
+  -- a stop request is not looked at between two messages of a drain
   pub drained-before-stop : stopping .events ≡ H.begin 1 (pos 0) 7 ∷ H.begin 2 (pos 0) 7 ∷ []
   pub then-stopped : stopping .written ≡ statusUpdate 0 (pos 0) false ∷ (replicate 8 [] ++ (copyDone ∷ []))
-  -- "clearing a part-read header when a wait is broken off"
+  -- a header that is part read stays when a wait is broken off
   pub header-kept : broken .events ≡ H.begin 1 (pos 0) 7 ∷ []
   pub wait-broken : broken .written ≡ statusUpdate 0 (pos 0) false ∷ [] ∷ statusUpdate 0 (pos 0) false ∷ statusUpdate 0 (pos 0) false ∷ replicate 4 []
 
 -- all that the cases compute
 unfoldable pub computed : Unit {0}
-unfolding be beFrom beBytes put fieldAt signed unsigned framed frontOf cutFrom cutOf payloadOf judgedOf headerOf readOf copyData copyDone statusBody statusUpdate copyDataOf xlogData keepAlive boundaryOf beginBytes raiseOf lookedOf reportedOf freshRun statusOf openingOf turnOf drainOf readingOf waitingOf handlingOf stalledOf offeringOf stateOf stepOf wholeOnes behindOpening given spanOf behindByte acceptedOnes offered takenOf plainOf playAll played steps refusals commitBytes
+unfolding be beFrom beBytes put fieldAt signed unsigned framed frontOf cutFrom cutOf payloadOf judgedOf headerOf readOf copyData copyDone statusBody statusUpdate copyDataOf xlogData keepAlive boundaryOf beginBytes raiseOf lookedOf reportedOf freshRun alreadyOpenOf statusOf openingOf turnOf drainOf readingOf waitingOf handlingOf stalledOf offeringOf stateOf stepOf wholeOnes afterOpening given spanOf afterByte acceptedOnes offered takenOf plainOf playAll played steps refusals commitBytes
 computed = tt
 
 -- each by computing the definitions

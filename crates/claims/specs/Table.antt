@@ -1,100 +1,104 @@
--- Condition 3, calls: "Then each call refuses, takes and writes as document 01 says." Document 01's step table once more, in words of the
--- server bytes, the sum taken and the calls, and of no field of the run but its state.
-use mathlib.Core.Path.{_≡_}
+-- The step table once more: what each call answers and which state it enters, from the server's bytes and the trace of the calls so far. It looks
+-- at no run. SCOPE 6.11 and 8.3; 01, "Events and confirmations", step table, and "Where each call turns back".
 use mathlib.Core.Bool.{Bool, true, false}
 use mathlib.Core.List.{List, [], _∷_, _++_}
 use Prim.Native.Nat.{ℕ, _-_}
-use lib.ListN.{length, take}
-use lib.IntN.{ℤ}
+use lib.ListN.{length, take, drop}
 use lib.Dec.{ltb, leb, eqb}
-use Rattle.wire.specs.Bytes.{pick, put, at}
+use Rattle.wire.specs.Bytes.{pick, at}
 use Rattle.stream.specs.Cut.{Cut, cutOf}
 use Rattle.framing.specs.Read.{Said, more, whole, refused, limitOf}
 use Rattle.framing.specs.Feed.{told, span, stored}
 use Rattle.stream.specs.Tag.{isError, isCopyBothResponse, isCopyData}
-use Rattle.frontend.specs.Frontend.{statusUpdate, copyDone}
-use Rattle.lsn.specs.declared.Lsn.{Lsn}
 use Rattle.moment.specs.declared.Moment.{Moment}
 use Rattle.moment.specs.Moment.{isBefore, inRange, sinceOf}
 use Rattle.pgoutput.specs.Boundary.{boundaryOf}
 use Rattle.pgoutput.specs.Boundary as B
 use Rattle.replication.specs.CopyData.{copyDataOf}
 use Rattle.replication.specs.CopyData as C
-use Rattle.worker.specs.declared.Settings.{Settings}
 use Rattle.worker.specs.declared.State.{State}
 use Rattle.worker.specs.declared.State.the-variants.{Opening, Turn, Drain, Reading, Waiting, Handling, Offering, Ended}
 use Rattle.worker.specs.declared.Input.{Input}
-use Rattle.worker.specs.Rows.{_⇒_, firstOf, both, unless}
-use Rattle.worker.specs.Step.{Outcome, Lent, isEnded, stepOf}
-use Rattle.claims.specs.Plain.{Msg, wholeOnes, byQueue}
-use Rattle.claims.specs.Past.{Past, confirmedOf, lastAccepted, hasSent, sentAt, waitBegan, pendingOf, signalledOf, drainedOf, fullBefore, stoppedNext}
-use Rattle.claims.specs.Calls.{Call, Played, played, lentTo}
+use Rattle.claims.specs.Tests.{_⇒_, firstOf, both, unless, isEnded}
+use Rattle.claims.specs.Happened.{Happened}
+use Rattle.claims.specs.Plain.{Msg, Gives, messageGives, wholeOnes, byQueue}
+use Rattle.claims.specs.Trace.{Setup, boundsOf, Writing, nothing, done, status, Response, Trace, a-step, a-report, stateAfter, takenBy, lastAccepted, hasSent, sentAt, waitBegan, pendingOf, signalledOf, drainedOf, readInWait, fullBefore, goneOf}
 
--- what a step writes: nothing, a status with a reply byte, or a CopyDone
-pub data Writing : Type 0 where
-  nothing done : Writing
-  status : Bool → Writing
+-- a response that takes no byte: its refusal, writing, state entered and event
+abbrev pub respond : ℕ → Writing → State → List Happened → Response
+respond n w to es = record { refusal = n; taken = 0; stored = []; writing = w; entered = to; event = es }
 
--- what a step answers and leaves: its refusal, its taken count, the payload bytes that then stand at the buffer's front, what it writes
-pub record Say : Type 0 where
-  pub refusal : ℕ
-  pub taken : ℕ
-  pub stored : List ℕ
-  pub writing : Writing
+-- a state is entered, or stays
+abbrev pub enters : State → Response
+enters to = respond 0 nothing to []
 
-abbrev pub say : ℕ → Writing → Say
-say n w = record { refusal = n; taken = 0; stored = []; writing = w }
+-- something is written, and a state entered
+abbrev pub writes : Writing → State → Response
+writes w to = respond 0 w to []
+
+-- refused with 6 or above: the run is over
+abbrev pub refuses : ℕ → Response
+refuses n = respond n nothing Ended []
+
+abbrev pub limitBy : Setup → ℕ
+limitBy s = limitOf (s .settings .«max_message_size»)
 
 -- ---- clocks
 
--- "status interval passed"
-abbrev pub isPassed : Settings → List Past → Input → Bool
-isPassed s h i = leb (s .«status_interval») (sinceOf (i .moment) (sentAt h))
+-- the status interval has passed since the last status
+abbrev pub isPassed : Setup → Trace → Input → Bool
+isPassed s h i = leb (s .settings .«status_interval») (sinceOf (i .moment) (sentAt h))
 
--- "idle interval since the wait began"
-abbrev pub isIdle : Settings → List Past → Input → Bool
-isIdle s h i = leb (s .«idle_wakeup_interval») (sinceOf (i .moment) (waitBegan h))
+-- the idle interval has passed since the wait began
+abbrev pub isIdle : Setup → Trace → Input → Bool
+isIdle s h i = leb (s .settings .«idle_wakeup_interval») (sinceOf (i .moment) (waitBegan h))
 
 -- a status where a test holds
 abbrev pub statusIf : Bool → Writing
 statusIf c = pick c (status false) nothing
 
--- ---- a read: what the message still lacks is what the cut of the server bytes says
+-- ---- a read: what the message still lacks is what the cut of the server's bytes says
 
--- behind the bytes b, with the bytes u unread; what is told then decides the rest
-abbrev pub readSay : ℕ → List ℕ → List ℕ → Bool → (Said → Say) → Say
-readSay limit b u ended f =
+-- b are the bytes taken, u those unread; the cut's answer decides refusal, writing and state
+abbrev pub readResponse : ℕ → List ℕ → List ℕ → Bool → (Said → Response) → Response
+readResponse limit b u ended f =
     let rest : List ℕ = cutOf limit b .rest in
     let c : Cut = cutOf limit (rest ++ u) in
-    let y : Say = f (told (c .items) (c .ending) (length u) ended) in
+    let y : Response = f (told (c .items) (c .ending) (length u) ended) in
     record {
       refusal = y .refusal;
       taken = span (c .items) (c .ending) (rest ++ u) - length rest;
       stored = stored (c .items) (c .ending) (rest ++ u);
       writing = y .writing;
+      entered = y .entered;
+      event = y .event;
     }
 
--- "`W`: turn; `E`: 19; others skipped"
-abbrev pub openingSay : Said → Say
-openingSay more = say 0 nothing
-openingSay (whole tag n) =
+-- a `W` opens the stream, an `E` is 19, other messages are skipped
+abbrev pub openingResponse : Said → Response
+openingResponse more = enters Opening
+openingResponse (whole tag n) =
     firstOf
-    ((isCopyBothResponse tag ⇒ say 0 nothing)
-    ∷ (isError tag ⇒ say 19 nothing)
+    ((isCopyBothResponse tag ⇒ enters Turn)
+    ∷ (isError tag ⇒ refuses 19)
     ∷ [])
-    (say 0 nothing)
-openingSay (refused n) = say n nothing
+    (enters Opening)
+openingResponse (refused n) = refuses n
 
-abbrev pub readingSay : Said → Say
-readingSay more = say 0 nothing
-readingSay (whole tag n) = say 0 nothing
-readingSay (refused n) = say n nothing
+abbrev pub readingResponse : Said → Response
+readingResponse more = enters Reading
+readingResponse (whole tag n) = enters Handling
+readingResponse (refused n) = refuses n
 
--- "A message left unfinished in Waiting goes on to the idle test"
-abbrev pub waitingSay : Bool → Said → Say
-waitingSay idle more = say 0 (statusIf idle)
-waitingSay idle (whole tag n) = say 0 nothing
-waitingSay idle (refused n) = say n nothing
+-- the idle test: a status, and the wait ends
+abbrev pub idleResponse : Bool → Response
+idleResponse idle = pick idle (writes (status false) Turn) (enters Waiting)
+
+-- a message that is still unfinished leads to the idle test
+abbrev pub waitingResponse : Bool → Said → Response
+waitingResponse idle more = idleResponse idle
+waitingResponse idle (whole tag n) = enters Handling
+waitingResponse idle (refused n) = refuses n
 
 -- ---- the last whole message of the bytes taken
 
@@ -106,109 +110,128 @@ lastOr m (n ∷ ns) = lastOr n ns
 abbrev pub lastMessage : ℕ → List ℕ → Msg
 lastMessage limit b = lastOr (0, []) (wholeOnes (cutOf limit b .items))
 
-abbrev pub boundaryRefusal : B.Said → ℕ
-boundaryRefusal (B.begin final time xid) = 0
-boundaryRefusal (B.commit position end time) = 0
-boundaryRefusal (B.message flag position pf pl cf cl) = 0
-boundaryRefusal B.no-boundary = 0
-boundaryRefusal (B.refused n) = n
+-- what it gives by the plain reading: its events, StoppedAt among them, and whether the reading ends with it
+abbrev pub lastGives : Setup → List ℕ → Gives
+lastGives s b = let m : Msg = lastMessage (limitBy s) b in messageGives (boundsOf (s .settings) .stop) (m .0) (m .1)
 
--- "`k` asking a reply: status with reply byte 1"
-abbrev pub copyDataSay : List ℕ → C.Said → Say
-copyDataSay p (C.w start end time from len) = say (boundaryRefusal (boundaryOf (at p from len))) nothing
-copyDataSay p (C.k end time reply) = say 0 (pick reply (status true) nothing)
-copyDataSay p (C.refused n) = say n nothing
+-- where a message leads once none of its events is left: to Turn where it was read in a wait, else to Drain
+abbrev pub backOf : Trace → State
+backOf h = pick (readInWait h) Turn Drain
 
--- "`E`: 19; not `d`: skipped"
-abbrev pub handlingSay : Msg → Say
-handlingSay m =
+-- ---- Handling
+
+-- an event of the data is offered, unless a boundary's field is refused
+abbrev pub boundaryResponse : B.Said → Response
+boundaryResponse (B.begin final time xid) = enters Offering
+boundaryResponse (B.commit position end time) = enters Offering
+boundaryResponse (B.message flag position pf pl cf cl) = enters Offering
+boundaryResponse B.no-boundary = enters Offering
+boundaryResponse (B.refused n) = refuses n
+
+-- a keepalive that asks for a reply gets a status with reply byte 1; its event is offered then
+abbrev pub copyDataResponse : List ℕ → C.Said → Response
+copyDataResponse p (C.w start end time from len) = boundaryResponse (boundaryOf (at p from len))
+copyDataResponse p (C.k end time reply) = writes (pick reply (status true) nothing) Offering
+copyDataResponse p (C.refused n) = refuses n
+
+-- an `E` is 19, of other messages only a `d` is not skipped
+abbrev pub handlingResponse : Trace → Msg → Response
+handlingResponse h m =
     firstOf
-    ((isError (m .0) ⇒ say 19 nothing)
-    ∷ (isCopyData (m .0) ⇒ copyDataSay (m .1) (copyDataOf (m .1)))
+    ((isError (m .0) ⇒ refuses 19)
+    ∷ (isCopyData (m .0) ⇒ copyDataResponse (m .1) (copyDataOf (m .1)))
     ∷ [])
-    (say 0 nothing)
+    (enters (backOf h))
 
--- ---- each state
+-- ---- Turn, Drain, Waiting
 
--- "under 256 messages and 5 bytes unread: read; some drained: stop gives CopyDone and end, else turn; none drained: .. wait"
-abbrev pub drainSay : List Past → Input → List ℕ → Say
-drainSay h i u =
+-- a status where none was sent yet or the interval has passed; then Drain
+abbrev pub turnResponse : Setup → Trace → Input → Response
+turnResponse s h i = writes (statusIf (pick (hasSent h) (isPassed s h i) true)) Drain
+
+-- fewer than 256 drained and a header unread: a read; none drained: a wait; a stop request, where some are drained, ends the run
+abbrev pub drainResponse : Trace → Input → List ℕ → Response
+drainResponse h i u =
     firstOf
-    ((both (ltb (drainedOf h) 256) (leb 5 (length u)) ⇒ say 0 nothing)
-    ∷ (eqb (drainedOf h) 0 ⇒ say 0 nothing)
-    ∷ (i .stop ⇒ say 0 done)
+    ((both (ltb (drainedOf h) 256) (leb 5 (length u)) ⇒ enters Reading)
+    ∷ (eqb (drainedOf h) 0 ⇒ enters Waiting)
+    ∷ (i .stop ⇒ writes done Ended)
     ∷ [])
-    (say 0 nothing)
+    (enters Turn)
 
--- "stop: CopyDone, end; pending and interval passed: status, turn; not pending and signalled: turn; bytes or input ended: read ..; idle
--- interval since the wait began: status, turn; else stay"
-abbrev pub waitingTests : Settings → Lsn → List Past → Input → List ℕ → List ℕ → Say
-waitingTests s start h i b u =
+-- a stop request; a pending position whose interval has passed; a signal while none is pending; a read; the idle test
+abbrev pub waitingTests : Setup → Trace → Input → List ℕ → List ℕ → Response
+waitingTests s h i b u =
     firstOf
-    ((i .stop ⇒ say 0 done)
-    ∷ (both (pendingOf start h) (isPassed s h i) ⇒ say 0 (status false))
-    ∷ (unless (pendingOf start h) (signalledOf start h) ⇒ say 0 nothing)
-    ∷ (pick (eqb (length u) 0) (i .ended) true ⇒ readSay (limitOf (s .«max_message_size»)) b u (i .ended) (waitingSay (isIdle s h i)))
+    ((i .stop ⇒ writes done Ended)
+    ∷ (both (pendingOf (s .start) h) (isPassed s h i) ⇒ writes (status false) Turn)
+    ∷ (unless (pendingOf (s .start) h) (signalledOf (s .start) h) ⇒ enters Turn)
+    ∷ (pick (eqb (length u) 0) (i .ended) true ⇒ readResponse (limitBy s) b u (i .ended) (waitingResponse (isIdle s h i)))
     ∷ [])
-    (say 0 (statusIf (isIdle s h i)))
+    (idleResponse (isIdle s h i))
 
--- with StoppedAt handed on or dropped the run ends
-abbrev pub behindOffer : List Past → Say
-behindOffer h = say 0 (pick (stoppedNext h) done nothing)
+-- ---- Offering
 
--- "then stop: CopyDone, end, event dropped; free or closed: stall ends; interval passed: status; else stay"
-abbrev pub againSay : Settings → List Past → Input → Say
-againSay s h i = pick (i .stop) (say 0 done) (byQueue (i .queue) (behindOffer h) (say 0 (statusIf (isPassed s h i))) (behindOffer h))
+-- what of the message's events is neither handed on nor dropped: the offered event first
+abbrev pub leftOf : Setup → Trace → List ℕ → List Happened
+leftOf s h b = drop (goneOf h) (lastGives s b .events)
 
--- "first try: free hands on, closed drops, full begins a stall and goes on in the same step"
-abbrev pub offeringSay : Settings → List Past → Input → Say
-offeringSay s h i = pick (fullBefore h) (againSay s h i) (byQueue (i .queue) (behindOffer h) (againSay s h i) (behindOffer h))
+-- after the offered event, which was handed on (es) or dropped: the next is offered; or, with StoppedAt gone, CopyDone and the end; or back
+abbrev pub passedOn : Setup → Trace → List ℕ → List Happened → Response
+passedOn s h b es =
+    firstOf
+    ((ltb 1 (length (leftOf s h b)) ⇒ respond 0 nothing Offering es)
+    ∷ (lastGives s b .ends ⇒ respond 0 done Ended es)
+    ∷ [])
+    (respond 0 nothing (backOf h) es)
 
--- b are the bytes taken so far, u those unread
-abbrev pub tableOf : State → Settings → Lsn → List Past → Input → List ℕ → List ℕ → Say
-tableOf Opening s start h i b u = readSay (limitOf (s .«max_message_size»)) b u (i .ended) openingSay
-tableOf Turn s start h i b u = say 0 (statusIf (pick (hasSent h) (isPassed s h i) true))
-tableOf Drain s start h i b u = drainSay h i u
-tableOf Reading s start h i b u = readSay (limitOf (s .«max_message_size»)) b u (i .ended) readingSay
-tableOf Waiting s start h i b u = waitingTests s start h i b u
-tableOf Handling s start h i b u = handlingSay (lastMessage (limitOf (s .«max_message_size»)) b)
-tableOf Offering s start h i b u = offeringSay s h i
-tableOf Ended s start h i b u = say 2 nothing
+-- a free queue takes the event
+abbrev pub handsOver : Setup → Trace → List ℕ → Response
+handsOver s h b = passedOn s h b (take 1 (leftOf s h b))
 
--- "moment outside its range or before the last accepted"
-abbrev pub isBadMoment : List Past → Moment → Bool
+-- a closed one lets it drop
+abbrev pub drops : Setup → Trace → List ℕ → Response
+drops s h b = passedOn s h b (take 0 (leftOf s h b))
+
+-- a later try: a stop request drops the event and ends the run; a full queue: a status where the interval has passed
+abbrev pub againResponse : Setup → Trace → Input → List ℕ → Response
+againResponse s h i b =
+    pick (i .stop) (writes done Ended)
+    (byQueue (i .queue) (handsOver s h b) (writes (statusIf (isPassed s h i)) Offering) (drops s h b))
+
+-- the first try goes on as a later one where the queue is full
+abbrev pub offeringResponse : Setup → Trace → Input → List ℕ → Response
+offeringResponse s h i b = pick (fullBefore h) (againResponse s h i b) (byQueue (i .queue) (handsOver s h b) (againResponse s h i b) (drops s h b))
+
+-- ---- one step
+
+-- the row of a state; b are the bytes taken so far, u those unread
+abbrev pub tableOf : State → Setup → Trace → Input → List ℕ → List ℕ → Response
+tableOf Opening s h i b u = readResponse (limitBy s) b u (i .ended) openingResponse
+tableOf Turn s h i b u = turnResponse s h i
+tableOf Drain s h i b u = drainResponse h i u
+tableOf Reading s h i b u = readResponse (limitBy s) b u (i .ended) readingResponse
+tableOf Waiting s h i b u = waitingTests s h i b u
+tableOf Handling s h i b u = handlingResponse h (lastMessage (limitBy s) b)
+tableOf Offering s h i b u = offeringResponse s h i b
+tableOf Ended s h i b u = respond 2 nothing Ended []
+
+-- 5: no moment at all, or one before the last accepted step
+abbrev pub isBadMoment : Trace → Moment → Bool
 isBadMoment h m = pick (inRange m) (isBefore m (lastAccepted h)) true
 
--- 2 to 5 in their order, then the state's row
-abbrev pub sayOf : State → Settings → Lsn → List Past → Input → List ℕ → Lent → Say
-sayOf state s start h i b l =
+-- a step in a state, with an output of so many bytes: 2 to 5 in their order, which leave the state; then the state's row
+abbrev pub stepResponse : State → Setup → Trace → Input → List ℕ → List ℕ → ℕ → Response
+stepResponse x s h i b u out =
     firstOf
-    ((isEnded state ⇒ say 2 nothing)
-    ∷ (ltb (length (l .payload)) (limitOf (s .«max_message_size»)) ⇒ say 3 nothing)
-    ∷ (ltb (length (l .out)) 39 ⇒ say 4 nothing)
-    ∷ (isBadMoment h (i .moment) ⇒ say 5 nothing)
+    ((isEnded x ⇒ respond 2 nothing x [])
+    ∷ (ltb (s .room) (limitBy s) ⇒ respond 3 nothing x [])
+    ∷ (ltb out 39 ⇒ respond 4 nothing x [])
+    ∷ (isBadMoment h (i .moment) ⇒ respond 5 nothing x [])
     ∷ [])
-    (tableOf state s start h i b (l .unread))
+    (tableOf x s h i b u)
 
--- ---- the promise
-
--- how many bytes are written, and the whole output then
-abbrev pub writtenBy : Writing → Lsn → ℤ → List ℕ → ℕ × List ℕ
-writtenBy nothing position time out = (0, out)
-writtenBy done position time out = (5, put out 0 copyDone)
-writtenBy (status reply) position time out = (39, put out 0 (statusUpdate (position .0) time reply))
-
--- a step answers and leaves what is said; beyond the stored bytes the payload buffer is as it was
-pub record Answers (position : Lsn) (i : Input) (l : Lent) (y : Say) (o : Outcome) : Type 0 where
-  pub refusal : o .refusal ≡ y .refusal
-  pub taken : o .taken ≡ y .taken
-  pub payload : o .payload ≡ put (l .payload) 0 (y .stored)
-  pub output : (o .written, o .out) ≡ writtenBy (y .writing) position (i .«client_time») (l .out)
-
--- behind any list of calls, the next step
-abbrev pub Calls-as-told : Type 0
-Calls-as-told =
-    (s : Settings) (opening : Bool) (start : Lsn) (bytes payload : List ℕ) (cs : List Call) (i : Input) (n : ℕ) (out : List ℕ)
-    → let z : Played = played s opening start bytes payload cs in
-    let l : Lent = lentTo bytes z n out in
-    Answers (confirmedOf start (z .past)) i l (sayOf (z .run .state) s start (z .past) i (take (z .taken) bytes) l) (stepOf (z .run) i l)
+-- .. after a trace, in the state that it leads to, with n of the next untaken bytes unread
+abbrev pub responseOf : Setup → Trace → Input → ℕ → ℕ → Response
+responseOf s h i n out =
+    stepResponse (stateAfter (s .opening) h) s h i (take (takenBy h) (s .bytes)) (take n (drop (takenBy h) (s .bytes))) out

@@ -1,4 +1,4 @@
--- What holds of a run behind any list of calls, by its state: where the reader stands, which messages the bytes taken hold, and where their
+-- What holds of a run after any list of calls, by its state: where the reader stands, which messages the bytes taken hold, and where their
 -- events stand (Course). And what a step that takes no byte, and a read, make of it: Rows takes these laws.
 use mathlib.Core.Path.{_≡_, refl, sym, ap, _∙_}
 use mathlib.Core.Bool.{Bool, true, false}
@@ -29,33 +29,31 @@ use Rattle.worker.specs.declared.Whole.{Whole}
 use Rattle.worker.specs.declared.Offer.{Offer}
 use Rattle.worker.specs.Run.{wholeOf}
 use Rattle.claims.specs.Happened.{Happened}
-use Rattle.claims.specs.Plain.{Msg, Told, wholeOnes, spanOf, takenOf, isRefusedEarly}
+use Rattle.claims.specs.Plain.{Msg, Observation, wholeOnes, spanOf, takenOf, isRefusedEarly}
 use Rattle.claims.specs.Begins.{isClosed, NoneClosed}
 use Rattle.worker.specs.Step.{refusedWith}
-use Rattle.claims.specs.Calls.{Played, stepped, lentTo, boundsOf}
+use Rattle.claims.specs.Trace.{Setup, boundsOf}
+use Rattle.claims.specs.Table.{lastOr, lastMessage}
+use Rattle.claims.specs.Calls.{Played, stepped, lentTo}
 use Rattle.claims.proofs.Account.{Account, grown, whole-at, same-ones, no-more, none-taken, taken-more}
 use Rattle.claims.proofs.Account as A
 use Rattle.claims.proofs.Begins.{closed-before}
-use Rattle.claims.proofs.Course.{Course, Before, Going, Held, Offers, Over, going-on, going-over}
+use Rattle.claims.proofs.Course.{Course, Before, Going, Held, Offers, Tied, Over, going-on, going-over}
 use Rattle.claims.proofs.Spans.{itemsOf, items-more, whole-items, whole-bad, span-more, cut-span, whole-answer}
 
+-- the last of messages is the one after the others
+pub last-one : (d m : Msg) (ms : List Msg) → lastOr d (ms ++ (m ∷ [])) ≡ m
+unfolding lastOr
+last-one d m [] = refl
+last-one d m (n ∷ ms) = last-one n m ms
+
 -- what a step tells the plain reading, by its input, its refusal and its taken count
-abbrev pub tell : Input → ℕ → ℕ → Told
+abbrev pub tell : Input → ℕ → ℕ → Observation
 tell i n k = record { stop = i .stop; queue = i .queue; refusal = n; taken = k }
 
 -- the message that a run remembers: its payload stands at the buffer's front
 abbrev pub message-of : Whole → List ℕ → Msg
 message-of w p = (w .tag, take (w .len) p)
-
--- how a run is begun, and the bytes that the server sends
-pub record Setup : Type 0 where
-  pub settings : Settings
-  pub opening : Bool
-  pub start : Lsn
-  pub bytes : List ℕ
-
-abbrev pub setup : Settings → Bool → Lsn → List ℕ → Setup
-setup settings opening start bytes = record { settings = settings; opening = opening; start = start; bytes = bytes }
 
 module _ (s : Setup) where
   abbrev pub limit : ℕ
@@ -69,85 +67,98 @@ module _ (s : Setup) where
 
   -- ---- by state
 
-  -- the messages so far are whole, the reader stands behind them, and the steps account for them
-  pub record Base (rd : MessageReader) (p : List ℕ) (t : ℕ) (ts : List Told) (ms : List Msg) (ws : List Told) : Type 0 where
+  -- the messages so far are whole, the reader stands after them, and the steps account for them
+  pub record Base (rd : MessageReader) (p : List ℕ) (t : ℕ) (ts : List Observation) (ms : List Msg) (ws : List Observation) : Type 0 where
     pub within : t ≤ length (s .bytes)
     pub room : limit ≤ length p
+    pub size : limit ≤ s .room
     pub stands : Stands (cut-at t) rd p
     pub items : cut-at t .items ≡ itemsOf ms
     pub account : Account limit (s .bytes) t ts ms ws
 
   -- the events stand as C says, while no queue has closed
-  pub record Stand (C : Course) (rd : MessageReader) (p : List ℕ) (t : ℕ) (ts : List Told) (es : List Happened) : Type 0 where
+  pub record Runs (C : Course) (rd : MessageReader) (p : List ℕ) (t : ℕ) (ts : List Observation) (es : List Happened) : Type 0 where
     pub ms : List Msg
-    pub ws : List Told
+    pub ws : List Observation
     pub base : Base rd p t ts ms ws
     pub course : NoneClosed ts → C ms ws es
 
   -- the last message is to be handled: no step was accepted since it was whole
-  pub record Hold (w : Whole) (rd : MessageReader) (p : List ℕ) (t : ℕ) (ts : List Told) (es : List Happened) : Type 0 where
+  pub record Holds (w : Whole) (rd : MessageReader) (p : List ℕ) (t : ℕ) (ts : List Observation) (es : List Happened) : Type 0 where
     pub ms : List Msg
     pub base : Base rd p t ts (ms ++ (message-of w p ∷ [])) []
+    pub full : length (take (w .len) p) ≡ w .len
     pub course : NoneClosed ts → Held stop (s .opening) ms es
 
   -- the run has ended: nothing changes any more
-  pub record Ends (t : ℕ) (ts : List Told) (es : List Happened) : Type 0 where
+  pub record Ends (t : ℕ) (ts : List Observation) (es : List Happened) : Type 0 where
     pub ms : List Msg
-    pub ws : List Told
+    pub ws : List Observation
     pub account : Account limit (s .bytes) t ts ms ws
     pub course : NoneClosed ts → Over stop (s .opening) ms ws es
 
-  abbrev pub Goings : MessageReader → List ℕ → ℕ → List Told → List Happened → Type 0
-  Goings = Stand (Going stop (s .opening))
+  abbrev pub Goings : MessageReader → List ℕ → ℕ → List Observation → List Happened → Type 0
+  Goings = Runs (Going stop (s .opening))
 
-  abbrev ByState : State → MessageReader → Whole → Offer → List ℕ → ℕ → List Told → List Happened → Type 0
-  ByState Opening rd w o p t ts es = Stand (Before stop (s .opening)) rd p t ts es
+  -- the message that an offered event is of
+  abbrev pub last-at : ℕ → Msg
+  last-at t = lastMessage limit (take t (s .bytes))
+
+  abbrev ByState : State → MessageReader → Whole → Offer → List ℕ → ℕ → List Observation → List Happened → Type 0
+  ByState Opening rd w o p t ts es = Runs (Before stop (s .opening)) rd p t ts es
   ByState Turn rd w o p t ts es = Goings rd p t ts es
   ByState Drain rd w o p t ts es = Goings rd p t ts es
   ByState Reading rd w o p t ts es = Goings rd p t ts es
   ByState Waiting rd w o p t ts es = Goings rd p t ts es
-  ByState Handling rd w o p t ts es = Hold w rd p t ts es
-  ByState Offering rd w o p t ts es = Stand (Offers stop (s .opening) o p) rd p t ts es
+  ByState Handling rd w o p t ts es = Holds w rd p t ts es
+  ByState Offering rd w o p t ts es = Runs (Offers stop (s .opening) o p) rd p t ts es × Tied stop o p (last-at t)
   ByState Ended rd w o p t ts es = Ends t ts es
 
   -- .. of what calls have left
   abbrev pub Placed : State → Played → Type 0
-  Placed x z = ByState x (z .run .reader) (z .run .whole) (z .run .offer) (z .payload) (z .taken) (z .told) (z .events)
+  Placed x z = ByState x (z .run .reader) (z .run .whole) (z .run .offer) (z .payload) (z .taken) (z .observed) (z .events)
 
   -- the payload buffer is shorter than the limit: every step is refused, and nothing happens
-  pub record Short (p : List ℕ) (ts : List Told) (es : List Happened) : Type 0 where
+  pub record Short (p : List ℕ) (ts : List Observation) (es : List Happened) : Type 0 where
     pub buffer : length p < limit
+    pub size : s .room < limit
     pub untaken : takenOf ts ≡ 0
     pub none : es ≡ []
 
-  abbrev pub Standing : State → Played → Type 0
-  Standing x z = Short (z .payload) (z .told) (z .events) ⊎ Placed x z
+  abbrev pub Invariant : State → Played → Type 0
+  Invariant x z = Short (z .payload) (z .observed) (z .events) ⊎ Placed x z
+
+-- no byte is taken, so the last message is the same
+pub tied-still : (s : Setup) (o : Offer) (p : List ℕ) (t : ℕ) → Tied (stop s) o p (last-at s t) → Tied (stop s) o p (last-at s (t + 0))
+tied-still s o p t h = let q : t + 0 ≡ t = omega arith in rw q h
 
 module _ {s : Setup} where
-  -- a message that waits to be handled, as one behind the others
-  abbrev pub with-held : {w : Whole} {rd : MessageReader} {p : List ℕ} {t : ℕ} {ts : List Told} {es : List Happened} → (h : Hold s w rd p t ts es)
-      → Stand s (λ ms ws es. Held (stop s) (s .opening) (h .ms) es) rd p t ts es
+  -- a message that waits to be handled, as one after the others
+  abbrev pub with-held : {w : Whole} {rd : MessageReader} {p : List ℕ} {t : ℕ} {ts : List Observation} {es : List Happened}
+      → (h : Holds s w rd p t ts es)
+      → Runs s (λ ms ws es. Held (stop s) (s .opening) (h .ms) es) rd p t ts es
   with-held {w} {rd} {p} h = record { ms = h .ms ++ (message-of w p ∷ []); ws = []; base = h .base; course = h .course }
 
   -- ---- a step that takes no byte, and is refused with k (0 for none)
 
-  module _ {rd : MessageReader} {p : List ℕ} {t : ℕ} {ts : List Told} (i : Input) (k : ℕ) where
-    base-still : {ms : List Msg} {ws : List Told} → Base s rd p t ts ms ws
+  module _ {rd : MessageReader} {p : List ℕ} {t : ℕ} {ts : List Observation} (i : Input) (k : ℕ) where
+    base-still : {ms : List Msg} {ws : List Observation} → Base s rd p t ts ms ws
         → Base s rd p (t + 0) (ts ++ (tell i k 0 ∷ [])) ms (grown (tell i k 0) ws)
     base-still b =
         let q : t + 0 ≡ t = omega arith in
         record {
           within = rw q (b .within);
           room = b .room;
+          size = b .size;
           stands = rw q (b .stands);
           items = rw q (b .items);
           account = no-more (limit s) (s .bytes) (tell i k 0) refl (b .account);
         }
 
-    module _ {C : Course} {es : List Happened} (b : Stand s C rd p t ts es) where
+    module _ {C : Course} {es : List Happened} (b : Runs s C rd p t ts es) where
       pub still : {D : Course} {fs : List Happened}
           → (isClosed (i .queue) ≡ false → C (b .ms) (b .ws) es → D (b .ms) (grown (tell i k 0) (b .ws)) fs)
-          → Stand s D rd p (t + 0) (ts ++ (tell i k 0 ∷ [])) fs
+          → Runs s D rd p (t + 0) (ts ++ (tell i k 0 ∷ [])) fs
       still f =
           record {
             ms = b .ms;
@@ -176,22 +187,23 @@ module _ {s : Setup} where
 
   -- ---- a read of the next untaken bytes
 
-  module _ {rd : MessageReader} {p : List ℕ} {t : ℕ} {ts : List Told} {ms : List Msg} {ws : List Told} (b : Base s rd p t ts ms ws) (n : ℕ) (end : Bool) where
+  module _ {rd : MessageReader} {p : List ℕ} {t : ℕ} {ts : List Observation} {ms : List Msg} {ws : List Observation} (b : Base s rd p t ts ms ws)
+      (n : ℕ) (end : Bool) where
     abbrev unread : List ℕ
     unread = take n (drop t (s .bytes))
 
     abbrev read : Result
     read = readOf (s .settings .«max_message_size») rd unread end p
 
-    -- within the bytes, with room; the reader stands behind what it took, and the items are one more or as many
-    record Behind (x : Result) : Type 0 where
+    -- within the bytes, with room; the reader stands after what it took, and the items are one more or as many
+    record After (x : Result) : Type 0 where
       within : t + x .2 ≤ length (s .bytes)
       room : limit s ≤ length (x .3)
       stands : Stands (cut-at s (t + x .2)) (x .1) (x .3)
       items : cut-at s (t + x .2) .items ≡ itemsOf ms ++ itemOf (x .0) (x .3)
 
-    behind-read : Behind read
-    behind-read =
+    after-read : After read
+    after-read =
         let f = one-more (s .settings .«max_message_size») (s .bytes) p (b .room) (itemsOf ms, rd, t, p) (record { unread = n; ended = end })
         (sym (b .items), b .within, b .stands, refl) in
         record { within = f .1; room = (let y = f .3 in let z = b .room in omega arith); stands = f .2; items = sym (f .0) }
@@ -211,41 +223,53 @@ module _ {s : Setup} where
           (λ e.
           let z : read .2 ≤ 0 = ltb-false _ _ e in
           let q : t + read .2 ≡ t = omega arith in
-          let j : itemsOf ms ≡ itemsOf ms ++ (message tag (take k (read .3)) ∷ []) = rw (q, b .items, h) at (behind-read .items) in
-          let l : length (itemsOf ms) ≡ length (itemsOf ms) + 1 = ap (λ (y : List Item). length y) j ∙ length-append (itemsOf ms) (message tag (take k (read .3)) ∷ []) in
+          let j : itemsOf ms ≡ itemsOf ms ++ (message tag (take k (read .3)) ∷ []) = rw (q, b .items, h) at (after-read .items) in
+          let l : length (itemsOf ms) ≡ length (itemsOf ms) + 1 = ap (λ (y : List Item). length y) j ∙ length-append (itemsOf ms)
+          (message tag (take k (read .3)) ∷ []) in
           absurd (omega arith))
 
-      span-now : spanOf (ms ++ (m ∷ [])) ≡ t + read .2
+      -- the payload stands at the buffer's front, whole
+      held-now : length (take k (read .3)) ≡ k
       unfolding put
-      span-now =
+      held-now =
           let rest : List ℕ = cut-at s t .rest in
           let w = read-is-cut (s .settings .«max_message_size») (take t (s .bytes)) unread end rd p (b .room) (b .stands) in
           let u : Cut = cutOf (limit s) (rest ++ unread) in
           let a = whole-answer (u .items) (u .ending) (length unread) end (rest ++ unread) tag k (sym (w .answer) ∙ h) in
           let q : List ℕ = stored (u .items) (u .ending) (rest ++ unread) in
           let front : take k (put p 0 q) ≡ q = rw (← a .1) (take-append-seam q (drop (0 + length q) p)) in
+          ap (λ (y : List ℕ). length y) (ap (take k) (w .buffer) ∙ front) ∙ a .1
+
+      span-now : spanOf (ms ++ (m ∷ [])) ≡ t + read .2
+      span-now =
+          let rest : List ℕ = cut-at s t .rest in
+          let w = read-is-cut (s .settings .«max_message_size») (take t (s .bytes)) unread end rd p (b .room) (b .stands) in
+          let u : Cut = cutOf (limit s) (rest ++ unread) in
+          let a = whole-answer (u .items) (u .ending) (length unread) end (rest ++ unread) tag k (sym (w .answer) ∙ h) in
           let taken : read .2 ≡ 5 + k - length rest = w .taken ∙ ap (λ (y : ℕ). y - length rest) (a .0) in
-          let held : length (take k (read .3)) ≡ k = ap (λ (y : List ℕ). length y) (ap (take k) (w .buffer) ∙ front) ∙ a .1 in
-          let before : t ≡ spanOf ms + length rest = sym (length-take-le t (s .bytes) (b .within)) ∙ cut-span (limit s) (take t (s .bytes)) ms (b .items) in
-          together (spanOf ms) (length rest) t k (read .2) (length (take k (read .3))) (spanOf (ms ++ (m ∷ []))) taken before some-taken (span-more ms m) held
+          let before : t ≡ spanOf ms + length rest = sym (length-take-le t (s .bytes) (b .within)) ∙ cut-span (limit s) (take t (s .bytes)) ms
+          (b .items) in
+          together (spanOf ms) (length rest) t k (read .2) (length (take k (read .3))) (spanOf (ms ++ (m ∷ []))) taken before some-taken
+          (span-more ms m) held-now
         where
           together : (a r t k x l z : ℕ) → x ≡ 5 + k - r → t ≡ a + r → 0 < x → z ≡ a + (5 + l) → l ≡ k → z ≡ t + x
           together a r t k x l z e f g h i = omega arith
 
     -- what a step tells that takes what was read, and is refused with r
     module _ (i : Input) (r : ℕ) where
-      abbrev now : Told
+      abbrev now : Observation
       now = tell i r (read .2)
 
       -- with these messages, of which the steps account
-      read-base : (ns : List Msg) (vs : List Told) → itemsOf ms ++ itemOf (read .0) (read .3) ≡ itemsOf ns
+      read-base : (ns : List Msg) (vs : List Observation) → itemsOf ms ++ itemOf (read .0) (read .3) ≡ itemsOf ns
           → Account (limit s) (s .bytes) (t + read .2) (ts ++ (now ∷ [])) ns vs → Base s (read .1) (read .3) (t + read .2) (ts ++ (now ∷ [])) ns vs
       read-base ns vs e a =
-          let f = behind-read in record { within = f .within; room = f .room; stands = f .stands; items = f .items ∙ e; account = a }
+          let f = after-read in record { within = f .within; room = f .room; size = b .size; stands = f .stands; items = f .items ∙ e; account = a }
 
       -- as many whole messages as before
-      account-same : wholeOnes (itemsOf ms ++ itemOf (read .0) (read .3)) ≡ ms → Account (limit s) (s .bytes) (t + read .2) (ts ++ (now ∷ [])) ms (grown now ws)
-      account-same e = same-ones (limit s) (s .bytes) t ts ms ws now (b .account) (ap wholeOnes (behind-read .items) ∙ e)
+      account-same : wholeOnes (itemsOf ms ++ itemOf (read .0) (read .3)) ≡ ms
+          → Account (limit s) (s .bytes) (t + read .2) (ts ++ (now ∷ [])) ms (grown now ws)
+      account-same e = same-ones (limit s) (s .bytes) t ts ms ws now (b .account) (ap wholeOnes (after-read .items) ∙ e)
 
       base-more : read .0 ≡ more → Base s (read .1) (read .3) (t + read .2) (ts ++ (now ∷ [])) ms (grown now ws)
       base-more h =
@@ -263,14 +287,14 @@ module _ {s : Setup} where
           → Base s (read .1) (read .3) (t + read .2) (ts ++ (now ∷ [])) (ms ++ ((tag, take k (read .3)) ∷ [])) []
       base-whole tag k h =
           let ns : List Msg = ms ++ ((tag, take k (read .3)) ∷ []) in
-          let o : whole-at (limit s) (s .bytes) (t + read .2) ≡ ns = ap wholeOnes (behind-read .items ∙ one-item tag k h) ∙ whole-items ns in
+          let o : whole-at (limit s) (s .bytes) (t + read .2) ≡ ns = ap wholeOnes (after-read .items ∙ one-item tag k h) ∙ whole-items ns in
           read-base ns [] (one-item tag k h)
           (A.one-more (limit s) (s .bytes) t ts ms ns ws now (b .account) o (span-now tag k h) (some-taken tag k h))
 
   -- .. by a state that reads: x is what was read
-  module _ {C : Course} {rd : MessageReader} {p : List ℕ} {t : ℕ} {ts : List Told} {es : List Happened} (b : Stand s C rd p t ts es) (n : ℕ)
+  module _ {C : Course} {rd : MessageReader} {p : List ℕ} {t : ℕ} {ts : List Observation} {es : List Happened} (b : Runs s C rd p t ts es) (n : ℕ)
       (i : Input) (x : Result) (hx : readOf (s .settings .«max_message_size») rd (take n (drop t (s .bytes))) (i .ended) p ≡ x) (r : ℕ) where
-    abbrev told : List Told
+    abbrev told : List Observation
     told = ts ++ (tell i r (x .2) ∷ [])
 
     abbrev one : ℕ → ℕ → List Msg
@@ -282,20 +306,30 @@ module _ {s : Setup} where
     whole-base : (tag k : ℕ) → x .0 ≡ whole tag k → Base s (x .1) (x .3) (t + x .2) told (one tag k) []
     whole-base = rw hx at (base-whole (b .base) n (i .ended) i r)
 
+    pub whole-held : (tag k : ℕ) → x .0 ≡ whole tag k → length (take k (x .3)) ≡ k
+    whole-held = rw hx at (held-now (b .base) n (i .ended))
+
+    -- it is the last whole message then
+    pub whole-last : (tag k : ℕ) → x .0 ≡ whole tag k → last-at s (t + x .2) ≡ (tag, take k (x .3))
+    whole-last tag k h = rw (whole-base tag k h .items, whole-items) (last-one (0, []) (tag, take k (x .3)) (b .ms))
+
     module _ {fs : List Happened} where
-      pub read-more : {D : Course} → x .0 ≡ more → (C (b .ms) (b .ws) es → D (b .ms) (grown (tell i r (x .2)) (b .ws)) fs) → Stand s D (x .1) (x .3) (t + x .2) told fs
+      pub read-more : {D : Course} → x .0 ≡ more → (C (b .ms) (b .ws) es → D (b .ms) (grown (tell i r (x .2)) (b .ws)) fs)
+          → Runs s D (x .1) (x .3) (t + x .2) told fs
       read-more h f = record { ms = b .ms; ws = _; base = rw hx at (base-more (b .base) n (i .ended) i r) h; course = λ q. f (before q) }
 
       pub read-refused : (k : ℕ) → x .0 ≡ refused k → (C (b .ms) (b .ws) es → Over (stop s) (s .opening) (b .ms) (grown (tell i r (x .2)) (b .ws)) fs)
           → Ends s (t + x .2) told fs
-      read-refused k h f = record { ms = b .ms; ws = _; account = rw hx at (account-refused (b .base) n (i .ended) i r k) h; course = λ q. f (before q) }
+      read-refused k h f =
+          record { ms = b .ms; ws = _; account = rw hx at (account-refused (b .base) n (i .ended) i r k) h; course = λ q. f (before q) }
 
       module _ (tag k : ℕ) (h : x .0 ≡ whole tag k) where
-        pub read-whole : {D : Course} → (C (b .ms) (b .ws) es → D (one tag k) [] fs) → Stand s D (x .1) (x .3) (t + x .2) told fs
+        pub read-whole : {D : Course} → (C (b .ms) (b .ws) es → D (one tag k) [] fs) → Runs s D (x .1) (x .3) (t + x .2) told fs
         read-whole f = record { ms = one tag k; ws = []; base = whole-base tag k h; course = λ q. f (before q) }
 
-        pub read-holds : (w : Bool) → (C (b .ms) (b .ws) es → Held (stop s) (s .opening) (b .ms) fs) → Hold s (wholeOf tag k w) (x .1) (x .3) (t + x .2) told fs
-        read-holds w f = record { ms = b .ms; base = whole-base tag k h; course = λ q. f (before q) }
+        pub read-holds : (w : Bool) → (C (b .ms) (b .ws) es → Held (stop s) (s .opening) (b .ms) fs)
+            → Holds s (wholeOf tag k w) (x .1) (x .3) (t + x .2) told fs
+        read-holds w f = record { ms = b .ms; base = whole-base tag k h; full = whole-held tag k h; course = λ q. f (before q) }
 
         -- a message that ends the run in the step that read it
         pub read-last : (C (b .ms) (b .ws) es → Over (stop s) (s .opening) (one tag k) [] fs) → Ends s (t + x .2) told fs
@@ -303,13 +337,14 @@ module _ {s : Setup} where
 
   -- ---- before the first call
 
-  pub no-base : (p : List ℕ) → limit s ≤ length p → Base s fresh p 0 [] [] []
+  pub no-base : (p : List ℕ) → limit s ≤ length p → limit s ≤ s .room → Base s fresh p 0 [] [] []
   unfolding feedAll itemsOf takenOf
-  no-base p h =
+  no-base p h z =
       let f = fed-is-cut (s .settings .«max_message_size») (s .bytes) p h [] in
       record {
         within = omega arith;
         room = h;
+        size = z;
         stands = f .2;
         items = ap (λ (u : Cut). u .items) (cut-nothing (limit s));
         account = none-taken (limit s) (s .bytes) refl;
@@ -321,8 +356,8 @@ module _ (s : Setup) (z : Played) (i : Input) (n : ℕ) (out : List ℕ) (k : �
   abbrev refused-so : Played
   refused-so = stepped z i (refusedWith k (z .run) (lentTo (s .bytes) z n out))
 
-  earlier : {A : Type 0} → (NoneClosed (z .told) → A) → NoneClosed (refused-so .told) → A
-  earlier f q = f (closed-before (z .told) (tell i k 0) q .0)
+  earlier : {A : Type 0} → (NoneClosed (z .observed) → A) → NoneClosed (refused-so .observed) → A
+  earlier f q = f (closed-before (z .observed) (tell i k 0) q .0)
 
   placed-still : (x : State) → Placed s x z → Placed s x refused-so
   placed-still Opening b = still i k b (λ q a. rw (early, append-nil (z .events)) a)
@@ -330,8 +365,10 @@ module _ (s : Setup) (z : Played) (i : Input) (n : ℕ) (out : List ℕ) (k : �
   placed-still Drain b = goes-still i k b
   placed-still Reading b = goes-still i k b
   placed-still Waiting b = goes-still i k b
-  placed-still Handling h = record { ms = h .ms; base = rw early at (base-still i k (h .base)); course = rw append-nil (earlier (h .course)) }
-  placed-still Offering b = still i k b (λ q a. rw (early, append-nil (z .events)) a)
+  placed-still Handling h =
+      record { ms = h .ms; base = rw early at (base-still i k (h .base)); full = h .full; course = rw append-nil (earlier (h .course)) }
+  placed-still Offering b =
+      (still i k (b .0) (λ q a. rw (early, append-nil (z .events)) a), tied-still s (z .run .offer) (z .payload) (z .taken) (b .1))
   placed-still Ended o =
       record {
         ms = o .ms;
@@ -340,11 +377,12 @@ module _ (s : Setup) (z : Played) (i : Input) (n : ℕ) (out : List ℕ) (k : �
         course = rw append-nil (earlier (o .course));
       }
 
-  pub early-still : (x : State) → Standing s x z → Standing s x refused-so
+  pub early-still : (x : State) → Invariant s x z → Invariant s x refused-so
   early-still x (inl h) =
       inl (record {
         buffer = h .buffer;
-        untaken = taken-more (z .told) (tell i k 0) ∙ (let y = h .untaken in omega arith);
+        size = h .size;
+        untaken = taken-more (z .observed) (tell i k 0) ∙ (let y = h .untaken in omega arith);
         none = append-nil (z .events) ∙ h .none;
       })
   early-still x (inr b) = inr (placed-still x b)

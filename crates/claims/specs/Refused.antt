@@ -1,0 +1,33 @@
+-- Condition 3, refused calls: a step refused with 2 to 5 leaves the run as it was, every field, and both buffers; it takes, writes and hands on
+-- nothing. Opening and already open: a refused call makes no run (Beginnings). SCOPE 8.9; 01, "Where each call turns back".
+use mathlib.Core.Path.{_≡_}
+use mathlib.Core.Bool.{true}
+use mathlib.Core.List.{List}
+use mathlib.Core.Option.{none}
+use Prim.Native.Nat.{ℕ}
+use lib.ListN.{length}
+use Rattle.worker.specs.declared.Input.{Input}
+use Rattle.worker.specs.declared.Run.{Run}
+use Rattle.worker.specs.declared.Settings.{Settings}
+use Rattle.worker.specs.Events as E
+use Rattle.worker.specs.Step.{Outcome, Lent, stepOf}
+use Rattle.claims.specs.Plain.{isRefusedEarly}
+use Rattle.claims.specs.Trace.{Setup}
+use Rattle.claims.specs.Calls.{Beginning, Call, Played, played, lentTo, setupOf}
+use Rattle.claims.specs.Table.{responseOf}
+use Rattle.claims.specs.Traced.{traceOf}
+
+-- everything is as it was
+abbrev pub unchanged : ℕ → Run → Lent → Outcome
+unchanged n r l =
+    record { run = r; refusal = n; taken = 0; event = E.nothing; written = 0; waited = none; payload = l .payload; out = l .out }
+
+-- after any list of calls, a step to which the table responds with such a refusal
+abbrev pub Refused-leaves : Type 0
+Refused-leaves =
+    (s : Settings) (b : Beginning) (bytes payload : List ℕ) (cs : List Call) (i : Input) (n : ℕ) (out : List ℕ)
+    → let x : Setup = setupOf s b bytes (length payload) in
+    let z : Played = played s b bytes payload cs in
+    let l : Lent = lentTo bytes z n out in
+    let k : ℕ = responseOf x (traceOf x cs) i n (length out) .refusal in
+    isRefusedEarly k ≡ true → stepOf (z .run) i l ≡ unchanged k (z .run) l

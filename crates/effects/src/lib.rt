@@ -1,0 +1,1 @@
+// Theorems alone: what one step can do, for every run value and whatever it is lent.
