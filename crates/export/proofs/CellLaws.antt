@@ -9,17 +9,17 @@ use Rattle.progress.specs.declared.ProgressCell.{ProgressCell}
 use Rattle.progress.specs.declared.Raised.{Raised}
 use Rattle.progress.specs.declared.Reported.{Reported}
 use Rattle.progress.specs.Progress.{raiseOf, lookedOf, reportedOf, carriedOf}
-use Rattle.words.specs.Cells.{cellOf, raisedWords, lookedWords, reportedWords}
-use Rattle.words.specs.Words.{flagWord, progressWords}
+use Rattle.words.specs.Cells.{raisedWords, lookedWords, reportedWords}
+use Rattle.words.specs.Words.{flagWord, cellOf, cellWords}
 
 -- the words that a cell leaves, for an equal cell
-pub made : {c z : ProgressCell} {ws : List ℕ} → c ≡ z → (ws ≡ progressWords c) × (cellOf ws ≡ c) → (ws ≡ progressWords z) × (cellOf ws ≡ z)
-made e pw = (pw .0 ∙ ap progressWords e, pw .1 ∙ e)
+pub made : {c z : ProgressCell} {ws : List ℕ} → c ≡ z → (ws ≡ cellWords c) × (cellOf ws ≡ c) → (ws ≡ cellWords z) × (cellOf ws ≡ z)
+made e pw = (pw .0 ∙ ap cellWords e, pw .1 ∙ e)
 
 module _ {r z : ProgressCell} (pr : r ≡ z) where
   pub raised : (p : Lsn) (m : Moment) (x : Raised) {w : ℕ} {ws : List ℕ}
       → x ≡ raiseOf r p m
-      → (ws ≡ progressWords (x .cell)) × (cellOf ws ≡ x .cell)
+      → (ws ≡ cellWords (x .cell)) × (cellOf ws ≡ x .cell)
       → w ≡ flagWord (x .wake)
       → ((w, ws) ≡ raisedWords (raiseOf z p m)) × (cellOf ws ≡ raiseOf z p m .cell)
   raised p m x e pw pf =
@@ -28,7 +28,7 @@ module _ {r z : ProgressCell} (pr : r ≡ z) where
 
   pub looked : (x : Looked) {ws : List ℕ}
       → x ≡ lookedOf r
-      → (ws ≡ progressWords (x .cell)) × (cellOf ws ≡ x .cell)
+      → (ws ≡ cellWords (x .cell)) × (cellOf ws ≡ x .cell)
       → ((x .applied .0, ws) ≡ lookedWords (lookedOf z)) × (cellOf ws ≡ lookedOf z .cell)
   looked x e pw =
       let h : x ≡ lookedOf z = e ∙ ap lookedOf pr in
@@ -36,7 +36,7 @@ module _ {r z : ProgressCell} (pr : r ≡ z) where
 
   pub reported : (p : Lsn) (m : Moment) (x : Reported) {ws : List ℕ}
       → x ≡ reportedOf r p m
-      → (ws ≡ progressWords (x .cell)) × (cellOf ws ≡ x .cell)
+      → (ws ≡ cellWords (x .cell)) × (cellOf ws ≡ x .cell)
       → ((x .since .0, ws) ≡ reportedWords (reportedOf z p m)) × (cellOf ws ≡ reportedOf z p m .cell)
   reported p m x e pw =
       let h : x ≡ reportedOf z p m = e ∙ ap (λ (y : ProgressCell). reportedOf y p m) pr in
@@ -44,6 +44,6 @@ module _ {r z : ProgressCell} (pr : r ≡ z) where
 
   pub carried : (m : Moment) {x : ProgressCell} {ws : List ℕ}
       → x ≡ carriedOf r m
-      → (ws ≡ progressWords x) × (cellOf ws ≡ x)
-      → (ws ≡ progressWords (carriedOf z m)) × (cellOf ws ≡ carriedOf z m)
+      → (ws ≡ cellWords x) × (cellOf ws ≡ x)
+      → (ws ≡ cellWords (carriedOf z m)) × (cellOf ws ≡ carriedOf z m)
   carried m e pw = made (e ∙ ap (λ (y : ProgressCell). carriedOf y m) pr) pw

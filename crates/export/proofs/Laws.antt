@@ -1,7 +1,9 @@
 -- What an exported call leaves, of what the calls in it answered. Over variables, so that no rewriting meets the code.
 use mathlib.Core.Path.{_≡_, ap, _∙_}
 use mathlib.Core.List.{List}
+use mathlib.Core.Option.{Option}
 use Prim.Native.Nat.{ℕ}
+use lib.ListN.{length}
 use borrow.Author.Tests.{ne-eqb}
 use denote.Ref.{RefT}
 use Rattle.error.specs.Writer.{outcome}
@@ -17,23 +19,26 @@ use Rattle.worker.specs.declared.Queue.{Queue}
 use Rattle.worker.specs.declared.Run.{Run}
 use Rattle.worker.specs.declared.Settings.{Settings}
 use Rattle.worker.specs.declared.Stepped.{Stepped}
-use Rattle.worker.specs.Answer.{verdictNumber, waitedOption, outcomeBy, openedBy, alreadyOpenBy, errorPartOf}
+use Rattle.worker.specs.Answer.{verdictNumber, waitedOption, outcomeBy, openedBy, alreadyOpenBy, errorPart, errorPartOf}
+use Rattle.worker.specs.Events.{saidBy}
 use Rattle.worker.specs.Opening as O
 use Rattle.worker.specs.Opening.{openOf, alreadyOpenOf, reportOf}
-use Rattle.worker.specs.Step.{Lent, Outcome, stepOf}
-use Rattle.export.specs.NextWords.{nextWords}
-use Rattle.words.specs.Answers.{answerOf, steppedWords, openedWords, alreadyOpenWords, errorWords}
+use Rattle.worker.specs.Step.{Lent, Outcome}
+use Rattle.words.specs.Step.{clipped, answerOf, steppedWords, openedWords, alreadyOpenWords}
 use Rattle.words.specs.Words.{runOf, wordsOf}
+use Rattle.answers.specs.Next.{nextWords}
+use Rattle.answers.specs.Parts.{errorWords}
 
 module _ {r z : Run} (pr : r ≡ z) where
-  pub stepped : {i j : Input} (l : Lent) (s : Stepped) {p o ws answer : List ℕ}
+  -- of a call that makes steps, one or several
+  pub made : (f : Run → Input → Lent → Outcome) {i j : Input} (l : Lent) (s : Stepped) {p o ws answer : List ℕ}
       → i ≡ j
-      → outcomeBy s p o ≡ stepOf r i l
+      → outcomeBy s p o ≡ f r i l
       → (ws ≡ wordsOf (s .run)) × (runOf ws ≡ s .run)
-      → answer ≡ answerOf (verdictNumber (s .verdict)) (s .taken) (s .written) (waitedOption (s .waited)) (s .event)
-      → ((ws, answer, p, o) ≡ steppedWords (stepOf z j l)) × (runOf ws ≡ stepOf z j l .run)
-  stepped {i} {j} l s {p} {o} pi e pw pa =
-      let h : outcomeBy s p o ≡ stepOf z j l = e ∙ ap (λ (x : Run). stepOf x i l) pr ∙ ap (λ (x : Input). stepOf z x l) pi in
+      → answer ≡ answerOf (verdictNumber (s .verdict)) (s .taken) (s .written) (waitedOption (s .waited)) (clipped (length p) (saidBy (s .event)))
+      → ((ws, answer, p, o) ≡ steppedWords (f z j l)) × (runOf ws ≡ f z j l .run)
+  made f {i} {j} l s {p} {o} pi e pw pa =
+      let h : outcomeBy s p o ≡ f z j l = e ∙ ap (λ (x : Run). f x i l) pr ∙ ap (λ (x : Input). f z x l) pi in
       (rw (← h, pw .0, pa), pw .1 ∙ ap (λ (x : Outcome). x .run) h)
 
   pub reported : {x : Run} (p : Lsn) (m : Moment) {ws : List ℕ}
@@ -51,8 +56,8 @@ module _ {r z : Run} (pr : r ≡ z) where
       → ws ≡ nextWords (nextStepOf z n k)
   next n {q} {k} x pq e pw = pw ∙ ap nextWords (e ∙ ap (λ (y : Run). nextStepOf y n q) pr ∙ ap (λ (y : Queue). nextStepOf z n y) pq)
 
-  pub error-part : {x : ErrorPart} {ws : List ℕ} → x ≡ errorPartOf r → ws ≡ errorWords x → ws ≡ errorWords (errorPartOf z)
-  error-part e pw = pw ∙ ap errorWords (e ∙ ap errorPartOf pr)
+  pub error-part : (n : ℕ) (x : ErrorPart) {ws : List ℕ} → errorPart x ≡ errorPartOf r → ws ≡ errorWords (errorPart x) n → ws ≡ errorWords (errorPartOf z) n
+  error-part n x e pw = pw ∙ ap (λ (y : Option ℕ). errorWords y n) (e ∙ ap errorPartOf pr)
 
 -- an answer of a writer, with the output
 pub replied : {a b : ℕ} {x : ℕ × ℕ} {o : List ℕ} {y : (ℕ × ℕ) × List ℕ} → (a, b) ≡ x → (x, o) ≡ y → ((a, b), o) ≡ y

@@ -1,1 +1,1 @@
-pub mod NextWords
+pub mod Abi

@@ -1,23 +1,28 @@
-// A progress cell for a host: four lent words. Any words are the words of some cell.
-// `kept`: the words at exit stand for the cell that the call leaves.
+// A progress cell for a host: four lent words. Any words are the words of some cell. SCOPE 9.3, 4.1.
+// `preserved`: the words at exit stand for the cell that the call leaves.
 ghost use mathlib.Core.Path.{_≡_};
 ghost use mathlib.Core.Bool.{false};
-ghost use Rattle.progress.specs.Progress.{cell as cellBy, noMoment, raiseOf, lookedOf, reportedOf, carriedOf};
+ghost use Rattle.progress.specs.Progress.{cell as cellBy, cellPosition, cellPending, noMoment, raiseOf, lookedOf, reportedOf, carriedOf};
 ghost use Rattle.worker.specs.Run.{lsn};
-ghost use Rattle.words.specs.Cells.{cellOf, raisedWords, lookedWords, reportedWords};
-ghost use Rattle.words.specs.Words.{moment as momentOf, progressWords};
+ghost use Rattle.words.specs.Cells.{raisedWords, lookedWords, reportedWords};
+ghost use Rattle.words.specs.Words.{moment as momentOf, cellOf, cellWords};
 use lsn::Lsn;
 use moment::Moment;
 use progress::ProgressCell;
 use words::cell::cell_of;
 use words::cell::cell_words;
+use words::layout;
 use words::word::flag;
 
 // A new cell. With timing it keeps the moment of the first raise that no status has covered.
 #[no_mangle]
-pub extern "C" fn rufflesquash_cell_new(start: u64, timed: bool, cell: &mut [u64; 4])
-    ensures { λ _. ⌜ now (cell .exit) ≡ progressWords (cellBy (lsn start) false noMoment timed) ⌝ }
-    ensures kept { λ _. ⌜ cellOf (now (cell .exit)) ≡ cellBy (lsn start) false noMoment timed ⌝ }
+pub extern "C" fn rufflesquash_cell_new(
+    start: u64,
+    timed: bool,
+    cell: &mut [u64; layout::CELL_WORDS],
+)
+    ensures { λ _. ⌜ now (cell .exit) ≡ cellWords (cellBy (lsn start) false noMoment timed) ⌝ }
+    ensures preserved { λ _. ⌜ cellOf (now (cell .exit)) ≡ cellBy (lsn start) false noMoment timed ⌝ }
 {
     let new = ProgressCell::new(Lsn(start), timed);
     *cell = cell_words(new);
@@ -25,8 +30,8 @@ pub extern "C" fn rufflesquash_cell_new(start: u64, timed: bool, cell: &mut [u64
 
 // The position.
 #[no_mangle]
-pub extern "C" fn rufflesquash_cell_load(cell: &[u64; 4]) -> u64
-    ensures { λ r. ⌜ r ≡ cellOf (now (cell .entry)) .applied .0 ⌝ }
+pub extern "C" fn rufflesquash_cell_load(cell: &[u64; layout::CELL_WORDS]) -> u64
+    ensures { λ r. ⌜ r ≡ cellPosition (cellOf (now (cell .entry))) .0 ⌝ }
 {
     let c = cell_of(*cell);
     c.load().0
@@ -34,8 +39,8 @@ pub extern "C" fn rufflesquash_cell_load(cell: &[u64; 4]) -> u64
 
 // The pending moment, 0 for none.
 #[no_mangle]
-pub extern "C" fn rufflesquash_cell_pending_since(cell: &[u64; 4]) -> u64
-    ensures { λ r. ⌜ r ≡ cellOf (now (cell .entry)) .«pending_since» .0 ⌝ }
+pub extern "C" fn rufflesquash_cell_pending_since(cell: &[u64; layout::CELL_WORDS]) -> u64
+    ensures { λ r. ⌜ r ≡ cellPending (cellOf (now (cell .entry))) .0 ⌝ }
 {
     let c = cell_of(*cell);
     c.pending_since().0
@@ -43,9 +48,13 @@ pub extern "C" fn rufflesquash_cell_pending_since(cell: &[u64; 4]) -> u64
 
 // A report of a position at a moment; 1 where the signal is new, else 0.
 #[no_mangle]
-pub extern "C" fn rufflesquash_cell_raise(cell: &mut [u64; 4], position: u64, moment: u64) -> u64
+pub extern "C" fn rufflesquash_cell_raise(
+    cell: &mut [u64; layout::CELL_WORDS],
+    position: u64,
+    moment: u64,
+) -> u64
     ensures { λ r. ⌜ (r, now (cell .exit)) ≡ raisedWords (raiseOf (cellOf (now (cell .entry))) (lsn position) (momentOf moment)) ⌝ }
-    ensures kept { λ _. ⌜ cellOf (now (cell .exit)) ≡ raiseOf (cellOf (now (cell .entry))) (lsn position) (momentOf moment) .cell ⌝ }
+    ensures preserved { λ _. ⌜ cellOf (now (cell .exit)) ≡ raiseOf (cellOf (now (cell .entry))) (lsn position) (momentOf moment) .cell ⌝ }
 {
     let before = cell_of(*cell);
     let raised = before.raise(Lsn(position), Moment(moment));
@@ -56,9 +65,9 @@ pub extern "C" fn rufflesquash_cell_raise(cell: &mut [u64; 4], position: u64, mo
 
 // Clears the signal; the position.
 #[no_mangle]
-pub extern "C" fn rufflesquash_cell_take_signal(cell: &mut [u64; 4]) -> u64
+pub extern "C" fn rufflesquash_cell_take_signal(cell: &mut [u64; layout::CELL_WORDS]) -> u64
     ensures { λ r. ⌜ (r, now (cell .exit)) ≡ lookedWords (lookedOf (cellOf (now (cell .entry)))) ⌝ }
-    ensures kept { λ _. ⌜ cellOf (now (cell .exit)) ≡ lookedOf (cellOf (now (cell .entry))) .cell ⌝ }
+    ensures preserved { λ _. ⌜ cellOf (now (cell .exit)) ≡ lookedOf (cellOf (now (cell .entry))) .cell ⌝ }
 {
     let before = cell_of(*cell);
     let looked = before.take_signal();
@@ -70,12 +79,12 @@ pub extern "C" fn rufflesquash_cell_take_signal(cell: &mut [u64; 4]) -> u64
 // A position was sent that was read at a moment; the moment that was pending, 0 for none.
 #[no_mangle]
 pub extern "C" fn rufflesquash_cell_take_pending(
-    cell: &mut [u64; 4],
+    cell: &mut [u64; layout::CELL_WORDS],
     sent: u64,
     loaded_at: u64,
 ) -> u64
     ensures { λ r. ⌜ (r, now (cell .exit)) ≡ reportedWords (reportedOf (cellOf (now (cell .entry))) (lsn sent) (momentOf «loaded_at»)) ⌝ }
-    ensures kept { λ _. ⌜ cellOf (now (cell .exit)) ≡ reportedOf (cellOf (now (cell .entry))) (lsn sent) (momentOf «loaded_at») .cell ⌝ }
+    ensures preserved { λ _. ⌜ cellOf (now (cell .exit)) ≡ reportedOf (cellOf (now (cell .entry))) (lsn sent) (momentOf «loaded_at») .cell ⌝ }
 {
     let before = cell_of(*cell);
     let reported = before.take_pending(Lsn(sent), Moment(loaded_at));
@@ -86,9 +95,9 @@ pub extern "C" fn rufflesquash_cell_take_pending(
 
 // A pending moment from an earlier session: the older one counts.
 #[no_mangle]
-pub extern "C" fn rufflesquash_cell_carry_pending(cell: &mut [u64; 4], since: u64)
-    ensures { λ _. ⌜ now (cell .exit) ≡ progressWords (carriedOf (cellOf (now (cell .entry))) (momentOf since)) ⌝ }
-    ensures kept { λ _. ⌜ cellOf (now (cell .exit)) ≡ carriedOf (cellOf (now (cell .entry))) (momentOf since) ⌝ }
+pub extern "C" fn rufflesquash_cell_carry_pending(cell: &mut [u64; layout::CELL_WORDS], since: u64)
+    ensures { λ _. ⌜ now (cell .exit) ≡ cellWords (carriedOf (cellOf (now (cell .entry))) (momentOf since)) ⌝ }
+    ensures preserved { λ _. ⌜ cellOf (now (cell .exit)) ≡ carriedOf (cellOf (now (cell .entry))) (momentOf since) ⌝ }
 {
     let before = cell_of(*cell);
     let after = before.carry_pending(Moment(since));

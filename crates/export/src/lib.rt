@@ -1,8 +1,9 @@
-// Functions for a host in Rust or C: a run is 48 lent words, bytes are lent slices. No words are refused: any are the words of some run.
-// `kept`: the words at exit stand for the run that the call leaves, so calls over words are calls over runs.
+// Functions for a host in Rust or C: a run is 64 lent words, bytes are lent slices. No words are refused: any are the words of some run.
+// SCOPE 9. Each function converts words, calls one function of a crate below, and converts what that answers.
+// `preserved`: the words at exit stand for the run that the call leaves, so calls over words are calls over runs.
 mod cells;
-mod several;
-mod startup;
+mod client;
+mod server;
 
 ghost use mathlib.Core.Path.{_≡_};
 ghost use lib.ListN.{length};
@@ -11,29 +12,26 @@ ghost use Rattle.lossy.specs.Lossy.{lossyOf};
 ghost use Rattle.lsn.specs.Position.{displayOf, positionOf};
 ghost use Rattle.messages.specs.ErrorText.{errorText};
 ghost use Rattle.messages.specs.Fields.{fieldsOf};
-ghost use Rattle.schedule.specs.NextStep.{nextBy, nextStepOf};
+ghost use Rattle.progress.specs.Progress.{cellPosition};
+ghost use Rattle.schedule.specs.NextStep.{nextStepOf};
 ghost use Rattle.advance.specs.Advance.{advanceOf};
 ghost use Rattle.worker.specs.Answer.{errorPartOf, lent};
 ghost use Rattle.worker.specs.Opening.{alreadyOpenOf, openOf, reportOf};
-ghost use Rattle.worker.specs.Run.{lsn};
+ghost use Rattle.worker.specs.Run.{stateNumber, lsn};
 ghost use Rattle.worker.specs.Step.{stepOf};
-ghost use Rattle.export.specs.NextWords.{nextWords};
-ghost use Rattle.words.specs.Answers.{queueOf, inputOf, steppedWords, openedWords, alreadyOpenWords, errorWords};
-ghost use Rattle.worker.specs.Run.{stateNumber};
+ghost use Rattle.words.specs.Step.{queueOf, inputOf, steppedWords, openedWords, alreadyOpenWords};
 ghost use Rattle.words.specs.Words.{moment as momentOf, settingsOf, metricsWords, lastStatusWords, runOf, wordsOf};
+ghost use Rattle.answers.specs.Next.{nextWords};
+ghost use Rattle.answers.specs.Parts.{errorWords};
+ghost use Rattle.export.specs.Abi.{abi};
+use answers::next::next_words;
+use answers::part::error_words;
+use answers::reply::lossy_reply;
+use answers::reply::parsed_reply;
+use answers::reply::written_reply;
 use lsn::Lsn;
 use moment::Moment;
-use schedule::NextStep;
-use several::four_steps;
-use words::answers::answer_words;
-use words::answers::error_words;
-use words::answers::handed_words;
-use words::answers::input_of;
-use words::answers::lossy_reply;
-use words::answers::parsed_reply;
-use words::answers::queue_of;
-use words::answers::verdict_word;
-use words::answers::written_reply;
+use words::layout;
 use words::run::last_status_of;
 use words::run::last_status_words;
 use words::run::metrics_of;
@@ -43,21 +41,25 @@ use words::run::settings_of;
 use words::run::state_of;
 use words::run::state_word;
 use words::run::words_of;
+use words::step::answer_words;
+use words::step::input_of;
+use words::step::queue_of;
+use words::step::verdict_word;
 
 // Writes the query that opens a stream. Refused, the run's words are as they were.
 #[no_mangle]
 pub extern "C" fn rufflesquash_open(
-    settings: &[u64; 7],
+    settings: &[u64; layout::SETTINGS_WORDS],
     slot: &[u8],
     publications: &[&[u8]],
     position: u64,
     start: u64,
-    run: &mut [u64; 48],
+    run: &mut [u64; layout::RUN_WORDS],
     out: &mut [u8],
     written: &mut u64,
 ) -> u64
     ensures { λ r. ⌜ (r, now (run .exit), now (written .exit), now (out .exit)) ≡ openedWords (now (run .entry)) (openOf (settingsOf (now (settings .entry))) (now (slot .entry)) (now (publications .entry)) (lsn position) (lsn start) (now (out .entry))) ⌝ }
-    ensures kept { λ r. ⌜ (r ≡ 0 → runOf (now (run .exit)) ≡ openOf (settingsOf (now (settings .entry))) (now (slot .entry)) (now (publications .entry)) (lsn position) (lsn start) (now (out .entry)) .run) ⌝ }
+    ensures preserved { λ r. ⌜ (r ≡ 0 → runOf (now (run .exit)) ≡ openOf (settingsOf (now (settings .entry))) (now (slot .entry)) (now (publications .entry)) (lsn position) (lsn start) (now (out .entry)) .run) ⌝ }
 {
     let s = settings_of(*settings);
     let o = worker::session::open(s, slot, publications, Lsn(position), Lsn(start), out);
@@ -74,12 +76,12 @@ pub extern "C" fn rufflesquash_open(
 // The stream has begun already: no query is sent. Refused, the run's words are as they were.
 #[no_mangle]
 pub extern "C" fn rufflesquash_already_open(
-    settings: &[u64; 7],
+    settings: &[u64; layout::SETTINGS_WORDS],
     start: u64,
-    run: &mut [u64; 48],
+    run: &mut [u64; layout::RUN_WORDS],
 ) -> u64
     ensures { λ r. ⌜ (r, now (run .exit)) ≡ alreadyOpenWords (now (run .entry)) (alreadyOpenOf (settingsOf (now (settings .entry))) (lsn start)) ⌝ }
-    ensures kept { λ r. ⌜ (r ≡ 0 → runOf (now (run .exit)) ≡ alreadyOpenOf (settingsOf (now (settings .entry))) (lsn start) .1) ⌝ }
+    ensures preserved { λ r. ⌜ (r ≡ 0 → runOf (now (run .exit)) ≡ alreadyOpenOf (settingsOf (now (settings .entry))) (lsn start) .1) ⌝ }
 {
     let s = settings_of(*settings);
     let o = worker::session::already_open(s, Lsn(start));
@@ -92,10 +94,19 @@ pub extern "C" fn rufflesquash_already_open(
     refusal
 }
 
-// One step. The answer: the refusal's number, taken, written, whether a wait is told, the wait, seven words of the event.
+// The number of the list of words and of these functions.
+#[no_mangle]
+pub extern "C" fn rufflesquash_abi() -> u64
+    ensures { λ r. ⌜ r ≡ abi ⌝ }
+{
+    layout::ABI
+}
+
+// One step. The answer: the refusal's number, taken, written, whether a wait is told, the wait, seven words of the event, whose parts lie in
+// the payload buffer whatever the run's words are.
 #[no_mangle]
 pub extern "C" fn rufflesquash_step(
-    run: &mut [u64; 48],
+    run: &mut [u64; layout::RUN_WORDS],
     moment: u64,
     client_time: i64,
     stop: bool,
@@ -104,23 +115,24 @@ pub extern "C" fn rufflesquash_step(
     unread: &[u8],
     payload: &mut [u8],
     out: &mut [u8],
-    answer: &mut [u64; 12],
+    answer: &mut [u64; layout::ANSWER_WORDS],
 )
     ensures { λ _. ⌜ (now (run .exit), now (answer .exit), now (payload .exit), now (out .exit)) ≡ steppedWords (stepOf (runOf (now (run .entry))) (inputOf moment «client_time» stop queue ended) (lent (now (unread .entry)) (now (payload .entry)) (now (out .entry)))) ⌝ }
-    ensures kept { λ _. ⌜ runOf (now (run .exit)) ≡ stepOf (runOf (now (run .entry))) (inputOf moment «client_time» stop queue ended) (lent (now (unread .entry)) (now (payload .entry)) (now (out .entry))) .run ⌝ }
+    ensures preserved { λ _. ⌜ runOf (now (run .exit)) ≡ stepOf (runOf (now (run .entry))) (inputOf moment «client_time» stop queue ended) (lent (now (unread .entry)) (now (payload .entry)) (now (out .entry))) .run ⌝ }
 {
     let before = run_of(*run);
     let input = input_of(moment, client_time, stop, queue, ended);
     let s = worker::steps::step(before, input, unread, payload, out);
     let after = s.run;
     *run = words_of(after);
-    *answer = answer_words(s);
+    *answer = answer_words(s, payload.len());
 }
 
-// Up to four steps with the same input, until one of them has something to tell; taken is their sum. The answer is a step's.
+// One to four steps with the same input, until one of them has a refusal, an event or bytes to send; taken is their sum. The answer is the
+// last step's.
 #[no_mangle]
 pub extern "C" fn rufflesquash_advance(
-    run: &mut [u64; 48],
+    run: &mut [u64; layout::RUN_WORDS],
     moment: u64,
     client_time: i64,
     stop: bool,
@@ -129,63 +141,41 @@ pub extern "C" fn rufflesquash_advance(
     unread: &[u8],
     payload: &mut [u8],
     out: &mut [u8],
-    answer: &mut [u64; 12],
+    answer: &mut [u64; layout::ANSWER_WORDS],
 )
     ensures { λ _. ⌜ (now (run .exit), now (answer .exit), now (payload .exit), now (out .exit)) ≡ steppedWords (advanceOf (runOf (now (run .entry))) (inputOf moment «client_time» stop queue ended) (lent (now (unread .entry)) (now (payload .entry)) (now (out .entry)))) ⌝ }
-    ensures kept { λ _. ⌜ runOf (now (run .exit)) ≡ advanceOf (runOf (now (run .entry))) (inputOf moment «client_time» stop queue ended) (lent (now (unread .entry)) (now (payload .entry)) (now (out .entry))) .run ⌝ }
+    ensures preserved { λ _. ⌜ runOf (now (run .exit)) ≡ advanceOf (runOf (now (run .entry))) (inputOf moment «client_time» stop queue ended) (lent (now (unread .entry)) (now (payload .entry)) (now (out .entry))) .run ⌝ }
 {
     let before = run_of(*run);
-    let at_hand = advance::at_hand(unread);
-    let q = queue_of(queue);
-    if advance::applies(before, Moment(moment), q, payload.len(), out.len(), at_hand) {
-        let taken = 5 + at_hand.len;
-        wire::store::copy(payload, &unread[5..taken]);
-        *run = words_of(advance::handed(before, Moment(moment), at_hand));
-        *answer = handed_words(*run, taken as u64);
-        return;
-    }
-    four_steps(
-        run,
-        moment,
-        client_time,
-        stop,
-        queue,
-        ended,
-        unread,
-        payload,
-        out,
-        answer,
-    );
+    let input = input_of(moment, client_time, stop, queue, ended);
+    let s = advance::advance(before, input, unread, payload, out);
+    let after = s.run;
+    *run = words_of(after);
+    *answer = answer_words(s, payload.len());
 }
 
 // The consumer has applied all before a position.
 #[no_mangle]
-pub extern "C" fn rufflesquash_report(run: &mut [u64; 48], position: u64, moment: u64)
+pub extern "C" fn rufflesquash_report(
+    run: &mut [u64; layout::RUN_WORDS],
+    position: u64,
+    moment: u64,
+)
     ensures { λ _. ⌜ now (run .exit) ≡ wordsOf (reportOf (runOf (now (run .entry))) (lsn position) (momentOf moment)) ⌝ }
-    ensures kept { λ _. ⌜ runOf (now (run .exit)) ≡ reportOf (runOf (now (run .entry))) (lsn position) (momentOf moment) ⌝ }
+    ensures preserved { λ _. ⌜ runOf (now (run .exit)) ≡ reportOf (runOf (now (run .entry))) (lsn position) (momentOf moment) ⌝ }
 {
     let before = run_of(*run);
     *run = words_of(worker::session::report(before, Lsn(position), Moment(moment)));
 }
 
-fn next_words(next: NextStep) -> [u64; 2]
-    ensures { λ r. ⌜ r ≡ nextWords (nextBy next) ⌝ }
-{
-    match next {
-        NextStep::AtOnce => [0, 0],
-        NextStep::From(m) => [1, m.0],
-        NextStep::OnInput => [2, 0],
-        NextStep::Never => [3, 0],
-    }
-}
-
-// When to step again while nothing new comes: 0 at once, 1 from a moment on, 2 when something comes, 3 never; and the moment.
+// When a step moves next while no byte is unread, the input has not ended, no stop is requested, the queue stays as it is and nothing is
+// reported: 0 at once, 1 from a moment on, 2 when something comes, 3 never; and the moment.
 #[no_mangle]
 pub extern "C" fn rufflesquash_next_step(
-    run: &[u64; 48],
+    run: &[u64; layout::RUN_WORDS],
     payload_len: usize,
     queue: u64,
-    next: &mut [u64; 2],
+    next: &mut [u64; layout::NEXT_WORDS],
 )
     ensures { λ _. ⌜ now (next .exit) ≡ nextWords (nextStepOf (runOf (now (run .entry))) «payload_len» (queueOf queue)) ⌝ }
 {
@@ -196,16 +186,19 @@ pub extern "C" fn rufflesquash_next_step(
 
 // 0 Opening, 1 Turn, 2 Drain, 3 Reading, 4 Waiting, 5 Handling, 6 Offering, 7 Ended.
 #[no_mangle]
-pub extern "C" fn rufflesquash_state(run: &[u64; 48]) -> u64
+pub extern "C" fn rufflesquash_state(run: &[u64; layout::RUN_WORDS]) -> u64
     ensures { λ r. ⌜ r ≡ stateNumber (runOf (now (run .entry)) .state) ⌝ }
 {
     let w = *run;
-    state_word(state_of(w[7]))
+    state_word(state_of(w[layout::RUN_STATE]))
 }
 
 // Events handed on, statuses, replies, stalls, microseconds of stalls, position last confirmed, the server's end last told.
 #[no_mangle]
-pub extern "C" fn rufflesquash_metrics(run: &[u64; 48], counters: &mut [u64; 7])
+pub extern "C" fn rufflesquash_metrics(
+    run: &[u64; layout::RUN_WORDS],
+    counters: &mut [u64; layout::METRICS_WORDS],
+)
     ensures { λ _. ⌜ now (counters .exit) ≡ metricsWords (runOf (now (run .entry)) .metrics) ⌝ }
 {
     let m = metrics_of(*run);
@@ -214,29 +207,37 @@ pub extern "C" fn rufflesquash_metrics(run: &[u64; 48], counters: &mut [u64; 7])
 
 // What a status would confirm now.
 #[no_mangle]
-pub extern "C" fn rufflesquash_position(run: &[u64; 48]) -> u64
-    ensures { λ r. ⌜ r ≡ runOf (now (run .entry)) .progress .applied .0 ⌝ }
+pub extern "C" fn rufflesquash_position(run: &[u64; layout::RUN_WORDS]) -> u64
+    ensures { λ r. ⌜ r ≡ cellPosition (runOf (now (run .entry)) .progress) .0 ⌝ }
 {
     let w = *run;
-    w[19]
+    w[layout::RUN_APPLIED]
 }
 
 // Whether a status was sent, the position that the last one confirmed, its moment.
 #[no_mangle]
-pub extern "C" fn rufflesquash_last_sent(run: &[u64; 48], status: &mut [u64; 3])
+pub extern "C" fn rufflesquash_last_sent(
+    run: &[u64; layout::RUN_WORDS],
+    status: &mut [u64; layout::STATUS_WORDS],
+)
     ensures { λ _. ⌜ now (status .exit) ≡ lastStatusWords (runOf (now (run .entry)) .status) ⌝ }
 {
     let s = last_status_of(*run);
     *status = last_status_words(s);
 }
 
-// Whether a server error ended the run, and how many bytes it has at the payload buffer's front.
+// Whether a server error ended the run, and how many bytes it has at the front of a payload buffer of so many bytes.
 #[no_mangle]
-pub extern "C" fn rufflesquash_error_part(run: &[u64; 48], part: &mut [u64; 2])
-    ensures { λ _. ⌜ now (part .exit) ≡ errorWords (errorPartOf (runOf (now (run .entry)))) ⌝ }
+pub extern "C" fn rufflesquash_error_part(
+    run: &[u64; layout::RUN_WORDS],
+    payload_len: usize,
+    part: &mut [u64; layout::ERROR_WORDS],
+)
+    ensures { λ _. ⌜ now (part .exit) ≡ errorWords (errorPartOf (runOf (now (run .entry)))) «payload_len» ⌝ }
 {
     let r = run_of(*run);
-    *part = error_words(worker::session::error_part(r));
+    let error = worker::session::error_part(r);
+    *part = error_words(error, payload_len);
 }
 
 // The lossy text of bytes, such as a prefix.

@@ -10,7 +10,6 @@ use Rattle.wire.proofs.FieldLaws.{signed-unsigned}
 use Rattle.framing.specs.declared.MessageReader.{MessageReader}
 use Rattle.metrics.specs.declared.Metrics.{Metrics}
 use Rattle.progress.specs.declared.ProgressCell.{ProgressCell}
-use Rattle.progress.specs.Progress.{cell}
 use Rattle.worker.specs.declared.Clock.{Clock}
 use Rattle.worker.specs.declared.Event.{Event}
 use Rattle.worker.specs.declared.Event.the-variants.{Nothing, KeepAlive, Begin, Commit, Message, XLogData, StoppedAt}
@@ -20,8 +19,9 @@ use Rattle.worker.specs.declared.Settings.{Settings}
 use Rattle.worker.specs.declared.State.{State}
 use Rattle.worker.specs.declared.State.the-variants.{Opening, Turn, Drain, Reading, Waiting, Handling, Offering, Ended}
 use Rattle.worker.specs.declared.Whole.{Whole}
+use Rattle.worker.specs.Events.{saidBy}
 use Rattle.worker.specs.Run.{stateNumber, lastStatus, wholeOf, offer, run}
-use Rattle.words.specs.Words.{flagOf, flagWord, byteOf, stateOf, eventOf, partsOf, eventWords, settingsOf, settingsWords, HeaderFits, EventFits, Round-trip}
+use Rattle.words.specs.Words.{flagOf, flagWord, byteOf, stateOf, eventOf, partsOf, eventWords, settingsOf, settingsWords, HeaderFits, EventFits, Cell-round-trip, Reader-round-trip, Round-trip}
 
 flag-back : (b : Bool) → flagOf (flagWord b) ≡ b
 flag-back true = refl
@@ -48,7 +48,7 @@ state-back Ended = refl
 abbrev eventAt : List ℕ → Event
 eventAt w = eventOf (getD w 0 0) (getD w 1 0) (getD w 2 0) (getD w 3 0) (getD w 4 0) (getD w 5 0) (getD w 6 0)
 
-event-back : (e : Event) → EventFits e → eventAt (eventWords e) ≡ e
+event-back : (e : Event) → EventFits e → eventAt (eventWords (saidBy e)) ≡ e
 unfolding eventOf partsOf
 event-back Nothing h = refl
 event-back (KeepAlive end time reply) h = rw (signed-unsigned (half 8) time h, flag-back reply)
@@ -78,14 +78,13 @@ settings-back s = rw (flag-back (s .«has_stop»), flag-back (s .timing), flag-b
 abbrev reader : List ℕ → Bool → MessageReader → MessageReader
 reader header refused x = record { header = header; filled = x .filled; «payload_len» = x .«payload_len»; refused = refused }
 
-reader-back : (x : MessageReader) → HeaderFits (x .header)
-    → reader (bytesOf (x .header)) (flagOf (flagWord (x .refused))) x ≡ x
+pub reader-back : Reader-round-trip
 reader-back x h =
     ap (λ (l : List ℕ). reader l (flagOf (flagWord (x .refused))) x) (header-back (x .header) (h .0) (h .1))
     ∙ ap (λ (b : Bool). reader (x .header) b x) (flag-back (x .refused))
 
-pub progress-back : (p : ProgressCell) → cell (p .applied) (flagOf (flagWord (p .signalled))) (p .«pending_since») (flagOf (flagWord (p .timed))) ≡ p
-progress-back p = rw (flag-back (p .signalled), flag-back (p .timed))
+pub cell-back : Cell-round-trip
+cell-back p = rw (flag-back (p .signalled), flag-back (p .timed))
 
 status-back : (s : LastStatus) → lastStatus (flagOf (flagWord (s .sent))) (s .position) (s .at) ≡ s
 status-back s = rw (flag-back (s .sent))
@@ -94,19 +93,20 @@ whole-back : (w : Whole) → w .tag < 256 → wholeOf (byteOf (w .tag)) (w .len)
 whole-back w h = rw (byte-back (w .tag) h, flag-back (w .«in_wait»))
 
 offer-back : (o : Offer) → EventFits (o .event)
-    → offer (eventAt (eventWords (o .event))) (flagOf (flagWord (o .stalled))) (flagOf (flagWord (o .stops))) (o .reached) ≡ o
+    → offer (eventAt (eventWords (saidBy (o .event)))) (flagOf (flagWord (o .stalled))) (flagOf (flagWord (o .stops))) (o .reached) ≡ o
 offer-back o h = rw (event-back (o .event) h, flag-back (o .stalled), flag-back (o .stops))
 
 -- a run with its parts replaced by equal ones
-run-by : {s s' : Settings} {t t' : State} {x x' : MessageReader} {c : Clock} {p p' : ProgressCell} {l l' : LastStatus} {d : ℕ} {b b' : Bool}
-    {w w' : Whole} {o o' : Offer} {m : Metrics}
-    → s ≡ s' → t ≡ t' → x ≡ x' → p ≡ p' → l ≡ l' → b ≡ b' → w ≡ w' → o ≡ o' → run s t x c p l d b w o m ≡ run s' t' x' c p' l' d b' w' o' m
-run-by es et ex ep el eb ew eo = rw (es, et, ex, ep, el, eb, ew, eo)
+pub run-by : {s s' : Settings} {t t' : State} {x x' : MessageReader} {c c' : Clock} {p p' : ProgressCell} {l l' : LastStatus} {d : ℕ} {b b' : Bool}
+    {w w' : Whole} {o o' : Offer} {m m' : Metrics}
+    → s ≡ s' → t ≡ t' → x ≡ x' → c ≡ c' → p ≡ p' → l ≡ l' → b ≡ b' → w ≡ w' → o ≡ o' → m ≡ m'
+    → run s t x c p l d b w o m ≡ run s' t' x' c' p' l' d b' w' o' m'
+run-by es et ex ec ep el eb ew eo em = rw (es, et, ex, ec, ep, el, eb, ew, eo, em)
 
 pub round-trip : Round-trip
 round-trip r f =
-    run-by (settings-back (r .settings)) (state-back (r .state)) (reader-back (r .reader) (f .header)) (progress-back (r .progress))
-    (status-back (r .status)) (flag-back (r .pending)) (whole-back (r .whole) (f .tag)) (offer-back (r .offer) (f .event))
+    run-by (settings-back (r .settings)) (state-back (r .state)) (reader-back (r .reader) (f .header)) refl (cell-back (r .progress))
+    (status-back (r .status)) (flag-back (r .pending)) (whole-back (r .whole) (f .tag)) (offer-back (r .offer) (f .event)) refl
 
 -- five facts for one
 pub five-bytes : (l : List ℕ) → getD l 0 0 < 256 → getD l 1 0 < 256 → getD l 2 0 < 256 → getD l 3 0 < 256 → getD l 4 0 < 256

@@ -1,4 +1,3 @@
 pub mod Words
-pub mod Answers
 pub mod Cells
-pub mod Startup
+pub mod Step

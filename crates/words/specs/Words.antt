@@ -1,4 +1,5 @@
--- A run as 48 words of 64 bits, and the run that any words stand for. Both are total: no words are refused.
+-- A run as 64 words of 64 bits, and the run that any words stand for. Both are total: no words are refused. SCOPE 9.1, 5.11. Crate `meaning`
+-- says which word is which.
 use Prim.Native.Nat.{ℕ, _<_, _%_, _^_}
 use mathlib.Core.Bool.{Bool, true, false}
 use mathlib.Core.List.{List, [], _∷_, _++_}
@@ -12,7 +13,7 @@ use Rattle.framing.specs.declared.MessageReader.{MessageReader}
 use Rattle.metrics.specs.declared.Metrics.{Metrics}
 use Rattle.moment.specs.declared.Moment.{Moment}
 use Rattle.progress.specs.declared.ProgressCell.{ProgressCell}
-use Rattle.progress.specs.Progress.{cell}
+use Rattle.progress.specs.Progress.{cell, cellPosition, cellSignal, cellPending, cellTiming}
 use Rattle.worker.specs.declared.Settings.{Settings}
 use Rattle.worker.specs.declared.State.{State}
 use Rattle.worker.specs.declared.State.the-variants.{Opening, Turn, Drain, Reading, Waiting, Handling, Offering, Ended}
@@ -23,6 +24,7 @@ use Rattle.worker.specs.declared.LastStatus.{LastStatus}
 use Rattle.worker.specs.declared.Whole.{Whole}
 use Rattle.worker.specs.declared.Offer.{Offer}
 use Rattle.worker.specs.declared.Run.{Run}
+use Rattle.worker.specs.Events.{Said, nothing, keepAlive, begin, commit, message, xlogData, stoppedAt, saidBy}
 use Rattle.worker.specs.Run.{stateNumber, lsn, clock, lastStatus, wholeOf, offer, run}
 
 -- ---- one word
@@ -71,14 +73,15 @@ eventOf kind a b c d e f =
     (pick (eqb kind 3) (Commit (lsn a) (lsn b) (int 8 c))
     (partsOf kind a b c d e f)))
 
-abbrev pub eventWords : Event → List ℕ
-eventWords Nothing = 0 ∷ 0 ∷ 0 ∷ 0 ∷ 0 ∷ 0 ∷ 0 ∷ []
-eventWords (KeepAlive end time reply) = 1 ∷ end .0 ∷ value 8 time ∷ flagWord reply ∷ 0 ∷ 0 ∷ 0 ∷ []
-eventWords (Begin final time xid) = 2 ∷ final .0 ∷ value 8 time ∷ xid ∷ 0 ∷ 0 ∷ 0 ∷ []
-eventWords (Commit position end time) = 3 ∷ position .0 ∷ end .0 ∷ value 8 time ∷ 0 ∷ 0 ∷ 0 ∷ []
-eventWords (Message flag position pf pl cf cl) = 4 ∷ flagWord flag ∷ position .0 ∷ pf ∷ pl ∷ cf ∷ cl ∷ []
-eventWords (XLogData start end time from len) = 5 ∷ start .0 ∷ end .0 ∷ value 8 time ∷ from ∷ len ∷ 0 ∷ []
-eventWords (StoppedAt reached) = 6 ∷ reached .0 ∷ 0 ∷ 0 ∷ 0 ∷ 0 ∷ 0 ∷ []
+-- the words of what an event says; numbers that its kind does not have are 0
+abbrev pub eventWords : Said → List ℕ
+eventWords nothing = 0 ∷ 0 ∷ 0 ∷ 0 ∷ 0 ∷ 0 ∷ 0 ∷ []
+eventWords (keepAlive end time reply) = 1 ∷ end ∷ value 8 time ∷ flagWord reply ∷ 0 ∷ 0 ∷ 0 ∷ []
+eventWords (begin final time xid) = 2 ∷ final ∷ value 8 time ∷ xid ∷ 0 ∷ 0 ∷ 0 ∷ []
+eventWords (commit position end time) = 3 ∷ position ∷ end ∷ value 8 time ∷ 0 ∷ 0 ∷ 0 ∷ []
+eventWords (message flag position pf pl cf cl) = 4 ∷ flagWord flag ∷ position ∷ pf ∷ pl ∷ cf ∷ cl ∷ []
+eventWords (xlogData start end time from len) = 5 ∷ start ∷ end ∷ value 8 time ∷ from ∷ len ∷ 0 ∷ []
+eventWords (stoppedAt reached) = 6 ∷ reached ∷ 0 ∷ 0 ∷ 0 ∷ 0 ∷ 0 ∷ []
 
 -- ---- the parts of a run, each from its words
 
@@ -95,17 +98,28 @@ settingsOf w =
       binary = flagOf (getD w 6 0);
     }
 
+-- a reader of messages has eight words
 abbrev pub headerOf : List ℕ → List ℕ
-headerOf w = byteOf (getD w 8 0) ∷ byteOf (getD w 9 0) ∷ byteOf (getD w 10 0) ∷ byteOf (getD w 11 0) ∷ byteOf (getD w 12 0) ∷ []
+headerOf w = byteOf (getD w 0 0) ∷ byteOf (getD w 1 0) ∷ byteOf (getD w 2 0) ∷ byteOf (getD w 3 0) ∷ byteOf (getD w 4 0) ∷ []
 
 abbrev pub readerOf : List ℕ → MessageReader
-readerOf w = record { header = headerOf w; filled = getD w 13 0; «payload_len» = getD w 14 0; refused = flagOf (getD w 15 0) }
+readerOf w = record { header = headerOf w; filled = getD w 5 0; «payload_len» = getD w 6 0; refused = flagOf (getD w 7 0) }
+
+-- .. which of a run are the words 8 to 15
+abbrev pub readerPart : List ℕ → List ℕ
+readerPart w =
+    getD w 8 0 ∷ getD w 9 0 ∷ getD w 10 0 ∷ getD w 11 0 ∷ getD w 12 0 ∷ getD w 13 0 ∷ getD w 14 0 ∷ getD w 15 0 ∷ []
 
 abbrev pub clockOf : List ℕ → Clock
 clockOf w = clock (moment (getD w 16 0)) (moment (getD w 17 0)) (moment (getD w 18 0))
 
-abbrev pub progressOf : List ℕ → ProgressCell
-progressOf w = cell (lsn (getD w 19 0)) (flagOf (getD w 20 0)) (moment (getD w 21 0)) (flagOf (getD w 22 0))
+-- a progress cell has four words
+abbrev pub cellOf : List ℕ → ProgressCell
+cellOf w = cell (lsn (getD w 0 0)) (flagOf (getD w 1 0)) (moment (getD w 2 0)) (flagOf (getD w 3 0))
+
+-- .. which of a run are the words 19 to 22
+abbrev pub cellPart : List ℕ → List ℕ
+cellPart w = getD w 19 0 ∷ getD w 20 0 ∷ getD w 21 0 ∷ getD w 22 0 ∷ []
 
 abbrev pub lastStatusOf : List ℕ → LastStatus
 lastStatusOf w = lastStatus (flagOf (getD w 23 0)) (lsn (getD w 24 0)) (moment (getD w 25 0))
@@ -133,7 +147,7 @@ metricsOf w =
 -- every list is read, whatever its words are
 abbrev pub runOf : List ℕ → Run
 runOf w =
-    run (settingsOf w) (stateOf (getD w 7 0)) (readerOf w) (clockOf w) (progressOf w) (lastStatusOf w) (getD w 26 0) (flagOf (getD w 27 0))
+    run (settingsOf w) (stateOf (getD w 7 0)) (readerOf (readerPart w)) (clockOf w) (cellOf (cellPart w)) (lastStatusOf w) (getD w 26 0) (flagOf (getD w 27 0))
     (wholeMessageOf w) (offerOf w) (metricsOf w)
 
 -- ---- the words of a run
@@ -152,8 +166,8 @@ readerWords r = headerWords (r .header) ++ (r .filled ∷ r .«payload_len» ∷
 abbrev pub clockWords : Clock → List ℕ
 clockWords c = c .last .0 ∷ c .«wait_began» .0 ∷ c .«stall_began» .0 ∷ []
 
-abbrev pub progressWords : ProgressCell → List ℕ
-progressWords p = p .applied .0 ∷ flagWord (p .signalled) ∷ p .«pending_since» .0 ∷ flagWord (p .timed) ∷ []
+abbrev pub cellWords : ProgressCell → List ℕ
+cellWords p = cellPosition p .0 ∷ flagWord (cellSignal p) ∷ cellPending p .0 ∷ flagWord (cellTiming p) ∷ []
 
 abbrev pub lastStatusWords : LastStatus → List ℕ
 lastStatusWords s = flagWord (s .sent) ∷ s .position .0 ∷ s .at .0 ∷ []
@@ -166,12 +180,16 @@ abbrev pub sevenOf : List ℕ → List ℕ
 sevenOf e = getD e 0 0 ∷ getD e 1 0 ∷ getD e 2 0 ∷ getD e 3 0 ∷ getD e 4 0 ∷ getD e 5 0 ∷ getD e 6 0 ∷ []
 
 abbrev pub offerWords : Offer → List ℕ
-offerWords o = sevenOf (eventWords (o .event)) ++ (flagWord (o .stalled) ∷ flagWord (o .stops) ∷ o .reached .0 ∷ [])
+offerWords o = sevenOf (eventWords (saidBy (o .event))) ++ (flagWord (o .stalled) ∷ flagWord (o .stops) ∷ o .reached .0 ∷ [])
 
 abbrev pub metricsWords : Metrics → List ℕ
 metricsWords m =
     m .«events_forwarded» ∷ m .«feedback_sent» ∷ m .«keepalive_replies» ∷ m .«stall_count» ∷ m .«stall_micros_total» ∷ m .«last_applied_lsn» .0
     ∷ m .«last_wal_end» .0 ∷ []
+
+-- sixteen words that later versions may use
+abbrev pub spare : List ℕ
+spare = 0 ∷ 0 ∷ 0 ∷ 0 ∷ 0 ∷ 0 ∷ 0 ∷ 0 ∷ 0 ∷ 0 ∷ 0 ∷ 0 ∷ 0 ∷ 0 ∷ 0 ∷ 0 ∷ []
 
 abbrev pub wordsOf : Run → List ℕ
 wordsOf r =
@@ -179,13 +197,14 @@ wordsOf r =
     ++ (stateNumber (r .state)
     ∷ (readerWords (r .reader)
     ++ (clockWords (r .clock)
-    ++ (progressWords (r .progress)
+    ++ (cellWords (r .progress)
     ++ (lastStatusWords (r .status)
     ++ (r .drained
     ∷ (flagWord (r .pending)
     ∷ (wholeWords (r .whole)
     ++ (offerWords (r .offer)
-    ++ metricsWords (r .metrics))))))))))
+    ++ (metricsWords (r .metrics)
+    ++ spare))))))))))
 
 -- ---- a run whose numbers have the widths of their types, as every run of a call has; where a word has the number's whole width nothing is asked
 
@@ -206,6 +225,14 @@ pub record Fits (r : Run) : Type 0 where
   pub tag : r .whole .tag < 256
   pub event : EventFits (r .offer .event)
 
--- the words of such a run stand for it
+-- the words of a cell stand for it
+abbrev pub Cell-round-trip : Type 0
+Cell-round-trip = (c : ProgressCell) → cellOf (cellWords c) ≡ c
+
+-- .. those of a reader whose header has five bytes for it
+abbrev pub Reader-round-trip : Type 0
+Reader-round-trip = (x : MessageReader) → HeaderFits (x .header) → readerOf (readerWords x) ≡ x
+
+-- .. and those of such a run for it
 abbrev pub Round-trip : Type 0
 Round-trip = (r : Run) → Fits r → runOf (wordsOf r) ≡ r

@@ -1,19 +1,24 @@
-// An event as its kind and six numbers.
+// An event as its kind and six numbers. SCOPE 9.2, 5.6.
 ghost use mathlib.Core.Path.{_≡_};
+ghost use Prim.Native.Nat.{min};
+ghost use Rattle.worker.specs.Events.{saidBy};
+ghost use Rattle.words.specs.Step.{lengthIn, clipped};
 ghost use Rattle.words.specs.Words.{eventOf, partsOf, eventWords, EventFits};
+use crate::layout;
 use crate::word::flag;
 use crate::word::flag_of;
 use crate::word::low_half;
 use lsn::Lsn;
 use wire::field::of_i64;
 use wire::field::to_i64;
+use wire::store::least;
 use worker::Event;
 
-// Kinds 1 to 3; else those of whole parts.
+// Kinds 1 to 3; the others are those of `parts_of`.
 pub(crate) fn event_of(kind: u64, a: u64, b: u64, c: u64, d: u64, e: u64, f: u64) -> Event
     ensures { λ r. ⌜ r ≡ eventOf kind a b c d e f ⌝ }
 {
-    if kind == 1 {
+    if kind == layout::EVENT_KEEP_ALIVE {
         let server_time = to_i64(b);
         let reply_requested = flag_of(c);
         return Event::KeepAlive {
@@ -22,7 +27,7 @@ pub(crate) fn event_of(kind: u64, a: u64, b: u64, c: u64, d: u64, e: u64, f: u64
             reply_requested,
         };
     }
-    if kind == 2 {
+    if kind == layout::EVENT_BEGIN {
         let commit_time = to_i64(b);
         let xid = low_half(c);
         return Event::Begin {
@@ -31,7 +36,7 @@ pub(crate) fn event_of(kind: u64, a: u64, b: u64, c: u64, d: u64, e: u64, f: u64
             xid,
         };
     }
-    if kind == 3 {
+    if kind == layout::EVENT_COMMIT {
         let commit_time = to_i64(c);
         return Event::Commit {
             lsn: Lsn(a),
@@ -46,7 +51,7 @@ pub(crate) fn event_of(kind: u64, a: u64, b: u64, c: u64, d: u64, e: u64, f: u64
 fn parts_of(kind: u64, a: u64, b: u64, c: u64, d: u64, e: u64, f: u64) -> Event
     ensures { λ r. ⌜ r ≡ partsOf kind a b c d e f ⌝ }
 {
-    if kind == 4 {
+    if kind == layout::EVENT_MESSAGE {
         let transactional = flag_of(a);
         return Event::Message {
             transactional,
@@ -57,7 +62,7 @@ fn parts_of(kind: u64, a: u64, b: u64, c: u64, d: u64, e: u64, f: u64) -> Event
             content_len: f as usize,
         };
     }
-    if kind == 5 {
+    if kind == layout::EVENT_XLOG_DATA {
         let server_time = to_i64(c);
         return Event::XLogData {
             wal_start: Lsn(a),
@@ -67,32 +72,81 @@ fn parts_of(kind: u64, a: u64, b: u64, c: u64, d: u64, e: u64, f: u64) -> Event
             len: e as usize,
         };
     }
-    if kind == 6 {
+    if kind == layout::EVENT_STOPPED_AT {
         return Event::StoppedAt { reached: Lsn(a) };
     }
     Event::Nothing
 }
 
-pub(crate) fn event_words(event: Event) -> [u64; 7]
-    ensures { λ r. ⌜ (r ≡ eventWords event) × EventFits event ⌝ }
+// How long a part is, as far as a buffer of n bytes has it.
+fn length_in(n: usize, from: usize, len: usize) -> usize
+    ensures { λ r. ⌜ r ≡ lengthIn n from len ⌝ }
+{
+    let place = least(from, n);
+    least(len, n - place)
+}
+
+// The event with its parts as far as a payload buffer of n bytes has them: words that no call made may name others. SCOPE 5.11.
+pub(crate) fn clip(n: usize, event: Event) -> Event
+    ensures { λ r. ⌜ saidBy r ≡ clipped n (saidBy event) ⌝ }
 {
     match event {
-        Event::Nothing => [0, 0, 0, 0, 0, 0, 0],
+        Event::Nothing => event,
+        Event::KeepAlive { .. } => event,
+        Event::Begin { .. } => event,
+        Event::Commit { .. } => event,
+        Event::Message {
+            transactional,
+            lsn,
+            prefix_from,
+            prefix_len,
+            content_from,
+            content_len,
+        } => Event::Message {
+            transactional,
+            lsn,
+            prefix_from: least(prefix_from, n),
+            prefix_len: length_in(n, prefix_from, prefix_len),
+            content_from: least(content_from, n),
+            content_len: length_in(n, content_from, content_len),
+        },
+        Event::XLogData {
+            wal_start,
+            wal_end,
+            server_time,
+            from,
+            len,
+        } => Event::XLogData {
+            wal_start,
+            wal_end,
+            server_time,
+            from: least(from, n),
+            len: length_in(n, from, len),
+        },
+        Event::StoppedAt { .. } => event,
+    }
+}
+
+pub(crate) fn event_words(event: Event) -> [u64; 7]
+    ensures { λ r. ⌜ (r ≡ eventWords (saidBy event)) × EventFits event ⌝ }
+{
+    match event {
+        Event::Nothing => [layout::EVENT_NOTHING, 0, 0, 0, 0, 0, 0],
         Event::KeepAlive {
             wal_end: a,
             server_time: b,
             reply_requested: c,
-        } => [1, a.0, of_i64(b), flag(c), 0, 0, 0],
+        } => [layout::EVENT_KEEP_ALIVE, a.0, of_i64(b), flag(c), 0, 0, 0],
         Event::Begin {
             final_lsn: a,
             commit_time: b,
             xid: c,
-        } => [2, a.0, of_i64(b), c as u64, 0, 0, 0],
+        } => [layout::EVENT_BEGIN, a.0, of_i64(b), c as u64, 0, 0, 0],
         Event::Commit {
             lsn: a,
             end_lsn: b,
             commit_time: c,
-        } => [3, a.0, b.0, of_i64(c), 0, 0, 0],
+        } => [layout::EVENT_COMMIT, a.0, b.0, of_i64(c), 0, 0, 0],
         Event::Message {
             transactional: a,
             lsn: b,
@@ -100,14 +154,30 @@ pub(crate) fn event_words(event: Event) -> [u64; 7]
             prefix_len: d,
             content_from: e,
             content_len: f,
-        } => [4, flag(a), b.0, c as u64, d as u64, e as u64, f as u64],
+        } => [
+            layout::EVENT_MESSAGE,
+            flag(a),
+            b.0,
+            c as u64,
+            d as u64,
+            e as u64,
+            f as u64,
+        ],
         Event::XLogData {
             wal_start: a,
             wal_end: b,
             server_time: c,
             from: d,
             len: e,
-        } => [5, a.0, b.0, of_i64(c), d as u64, e as u64, 0],
-        Event::StoppedAt { reached: a } => [6, a.0, 0, 0, 0, 0, 0],
+        } => [
+            layout::EVENT_XLOG_DATA,
+            a.0,
+            b.0,
+            of_i64(c),
+            d as u64,
+            e as u64,
+            0,
+        ],
+        Event::StoppedAt { reached: a } => [layout::EVENT_STOPPED_AT, a.0, 0, 0, 0, 0, 0],
     }
 }

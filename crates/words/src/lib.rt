@@ -1,7 +1,10 @@
-// A run, an event, a cell and what the calls answer as words of 64 bits, for a host; and back from any words. The rules are in specs/.
-pub mod answers;
+// A run, an event, a cell, a reader and what a step answers as words of 64 bits, for a host; and back from any words. SCOPE 9.
+// The rules are in specs/, what each word means in crate `meaning`.
 pub mod cell;
 mod event;
+pub mod layout;
+pub mod names;
+pub mod reader;
 pub mod run;
-pub mod startup;
+pub mod step;
 pub mod word;

@@ -1,18 +1,20 @@
-// A run as 48 words, and the run that any words stand for.
+// A run as 64 words, and the run that any words stand for. SCOPE 9.1, 5.11.
 ghost use mathlib.Core.Path.{_≡_};
 ghost use Rattle.worker.specs.Run.{stateNumber};
-ghost use Rattle.words.specs.Words.{stateOf, settingsOf, readerOf, clockOf, progressOf, lastStatusOf, wholeMessageOf, offerOf, metricsOf, runOf, metricsWords, lastStatusWords, wordsOf, headerWords, HeaderFits};
+ghost use Rattle.words.specs.Words.{stateOf, settingsOf, clockOf, lastStatusOf, wholeMessageOf, offerOf, metricsOf, runOf, metricsWords, lastStatusWords, wordsOf};
+use crate::cell::cell_of;
 use crate::event::event_of;
 use crate::event::event_words;
+use crate::layout;
+use crate::reader::header_words;
+use crate::reader::reader_of;
 use crate::word::byte_of;
 use crate::word::flag;
 use crate::word::flag_of;
 use crate::word::wide;
-use framing::MessageReader;
 use lsn::Lsn;
 use metrics::Metrics;
 use moment::Moment;
-use progress::ProgressCell;
 use worker::Clock;
 use worker::LastStatus;
 use worker::Offer;
@@ -25,19 +27,19 @@ use worker::Whole;
 pub fn state_of(n: u64) -> State
     ensures { λ r. ⌜ r ≡ stateOf n ⌝ }
 {
-    if n == 0 {
+    if n == layout::STATE_OPENING {
         State::Opening
-    } else if n == 1 {
+    } else if n == layout::STATE_TURN {
         State::Turn
-    } else if n == 2 {
+    } else if n == layout::STATE_DRAIN {
         State::Drain
-    } else if n == 3 {
+    } else if n == layout::STATE_READING {
         State::Reading
-    } else if n == 4 {
+    } else if n == layout::STATE_WAITING {
         State::Waiting
-    } else if n == 5 {
+    } else if n == layout::STATE_HANDLING {
         State::Handling
-    } else if n == 6 {
+    } else if n == layout::STATE_OFFERING {
         State::Offering
     } else {
         State::Ended
@@ -48,126 +50,127 @@ pub fn state_word(state: State) -> u64
     ensures { λ r. ⌜ r ≡ stateNumber state ⌝ }
 {
     match state {
-        State::Opening => 0,
-        State::Turn => 1,
-        State::Drain => 2,
-        State::Reading => 3,
-        State::Waiting => 4,
-        State::Handling => 5,
-        State::Offering => 6,
-        State::Ended => 7,
+        State::Opening => layout::STATE_OPENING,
+        State::Turn => layout::STATE_TURN,
+        State::Drain => layout::STATE_DRAIN,
+        State::Reading => layout::STATE_READING,
+        State::Waiting => layout::STATE_WAITING,
+        State::Handling => layout::STATE_HANDLING,
+        State::Offering => layout::STATE_OFFERING,
+        State::Ended => layout::STATE_ENDED,
     }
 }
 
 // Words 0 to 6, which are also what a host hands to opening.
-pub fn settings_of(w: [u64; 7]) -> Settings
+pub fn settings_of(w: [u64; layout::SETTINGS_WORDS]) -> Settings
     ensures { λ r. ⌜ r ≡ settingsOf w ⌝ }
 {
     Settings {
-        status_interval: w[0],
-        idle_wakeup_interval: w[1],
-        max_message_size: w[2] as usize,
-        has_stop: flag_of(w[3]),
-        stop_at_lsn: Lsn(w[4]),
-        timing: flag_of(w[5]),
-        binary: flag_of(w[6]),
+        status_interval: w[layout::SETTINGS_STATUS_INTERVAL_NANOS],
+        idle_wakeup_interval: w[layout::SETTINGS_IDLE_WAKEUP_INTERVAL_NANOS],
+        max_message_size: w[layout::SETTINGS_MAX_MESSAGE_BYTES] as usize,
+        has_stop: flag_of(w[layout::SETTINGS_HAS_STOP]),
+        stop_at_lsn: Lsn(w[layout::SETTINGS_STOP_AT_LSN]),
+        timing: flag_of(w[layout::SETTINGS_TIMING]),
+        binary: flag_of(w[layout::SETTINGS_BINARY]),
     }
 }
 
-fn reader_of(w: [u64; 48]) -> MessageReader
-    ensures { λ r. ⌜ r ≡ readerOf w ⌝ }
-{
-    let header = [
-        byte_of(w[8]),
-        byte_of(w[9]),
-        byte_of(w[10]),
-        byte_of(w[11]),
-        byte_of(w[12]),
-    ];
-    MessageReader {
-        header,
-        filled: w[13] as usize,
-        payload_len: w[14] as usize,
-        refused: flag_of(w[15]),
-    }
-}
-
-fn clock_of(w: [u64; 48]) -> Clock
+fn clock_of(w: [u64; layout::RUN_WORDS]) -> Clock
     ensures { λ r. ⌜ r ≡ clockOf w ⌝ }
 {
     Clock {
-        last: Moment(w[16]),
-        wait_began: Moment(w[17]),
-        stall_began: Moment(w[18]),
+        last: Moment(w[layout::RUN_LAST_MOMENT]),
+        wait_began: Moment(w[layout::RUN_WAIT_BEGAN]),
+        stall_began: Moment(w[layout::RUN_STALL_BEGAN]),
     }
 }
 
-fn progress_of(w: [u64; 48]) -> ProgressCell
-    ensures { λ r. ⌜ r ≡ progressOf w ⌝ }
-{
-    ProgressCell {
-        applied: Lsn(w[19]),
-        signalled: flag_of(w[20]),
-        pending_since: Moment(w[21]),
-        timed: flag_of(w[22]),
-    }
-}
-
-pub fn last_status_of(w: [u64; 48]) -> LastStatus
+pub fn last_status_of(w: [u64; layout::RUN_WORDS]) -> LastStatus
     ensures { λ r. ⌜ r ≡ lastStatusOf w ⌝ }
 {
     LastStatus {
-        sent: flag_of(w[23]),
-        position: Lsn(w[24]),
-        at: Moment(w[25]),
+        sent: flag_of(w[layout::RUN_STATUS_SENT]),
+        position: Lsn(w[layout::RUN_STATUS_POSITION]),
+        at: Moment(w[layout::RUN_STATUS_AT]),
     }
 }
 
-fn whole_of(w: [u64; 48]) -> Whole
+fn whole_of(w: [u64; layout::RUN_WORDS]) -> Whole
     ensures { λ r. ⌜ r ≡ wholeMessageOf w ⌝ }
 {
     Whole {
-        tag: byte_of(w[28]),
-        len: w[29] as usize,
-        in_wait: flag_of(w[30]),
+        tag: byte_of(w[layout::RUN_WHOLE_TAG]),
+        len: w[layout::RUN_WHOLE_LEN] as usize,
+        in_wait: flag_of(w[layout::RUN_WHOLE_IN_WAIT]),
     }
 }
 
-fn offer_of(w: [u64; 48]) -> Offer
+fn offer_of(w: [u64; layout::RUN_WORDS]) -> Offer
     ensures { λ r. ⌜ r ≡ offerOf w ⌝ }
 {
-    let event = event_of(w[31], w[32], w[33], w[34], w[35], w[36], w[37]);
+    let event = event_of(
+        w[layout::RUN_EVENT],
+        w[layout::RUN_EVENT_1],
+        w[layout::RUN_EVENT_2],
+        w[layout::RUN_EVENT_3],
+        w[layout::RUN_EVENT_4],
+        w[layout::RUN_EVENT_5],
+        w[layout::RUN_EVENT_6],
+    );
     Offer {
         event,
-        stalled: flag_of(w[38]),
-        stops: flag_of(w[39]),
-        reached: Lsn(w[40]),
+        stalled: flag_of(w[layout::RUN_STALLED]),
+        stops: flag_of(w[layout::RUN_STOPS]),
+        reached: Lsn(w[layout::RUN_REACHED]),
     }
 }
 
-pub fn metrics_of(w: [u64; 48]) -> Metrics
+pub fn metrics_of(w: [u64; layout::RUN_WORDS]) -> Metrics
     ensures { λ r. ⌜ r ≡ metricsOf w ⌝ }
 {
     Metrics {
-        events_forwarded: w[41],
-        feedback_sent: w[42],
-        keepalive_replies: w[43],
-        stall_count: w[44],
-        stall_micros_total: w[45],
-        last_applied_lsn: Lsn(w[46]),
-        last_wal_end: Lsn(w[47]),
+        events_forwarded: w[layout::RUN_EVENTS_FORWARDED],
+        feedback_sent: w[layout::RUN_FEEDBACK_SENT],
+        keepalive_replies: w[layout::RUN_KEEPALIVE_REPLIES],
+        stall_count: w[layout::RUN_STALL_COUNT],
+        stall_micros_total: w[layout::RUN_STALL_MICROS_TOTAL],
+        last_applied_lsn: Lsn(w[layout::RUN_LAST_APPLIED_LSN]),
+        last_wal_end: Lsn(w[layout::RUN_LAST_WAL_END]),
     }
 }
 
-// Every list of 48 words is some run.
-pub fn run_of(w: [u64; 48]) -> Run
+// Every list of 64 words is some run.
+pub fn run_of(w: [u64; layout::RUN_WORDS]) -> Run
     ensures { λ r. ⌜ r ≡ runOf w ⌝ }
 {
-    let settings = settings_of([w[0], w[1], w[2], w[3], w[4], w[5], w[6]]);
-    let state = state_of(w[7]);
-    let reader = reader_of(w);
+    let settings = settings_of([
+        w[layout::RUN_STATUS_INTERVAL_NANOS],
+        w[layout::RUN_IDLE_WAKEUP_INTERVAL_NANOS],
+        w[layout::RUN_MAX_MESSAGE_BYTES],
+        w[layout::RUN_HAS_STOP],
+        w[layout::RUN_STOP_AT_LSN],
+        w[layout::RUN_TIMING],
+        w[layout::RUN_BINARY],
+    ]);
+    let state = state_of(w[layout::RUN_STATE]);
+    let reader = reader_of([
+        w[layout::RUN_HEADER_0],
+        w[layout::RUN_HEADER_1],
+        w[layout::RUN_HEADER_2],
+        w[layout::RUN_HEADER_3],
+        w[layout::RUN_HEADER_4],
+        w[layout::RUN_FILLED],
+        w[layout::RUN_PAYLOAD_LEN],
+        w[layout::RUN_READER_REFUSED],
+    ]);
     let clock = clock_of(w);
-    let progress = progress_of(w);
+    let progress = cell_of([
+        w[layout::RUN_APPLIED],
+        w[layout::RUN_SIGNALLED],
+        w[layout::RUN_PENDING_SINCE],
+        w[layout::RUN_TIMED],
+    ]);
     let status = last_status_of(w);
     let whole = whole_of(w);
     let offer = offer_of(w);
@@ -179,21 +182,21 @@ pub fn run_of(w: [u64; 48]) -> Run
         clock,
         progress,
         status,
-        drained: w[26],
-        pending: flag_of(w[27]),
+        drained: w[layout::RUN_DRAINED],
+        pending: flag_of(w[layout::RUN_PENDING]),
         whole,
         offer,
         metrics,
     }
 }
 
-pub fn last_status_words(s: LastStatus) -> [u64; 3]
+pub fn last_status_words(s: LastStatus) -> [u64; layout::STATUS_WORDS]
     ensures { λ r. ⌜ r ≡ lastStatusWords s ⌝ }
 {
     [flag(s.sent), s.position.0, s.at.0]
 }
 
-pub fn metrics_words(m: Metrics) -> [u64; 7]
+pub fn metrics_words(m: Metrics) -> [u64; layout::METRICS_WORDS]
     ensures { λ r. ⌜ r ≡ metricsWords m ⌝ }
 {
     [
@@ -207,14 +210,8 @@ pub fn metrics_words(m: Metrics) -> [u64; 7]
     ]
 }
 
-fn header_words(h: [u8; 5]) -> [u64; 5]
-    ensures { λ r. ⌜ (r ≡ headerWords h) × HeaderFits h ⌝ }
-{
-    [wide(h[0]), wide(h[1]), wide(h[2]), wide(h[3]), wide(h[4])]
-}
-
 // A table: the words in their order. They stand for the run that they were made of.
-pub fn words_of(run: Run) -> [u64; 48]
+pub fn words_of(run: Run) -> [u64; layout::RUN_WORDS]
     ensures { λ r. ⌜ (r ≡ wordsOf run) × (runOf r ≡ run) ⌝ }
 {
     let s = run.settings;
@@ -279,5 +276,21 @@ pub fn words_of(run: Run) -> [u64; 48]
         metrics.stall_micros_total,
         metrics.last_applied_lsn.0,
         metrics.last_wal_end.0,
+        0,
+        0,
+        0,
+        0,
+        0,
+        0,
+        0,
+        0,
+        0,
+        0,
+        0,
+        0,
+        0,
+        0,
+        0,
+        0,
     ]
 }

@@ -4,7 +4,7 @@ ghost use Prim.Native.Nat.{_<_, _%_, _^_};
 ghost use Rattle.words.specs.Words.{flagOf, flagWord, byteOf};
 
 // Every word but 0 is true.
-pub(crate) fn flag_of(n: u64) -> bool
+pub fn flag_of(n: u64) -> bool
     ensures { λ r. ⌜ r ≡ flagOf n ⌝ }
 {
     if n == 0 { false } else { true }

@@ -1,4 +1,5 @@
-use Rattle.export.proofs.Laws.{stepped}
+use Rattle.worker.specs.Step.{stepOf}
+use Rattle.export.proofs.Laws.{made}
 use mir.Syntax.{w64}
 use mir.ValLaws.{toZ-ofZ}
 use borrow.Author.Needs.{needs}
@@ -11,7 +12,7 @@ returns c =
     let at-run-of = at-step .before .before .before .before in
     let start = at-run-of .before .before .before .before .before in
     let back = toZ-ofZ w64 (start .args .client-time) (start .fits .client-time) in
-    stepped (at-run-of .run-of .ensures) _ (at-step .step .result) (rw back at (at-step .before .before .before .input-of .ensures)) (at-step .step .ensures) (c .before .words-of .ensures) (c .answer-words .ensures)
+    made (at-run-of .run-of .ensures) stepOf _ (at-step .step .result) (rw back at (at-step .before .before .before .input-of .ensures)) (at-step .step .ensures) (c .before .words-of .ensures) (c .answer-words .ensures)
 
 pub rufflesquash-step-spec : {M : Type 1} → statement M
 rufflesquash-step-spec =

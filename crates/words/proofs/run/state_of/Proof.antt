@@ -1,4 +1,4 @@
--- A known word computes; the last state is behind all tests.
+-- A known word computes; the last state comes after all tests.
 use borrow.Author.Tests.{ne-eqb}
 use Rattle.words.specs.Words.{stateOf}
 use Rattle.words.proofs.run.state_of.Statement.{statement}

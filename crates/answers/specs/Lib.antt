@@ -1,0 +1,5 @@
+pub mod Parts
+pub mod Next
+pub mod Read
+pub mod Fold
+pub mod Kinds

@@ -1,0 +1,24 @@
+// Kinds of refusals by their numbers, and after which of them a new connection may help. SCOPE 7.4.
+ghost use mathlib.Core.Path.{_≡_};
+ghost use Rattle.error.specs.Refusal.{kindAt};
+ghost use Rattle.answers.specs.Kinds.{transientAt};
+use words::layout;
+
+pub fn kind_word(refusal: u64) -> u64
+    ensures { λ r. ⌜ r ≡ kindAt refusal ⌝ }
+{
+    if 255 < refusal {
+        return layout::KIND_NONE;
+    }
+    error::kind_by_number(refusal as u8) as u64
+}
+
+pub fn transient_word(refusal: u64) -> u64
+    ensures { λ r. ⌜ r ≡ transientAt refusal ⌝ }
+{
+    if kind_word(refusal) == layout::KIND_IO {
+        1
+    } else {
+        0
+    }
+}

@@ -1,0 +1,38 @@
+-- What an exported call over the words of a reader or of a query leaves, of what the calls in it answered.
+use mathlib.Core.Path.{_≡_, ap, _∙_}
+use mathlib.Core.Bool.{Bool}
+use mathlib.Core.List.{List}
+use Prim.Native.Nat.{ℕ}
+use Rattle.framing.specs.declared.MessageReader.{MessageReader}
+use Rattle.framing.specs.declared.ReadStep.{ReadStep}
+use Rattle.framing.specs.Read.{Result, saidBy, readOf}
+use Rattle.messages.specs.declared.Field.{Field}
+use Rattle.messages.specs.Fields.{indexed}
+use Rattle.query.specs.declared.simple.SimpleQuery.{SimpleQuery}
+use Rattle.query.specs.declared.simple.Step.{Step}
+use Rattle.query.specs.Fold.{Said, answerOutcome, messageOf}
+use Rattle.words.specs.Words.{readerOf, readerWords}
+use Rattle.answers.specs.Fold.{queryOf, queryWords, foldWords, foldedWords}
+use Rattle.answers.specs.Parts.{fieldWords}
+use Rattle.answers.specs.Read.{readWords, resultWords}
+
+pub read : {r z : MessageReader} → r ≡ z → (setting : ℕ) (u : List ℕ) (e : Bool) (p : List ℕ) (x : ReadStep) {q ws a : List ℕ}
+    → (saidBy (x .answer), x .reader, x .taken, q) ≡ readOf setting r u e p
+    → (ws ≡ readerWords (x .reader)) × (readerOf ws ≡ x .reader)
+    → a ≡ readWords (saidBy (x .answer)) (x .taken)
+    → ((ws, a, q) ≡ resultWords (readOf setting z u e p)) × (readerOf ws ≡ readOf setting z u e p .1)
+read {r} {z} pr setting u e p x {q} h pw pa =
+    let g : (saidBy (x .answer), x .reader, x .taken, q) ≡ readOf setting z u e p = h ∙ ap (λ (y : MessageReader). readOf setting y u e p) pr in
+    (rw (← g, pw .0, pa), pw .1 ∙ ap (λ (y : Result). y .1) g)
+
+pub folded : {r z : SimpleQuery} → r ≡ z → (tag : ℕ) (payload error : List ℕ) (x : Step) {q ws a : List ℕ}
+    → (x .query, answerOutcome (x .answer), q) ≡ messageOf r tag payload error
+    → (ws ≡ queryWords (x .query)) × (queryOf ws ≡ x .query)
+    → a ≡ foldWords (answerOutcome (x .answer))
+    → ((ws, a, q) ≡ foldedWords (messageOf z tag payload error)) × (queryOf ws ≡ messageOf z tag payload error .0)
+folded {r} {z} pr tag payload error x {q} h pw pa =
+    let g : (x .query, answerOutcome (x .answer), q) ≡ messageOf z tag payload error = h ∙ ap (λ (y : SimpleQuery). messageOf y tag payload error) pr in
+    (rw (← g, pw .0, pa), pw .1 ∙ ap (λ (y : SimpleQuery × Said × List ℕ). y .0) g)
+
+pub field-of : (i : ℕ) {f : Field} {fs gs : List Field} {ws : List ℕ} → fs ≡ gs → f ≡ indexed fs i → ws ≡ fieldWords f → ws ≡ fieldWords (indexed gs i)
+field-of i e h pw = pw ∙ ap fieldWords (h ∙ ap (λ (l : List Field). indexed l i) e)
