@@ -505,7 +505,7 @@ fn stop_positions(add: Add) {
             }
         }
     }
-    // document 01's: Begin 0xFF goes on, Begin 0x100 stops
+    // SCOPE 11.2's: Begin 0xFF goes on, Begin 0x100 stops
     let mut s = offered(&[&data(1, 2, 3, &begin(0xFF, 5, 6)), &data(1, 2, 3, &begin(0x100, 5, 7)), &notice(0)]);
     s.settings.stop_at = Some(0x100);
     s.steps(&[at(1), at(1), at(1), at(1), at(1), at(1), at(1)]);
@@ -582,7 +582,7 @@ fn reports(add: Add) {
 fn timings(add: Add) {
     for timing in [true, false] {
         for moment in [0, 1, 499, 500, 501, u64::MAX] {
-            // before the first status, and behind it
+            // before the first status, and after it
             let mut s = Script::new(&[&keepalive(0x90, 5, 1)]);
             s.settings.timing = timing;
             s.report(0x20, moment).report(0x21, moment / 2).step(at(500)).report(0x30, moment);
@@ -599,7 +599,7 @@ fn timings(add: Add) {
             add(&s);
         }
     }
-    // one waiting time, at the status that confirms the rise; the idle statuses behind it tell none
+    // one waiting time, at the status that confirms the rise; the idle statuses after it tell none
     let mut s = waiting(&[]);
     s.settings.timing = true;
     s.report(0x20, 3).steps(&[at(2).unread(0), at(1_001), at(1_002), at(6_003), at(6_004), at(6_005), at(11_006)]);
@@ -619,7 +619,7 @@ fn intervals(add: Add) {
 }
 
 fn buffers(add: Add) {
-    // limits of 0, exact ones, and buffers that are longer: bytes behind the filled mark are those of older messages
+    // limits of 0, exact ones, and buffers that are longer: bytes after the filled mark are those of older messages
     for (limit, payload) in [(0, 0), (0, 7), (10, 10), (10, 64), (18, 18), (18, 19), (40, 41), (u64::MAX, 100), (65_536, 65_536), (17, 30)] {
         let mut s = Script::new(&[&notice(0), &notice(10), &keepalive(0x90, 5, 0), &data(1, 2, 3, b"Iwording"), &notice(2), &notice(17)]);
         (s.settings.limit, s.payload) = (limit, (payload, 0xEE));

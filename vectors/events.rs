@@ -1,4 +1,4 @@
-//! Makes what the programs `events` and `streams` must print, from an independent reading of document 01 (model.rs). The streams' own
+//! Makes what the programs `events` and `streams` must print, from an independent reading of SCOPE 6 and 11.4 (model.rs). The streams' own
 //! .events files, which come with the recorded bytes, must say the same.
 
 use crate::model::{Event, Input, Queue, Run, Settings, State, MOST_INTERVAL};
@@ -16,7 +16,7 @@ fn line(event: &Event) -> String {
     }
 }
 
-/// Already open, the queue free, no stop position; the input ends behind its last byte.
+/// Already open, the queue free, no stop position; the input ends after its last byte.
 fn events(bytes: &[u8]) -> String {
     let settings = Settings { status: MOST_INTERVAL, idle: MOST_INTERVAL, limit: 65_536, stop_at: None, timing: false, binary: false };
     let mut run = Run::new(settings, 0, State::Turn);
@@ -35,7 +35,7 @@ fn events(bytes: &[u8]) -> String {
 }
 
 pub fn all(folder: &Path) {
-    // document 01's example
+    // the example of SCOPE 11.4
     let example = [&[0x64, 0, 0, 0, 0x16, 0x6B][..], &[0; 7], &[0x10], &[0; 9]].concat();
     assert_eq!(events(&example), "K 0/10 0 0\nEND 8\n");
     std::fs::write(folder.join("events-stdin"), &example).unwrap();

@@ -214,7 +214,7 @@ fn displays(v: &mut Vectors, draw: &mut Draw) {
 }
 
 fn lossy_texts(v: &mut Vectors, draw: &mut Draw) {
-    // the Unicode Standard, section 3.9: Tables 3-8 to 3-11, and the examples of document 01
+    // the Unicode Standard, section 3.9: Tables 3-8 to 3-11, and the examples of SCOPE 2.6
     let standard: [&[u8]; 6] = [
         &[0xC0, 0xAF, 0xE0, 0x80, 0xBF, 0xF0, 0x81, 0x82, 0x41],
         &[0xED, 0xA0, 0x80, 0xED, 0xBF, 0xBF, 0xED, 0xAF, 0x41],
@@ -317,11 +317,21 @@ fn errors(v: &mut Vectors, draw: &mut Draw) {
     for letter in 0..=255u8 {
         v.error(&[field(letter, b"value"), vec![0]].concat());
     }
+    pairs_of_letters(v);
     odd_errors(v);
     random_errors(v, draw);
 }
 
-/// Empty values, repeated letters, what stands behind the end, cut fields, ill-formed text.
+/// Each known letter before the next one, both with values of their own, so that no two can be taken for each other; then each with no value.
+fn pairs_of_letters(v: &mut Vectors) {
+    for (i, letter) in LETTERS.iter().enumerate() {
+        let next = LETTERS[(i + 1) % LETTERS.len()];
+        v.error(&[field(*letter, &[b'a' + i as u8]), field(next, b"next"), vec![0]].concat());
+        v.error(&[field(*letter, b""), field(next, b""), vec![0]].concat());
+    }
+}
+
+/// Empty values, repeated letters, what stands after the end, cut fields, ill-formed text.
 fn odd_errors(v: &mut Vectors) {
     let cases: Vec<Vec<u8>> = vec![
         vec![],
@@ -333,7 +343,7 @@ fn odd_errors(v: &mut Vectors) {
         [field(b'M', b"first"), field(b'M', b"second")].concat(),
         [field(b'M', b"first"), field(b'C', b"00000"), field(b'M', b"")].concat(),
         [field(b'C', b"57P01"), vec![b'M', b'c', b'u', b't']].concat(),
-        [field(b'M', b"kept"), vec![0], field(b'M', b"behind the end")].concat(),
+        [field(b'M', b"kept"), vec![0], field(b'M', b"after the end")].concat(),
         [field(b'M', &[0xE2, 0x82]), field(b'C', &[0xFF, 0x41])].concat(),
         [field(b'M', "Übersetzung fehlt".as_bytes()), field(b'C', b"P0001"), vec![0]].concat(),
         vec![b'M'],
@@ -389,11 +399,34 @@ fn name_lists(v: &mut Vectors, draw: &mut Draw) {
     v.names(&[b"captions_de", b"captions_pl", "captions_ελ".as_bytes()]);
     v.names(&[b"a,b", b"c"]);
     v.names(&[b"\0", b"\xFF'"]);
-    let pool: [&[u8]; 6] = [b"", b"a", b"'", b"it's", b",", b"''''"];
+    // of all quotes only the single one is doubled
+    for b in b' '..=b'`' {
+        v.names(&[&[b]]);
+    }
+    v.names(&[b"a\"b", b"\"", b"c\\d`'"]);
+    let pool: [&[u8]; 8] = [b"", b"a", b"'", b"it's", b",", b"''''", b"\"", b"\\"];
     for _ in 0..60 {
         let n = draw.below(5);
         let names: Vec<&[u8]> = (0..n).map(|_| *draw.pick(&pool)).collect();
         v.names(&names);
+    }
+}
+
+/// Every refusal that a kind's line can begin with is reached, and each that a reader alone can answer. 25 is the program `too_long`'s.
+fn refusals_reached(lines: &str) {
+    let readers = [("p", 22..=24), ("a", 21..=21), ("c", 10..=13), ("b", 14..=18), ("r", 20..=20)];
+    let writers = ["d", "l", "e", "o", "q", "y", "t", "z", "x", "s"].map(|kind| (kind, 4..=4));
+    for (kind, numbers) in readers.into_iter().chain(writers) {
+        for n in numbers.chain([0]) {
+            let start = format!("{kind} {n}");
+            assert!(lines.lines().any(|l| l == start || l.starts_with(&(start.clone() + " "))), "no record reaches {start}");
+        }
+    }
+    for n in [3, 6, 7, 8, 9] {
+        assert!(lines.lines().any(|l| l.starts_with("g ") && l.contains(&format!(" R {n} "))), "no reader answers {n}");
+    }
+    for n in [6, 7, 20] {
+        assert!(lines.lines().any(|l| l.starts_with("m ") && l.ends_with(&format!(" {n}"))), "no query ends with {n}");
     }
 }
 
@@ -414,6 +447,7 @@ fn main() {
     // an unknown kind ends the program
     v.input.extend([b'?', 0, 0, 0, 0, 0, 0, 0, 0, 0]);
     v.lines.push_str("BAD\n");
+    refusals_reached(&v.lines);
     assert!(v.input.len().max(v.lines.len()) < 1_000_000, "{} and {} bytes", v.input.len(), v.lines.len());
     std::fs::write(&args[1], &v.input).unwrap();
     std::fs::write(&args[2], &v.lines).unwrap();

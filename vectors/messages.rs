@@ -298,6 +298,14 @@ fn queries(v: &mut Vectors) {
             v.query(&bytes[..n]);
         }
     }
+    // every tag, before a row and the end, with a payload that is a row and an error's fields at once
+    for tag in 0..=255u8 {
+        v.query(&[&framed(tag, b"\0\x01\0\0\0\x04Mx\0\0"), &two[..], &ready].concat());
+    }
+    // an empty payload under each tag that plays a part
+    for tag in *b"DEZ" {
+        v.query(&[&framed(tag, b"")[..], &two, &ready].concat());
+    }
 }
 
 fn writers(v: &mut Vectors, draw: &mut Draw) {
@@ -355,8 +363,18 @@ fn streams(v: &mut Vectors, draw: &mut Draw) {
         v.reads(100, true, 65_535, &bad[..n], 120, 0xFF);
     }
     v.reads(100, true, 5, &mixed, 99, 0x01);
-    v.reads(10, false, 4, &framed(b'd', &[7; 10]), 10, 0);
-    v.reads(10, false, 4, &framed(b'd', &[7; 11]), 10, 0);
+    // at a limit and one above it
+    for limit in [10u32, 999, 1_000, 1_001, 4_096] {
+        for n in [limit, limit + 1] {
+            v.reads(limit, false, 4_096, &framed(b'd', &vec![7; n as usize]), limit as usize, 0);
+        }
+        // a buffer that is one short
+        v.reads(limit, true, 4_096, &framed(b'd', &[7; 10]), limit as usize - 1, 0);
+    }
+    // settings above 2^30 count as 2^30, for which the buffer is short
+    for setting in [65_537u32, 1 << 30, (1 << 30) + 1] {
+        v.reads(setting, true, 7, &mixed, 65_536, 3);
+    }
     for name in stream_files() {
         let bytes = std::fs::read(name).unwrap();
         let bytes = &bytes[..bytes.len().min(65_529)];

@@ -112,7 +112,7 @@ fn script(draw: &mut Draw) -> Script {
     s
 }
 
-/// Two calls behind the end are enough.
+/// Two calls after the end are enough.
 fn end_soon(s: &mut Script) {
     let lines = quietly(|| s.lines());
     let end = lines.lines().skip(1).position(|line| line.contains(" ENDED "));

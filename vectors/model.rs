@@ -1,4 +1,5 @@
-//! A run, read off document 01: one function for each row of the step table. What a row's tests found is counted (coverage.rs).
+//! A run, read off SCOPE 6 (01, "Events and confirmations"): one function for each row of the step table. What a row's tests found is counted
+//! (coverage.rs).
 
 use crate::coverage::{seen, seen_in};
 use crate::protocol::{boundary_of, copy_data_of, framed, Boundary, CopyData, Reader, Told};

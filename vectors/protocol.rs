@@ -1,5 +1,5 @@
 //! The messages, read off the PostgreSQL documentation ("Message Formats", "Streaming Replication Protocol", "Logical Replication Message
-//! Formats") and document 01.
+//! Formats") and SCOPE 3.
 
 pub fn framed(tag: u8, payload: &[u8]) -> Vec<u8> {
     [&[tag][..], &(payload.len() as u32 + 4).to_be_bytes(), payload].concat()

@@ -1,10 +1,11 @@
-//! Makes the scripts that the program `replay` is run on, and the lines that it must print, from an independent reading of document 01
+//! Makes the scripts that the program `replay` is run on, and the lines that it must print, from an independent reading of SCOPE 5 to 7
 //! (model.rs); and likewise for the programs `events`, `streams` and `too_long`. See README.md beside this file.
 //!
 //! Use: replay FOLDER, where PROGRAM-stdin and PROGRAM-stdout are written, and how often each test was reached
 
 mod cases;
 mod coverage;
+mod edges;
 mod events;
 mod mixed;
 mod model;
@@ -40,7 +41,7 @@ fn recorded(v: &mut Vectors) -> usize {
     scripts
 }
 
-/// An unknown letter in a call's place ends the program behind the lines already due.
+/// An unknown letter in a call's place ends the program after the lines already due.
 fn malformed(v: &mut Vectors) {
     let mut script = Script::new(&[]);
     script.steps(&[at(1), at(2)]);
@@ -73,4 +74,5 @@ fn main() {
     println!("vectors: replay, {scripts} scripts ({told} of cases, {recorded} recorded), {lines} lines, {tests} tests reached");
     events::all(&folder);
     std::fs::write(folder.join("too_long-stdout"), too_long::lines()).unwrap();
+    std::fs::write(folder.join("edges-stdout"), edges::lines()).unwrap();
 }

@@ -1,14 +1,18 @@
 // Reads records from standard input to its end and prints the line of each.
 mod boundaries;
 mod kinds;
+mod names;
 mod reader;
-mod records;
+mod readers;
 mod rows;
+mod session;
+mod shown;
 mod writers;
 
 ghost use mathlib.Core.Path.{_≡_};
 ghost use lib.ListN.{length};
-use wire::field::U32Field;
+use lines::fields;
+use wire::store::least;
 
 // A line's longest part is the hexadecimal of the lossy text of 65,536 bytes.
 fn line_buffer() -> [u8; 524288]
@@ -17,39 +21,70 @@ fn line_buffer() -> [u8; 524288]
     [0; 524288]
 }
 
-fn number_at(head: &[u8], at: usize) -> usize {
-    match wire::field::read_u32(head, at) {
-        U32Field::Value(v) => v as usize,
-        U32Field::Cut => usize::MAX,
+// What a record begins with: its kind, how long its output is, the byte that fills it, and how long its input is.
+struct Head {
+    kind: u8,
+    room: usize,
+    fill: u8,
+    input: usize,
+}
+
+fn head_of(head: &[u8]) -> Head {
+    Head {
+        kind: fields::byte(head, 0),
+        room: fields::word(head, 1),
+        fill: fields::byte(head, 5),
+        input: fields::word(head, 6),
     }
 }
 
-fn byte_at(head: &[u8], at: usize) -> u8 {
-    if at < head.len() { head[at] } else { 0 }
+fn is_bounded(h: Head) -> bool {
+    if 65536 < h.room {
+        return false;
+    }
+    h.input <= 65536
 }
 
-// The line of a record of which the head was read, or 0 where it is malformed.
+fn read_whole(s: &mut [u8]) -> bool {
+    let got = io::read_full(0, s);
+    got == s.len()
+}
+
+// The line of a record whose input was read. The output has at least the length of any record's.
+fn with_output(h: Head, input: &[u8], out: &mut [u8], line: &mut [u8]) -> usize {
+    let room = least(h.room, out.len());
+    lines::fill(&mut out[0..room], h.fill);
+    kinds::line_of(h.kind, input, &mut out[0..room], line)
+}
+
+fn with_input(h: Head, input: &mut [u8], out: &mut [u8], line: &mut [u8]) -> usize {
+    let n = least(h.input, input.len());
+    if !read_whole(&mut input[0..n]) {
+        return 0;
+    }
+    with_output(h, &input[0..n], out, line)
+}
+
+// The length of the line of a record whose head was read, or 0 where it is malformed.
 fn answer(head: &[u8], input: &mut [u8], out: &mut [u8], line: &mut [u8]) -> usize {
-    let room = number_at(head, 1);
-    let n = number_at(head, 6);
-    if 65536 < room {
+    let h = head_of(head);
+    if !is_bounded(h) {
         return 0;
     }
-    if 65536 < n {
-        return 0;
+    with_input(h, input, out, line)
+}
+
+fn bad() -> bool {
+    io::write_all(1, b"BAD\n");
+    false
+}
+
+// A line of no byte is that of a malformed record.
+fn told(line: &[u8], n: usize) -> bool {
+    if n == 0 {
+        return bad();
     }
-    if out.len() < room {
-        return 0;
-    }
-    if input.len() < n {
-        return 0;
-    }
-    let got = io::read_full(0, &mut input[0..n]);
-    if got < n {
-        return 0;
-    }
-    lines::fill(&mut out[0..room], byte_at(head, 5));
-    kinds::line_of(byte_at(head, 0), &input[0..n], &mut out[0..room], line)
+    lines::print(line, n)
 }
 
 // One record; whether to go on.
@@ -59,18 +94,10 @@ fn one_record(head: &mut [u8], input: &mut [u8], out: &mut [u8], line: &mut [u8]
         return false;
     }
     if got < head.len() {
-        io::write_all(1, b"BAD\n");
-        return false;
+        return bad();
     }
     let n = answer(head, input, out, line);
-    if n == 0 {
-        io::write_all(1, b"BAD\n");
-        return false;
-    }
-    if line.len() < n {
-        return false;
-    }
-    io::write_all(1, &line[0..n])
+    told(line, n)
 }
 
 fn run(head: &mut [u8], input: &mut [u8], out: &mut [u8], line: &mut [u8]) {

@@ -1,9 +1,7 @@
 // A reader on its own, fed by pieces.
 use framing::Answer;
 use framing::MessageReader;
-use wire::field::U8Field;
-use wire::field::U16Field;
-use wire::field::U32Field;
+use lines::fields;
 use wire::store::least;
 
 // The reader, how many bytes were taken, what is left of the piece that is offered, where the line goes on, whether reading does, and whether a
@@ -26,19 +24,23 @@ fn piece(left: usize, size: usize) -> usize {
     if left == 0 { size } else { left }
 }
 
+fn whole(line: &mut [u8], at: usize, tag: u8, n: usize) -> usize {
+    let a = wire::store::place(line, at, b" W");
+    let b = lines::number(line, a, tag as u64);
+    lines::number(line, b, n as u64)
+}
+
+fn refused(line: &mut [u8], at: usize, refusal: u8) -> usize {
+    let a = wire::store::place(line, at, b" R");
+    lines::number(line, a, refusal as u64)
+}
+
 // What a read answered, where it does not ask for more.
 fn told(line: &mut [u8], at: usize, answer: Answer) -> usize {
     match answer {
         Answer::More => at,
-        Answer::Whole(tag, n) => {
-            let a = wire::store::place(line, at, b" W");
-            let b = lines::number(line, a, tag as u64);
-            lines::number(line, b, n as u64)
-        }
-        Answer::Refused(r) => {
-            let a = wire::store::place(line, at, b" R");
-            lines::number(line, a, r.number() as u64)
-        }
+        Answer::Whole(tag, n) => whole(line, at, tag, n),
+        Answer::Refused(r) => refused(line, at, r.number()),
     }
 }
 
@@ -70,13 +72,13 @@ fn one_read(
     let taken = least(s.taken, n);
     let answer = s.answer;
     let next = s.reader;
-    let behind = told(line, f.line, answer);
+    let after = told(line, f.line, answer);
     let go = goes_on(answer);
     Feed {
         reader: next,
         at: at + taken,
         left: less(left, taken),
-        line: behind,
+        line: after,
         go,
         refused: !go,
     }
@@ -88,6 +90,17 @@ fn ended(f: Feed) -> Feed {
     g
 }
 
+fn begun() -> Feed {
+    Feed {
+        reader: MessageReader::new(),
+        at: 0,
+        left: 0,
+        line: 1,
+        go: true,
+        refused: false,
+    }
+}
+
 // Every read takes a byte, so there are no more reads than bytes; the last turn meets the end.
 fn feed_all(
     line: &mut [u8],
@@ -96,15 +109,7 @@ fn feed_all(
     bytes: &[u8],
     payload: &mut [u8],
 ) -> Feed {
-    let at = wire::store::place(line, 0, b"g");
-    let mut f = Feed {
-        reader: MessageReader::new(),
-        at: 0,
-        left: 0,
-        line: at,
-        go: true,
-        refused: false,
-    };
+    let mut f = begun();
     let mut turns = bytes.len() as u64 + 1;
     while turns > 0 {
         f = one_read(line, setting, size, bytes, f, payload);
@@ -113,39 +118,49 @@ fn feed_all(
     f
 }
 
-fn finish(line: &mut [u8], at: usize, payload: &[u8]) -> usize {
-    let a = lines::number(line, at, lines::sum(payload));
-    lines::end(line, a)
+// A last read, with the input's end, where the record asks for it and no refusal came.
+fn last(line: &mut [u8], setting: usize, ends: bool, f: Feed, payload: &mut [u8]) -> usize {
+    if !ends {
+        return f.line;
+    }
+    if f.refused {
+        return f.line;
+    }
+    let reader = f.reader;
+    let s = reader.read(setting, b"", true, payload);
+    let answer = s.answer;
+    told(line, f.line, answer)
+}
+
+fn fed(
+    line: &mut [u8],
+    setting: usize,
+    ends: bool,
+    size: usize,
+    bytes: &[u8],
+    payload: &mut [u8],
+) -> usize {
+    let f = feed_all(line, setting, size, bytes, payload);
+    let a = last(line, setting, ends, f, payload);
+    lines::number(line, a, lines::sum(payload))
 }
 
 // A limit setting, whether the input ends at last, the size of a piece, and the server's bytes.
-pub(crate) fn reads(line: &mut [u8], input: &[u8], payload: &mut [u8]) -> usize {
-    let U32Field::Value(setting) = wire::field::read_u32(input, 0) else {
-        return 0;
-    };
-    let U8Field::Value(ends) = wire::field::read_u8(input, 4) else {
-        return 0;
-    };
-    let U16Field::Value(size) = wire::field::read_u16(input, 5) else {
-        return 0;
-    };
-    if size == 0 {
-        return 0;
-    }
+pub(crate) fn after_fields(line: &mut [u8], input: &[u8], payload: &mut [u8]) -> usize {
     if input.len() < 7 {
         return 0;
     }
-    let bytes = &input[7..];
-    let f = feed_all(line, setting as usize, size as usize, bytes, payload);
-    if ends == 0 {
-        return finish(line, f.line, payload);
+    let size = fields::half(input, 5);
+    if size == 0 {
+        return 0;
     }
-    if f.refused {
-        return finish(line, f.line, payload);
-    }
-    let reader = f.reader;
-    let s = reader.read(setting as usize, &bytes[0..0], true, payload);
-    let answer = s.answer;
-    let a = told(line, f.line, answer);
-    finish(line, a, payload)
+    let ends = fields::byte(input, 4) != 0;
+    fed(
+        line,
+        fields::word(input, 0),
+        ends,
+        size,
+        &input[7..],
+        payload,
+    )
 }

@@ -1,72 +1,111 @@
-// The writers of client messages, and of names.
-use crate::records;
+// Kinds of records whose line is a writer's: the refusal, how many bytes were written, the sum of the output, and the bytes.
+use crate::names;
 use error::Written;
+use lines::fields;
+use lossy::Lossy;
 use lsn::Lsn;
-use wire::field::I32Field;
-use wire::field::I64Field;
-use wire::field::U8Field;
-use wire::field::U16Field;
-use wire::field::U64Field;
 
-pub(crate) fn written(line: &mut [u8], kind: u8, w: Written, out: &[u8]) -> usize {
+// What a writer answered, or that the record is malformed.
+pub(crate) struct Answer {
+    pub(crate) good: bool,
+    pub(crate) refusal: u8,
+    pub(crate) count: usize,
+}
+
+fn wrote(count: usize) -> Answer {
+    Answer {
+        good: true,
+        refusal: 0,
+        count,
+    }
+}
+
+fn refused(refusal: u8) -> Answer {
+    Answer {
+        good: true,
+        refusal,
+        count: 0,
+    }
+}
+
+pub(crate) fn malformed() -> Answer {
+    Answer {
+        good: false,
+        refusal: 0,
+        count: 0,
+    }
+}
+
+pub(crate) fn written(w: Written) -> Answer {
     match w {
-        Written::Wrote(n) => records::writer(line, kind, 0, n, out),
-        Written::Refused(r) => records::writer(line, kind, r.number(), 0, out),
+        Written::Wrote(n) => wrote(n),
+        Written::Refused(r) => refused(r.number()),
     }
 }
 
-// A position, a client time and a reply byte: 17 bytes.
-pub(crate) fn status(line: &mut [u8], input: &[u8], out: &mut [u8]) -> usize {
+fn shown(w: Lossy) -> Answer {
+    match w {
+        Lossy::Wrote(n) => wrote(n),
+        Lossy::Refused(r) => refused(r.number()),
+    }
+}
+
+fn of_text(kind: u8, input: &[u8], out: &mut [u8]) -> Answer {
+    match kind {
+        b'q' => written(frontend::write_query(input, out)),
+        b'y' => written(frontend::write_copy_data(input, out)),
+        b'l' => shown(lossy::write_lossy(input, out)),
+        _ => shown(messages::parse_error_response(input, out)),
+    }
+}
+
+fn of_nothing(kind: u8, out: &mut [u8]) -> Answer {
+    if kind == b'z' {
+        return written(frontend::write_copy_done(out));
+    }
+    written(frontend::write_terminate(out))
+}
+
+fn display(input: &[u8], out: &mut [u8]) -> Answer {
+    if input.len() != 8 {
+        return malformed();
+    }
+    let position = Lsn::from_u64(fields::long(input, 0));
+    written(position.display(out))
+}
+
+// A position, a client time and a reply byte.
+fn status(input: &[u8], out: &mut [u8]) -> Answer {
     if input.len() != 17 {
-        return 0;
+        return malformed();
     }
-    let U64Field::Value(position) = wire::field::read_u64(input, 0) else {
-        return 0;
-    };
-    let I64Field::Value(time) = wire::field::read_i64(input, 8) else {
-        return 0;
-    };
-    let U8Field::Value(reply) = wire::field::read_u8(input, 16) else {
-        return 0;
-    };
-    let w = frontend::write_status_update(Lsn::from_u64(position), time, reply != 0, out);
-    written(line, b't', w, out)
+    let position = Lsn::from_u64(fields::long(input, 0));
+    let time = fields::signed_long(input, 8);
+    let reply = fields::byte(input, 16) != 0;
+    written(frontend::write_status_update(position, time, reply, out))
 }
 
-fn with_names(line: &mut [u8], kind: u8, input: &[u8], names: &[&[u8]], out: &mut [u8]) -> usize {
-    if kind == b'o' {
-        let w = config::to_option_value(names, out);
-        return written(line, b'o', w, out);
+fn write(kind: u8, input: &[u8], out: &mut [u8]) -> Answer {
+    match kind {
+        b'q' | b'y' | b'l' | b'e' => of_text(kind, input, out),
+        b'z' | b'x' => of_nothing(kind, out),
+        b'd' => display(input, out),
+        b't' => status(input, out),
+        _ => names::named(kind, input, out),
     }
-    let I32Field::Value(version) = wire::field::read_i32(input, 0) else {
-        return 0;
-    };
-    let w = frontend::write_startup(version, names, out);
-    written(line, b's', w, out)
 }
 
-// Names from a place on, each 2 bytes of length and its bytes: 65,536 bytes have at most 32,768.
-pub(crate) fn named(line: &mut [u8], kind: u8, input: &[u8], from: usize, out: &mut [u8]) -> usize {
-    if input.len() < from {
-        return 0;
+fn spelled(line: &mut [u8], refusal: u8, count: usize, out: &[u8]) -> usize {
+    let a = lines::number(line, 1, refusal as u64);
+    let b = lines::number(line, a, count as u64);
+    let c = lines::number(line, b, lines::sum(out));
+    lines::part(line, c, out, 0, count)
+}
+
+pub(crate) fn after_fields(kind: u8, input: &[u8], out: &mut [u8], line: &mut [u8]) -> usize {
+    let a = write(kind, input, out);
+    if a.good {
+        return spelled(line, a.refusal, a.count, out);
     }
-    let mut names = [&input[0..0]; 32768];
-    let mut n: usize = 0;
-    let mut at = from;
-    while at < input.len() {
-        let U16Field::Value(k) = wire::field::read_u16(input, at) else {
-            return 0;
-        };
-        let len = k as usize;
-        if input.len() - at < 2 + len {
-            return 0;
-        }
-        if 32768 <= n {
-            return 0;
-        }
-        names[n] = &input[at + 2..at + 2 + len];
-        n += 1;
-        at = at + 2 + len;
-    }
-    with_names(line, kind, input, &names[0..n], out)
+    0
 }

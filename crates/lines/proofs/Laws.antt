@@ -1,4 +1,4 @@
--- Laws of texts placed one behind the other, of sums, filled buffers and counted turns.
+-- Laws of texts placed one after the other, of sums, filled buffers and counted turns.
 use mathlib.Core.Path.{_≡_, refl, ap, _∙_}
 use mathlib.Core.Bool.{Bool, true, false}
 use mathlib.Core.List.{List, [], _∷_, _++_, append-nil}
@@ -11,7 +11,7 @@ use lib.Seq.{drop-cons}
 use borrow.Author.Tests.{le-leb, lt-leb}
 use Rattle.wire.specs.Bytes.{pick, at, placed}
 use Rattle.text.specs.Numeral.{hexBytes}
-use Rattle.lines.specs.Line.{sumNext, sumFrom, sumOf, pieces, bytesTexts, partTexts}
+use Rattle.lines.specs.Line.{sumNext, sumFrom, sumOf, pieces, bytesTexts, outsideTexts, partTexts}
 
 -- ---- sums
 
@@ -67,11 +67,11 @@ unfolding pieces
 pieces-append d i [] us = refl
 pieces-append d i (t ∷ ts) us = pieces-append (placed d i t .1) (placed d i t .0) ts us
 
--- texts behind texts
+-- texts after texts
 pub pieces-next : (d : List ℕ) (i : ℕ) (ts us : List (List ℕ)) {e q : List ℕ} {a r : ℕ} → (a, e) ≡ pieces d i ts → (r, q) ≡ pieces e a us → (r, q) ≡ pieces d i (ts ++ us)
 pieces-next d i ts us f g = g ∙ (ap (λ (x : ℕ × List ℕ). pieces (x .1) (x .0) us) f ∙ pieces-append d i ts us)
 
--- a text behind a text
+-- a text after a text
 pub pieces-two : (d : List ℕ) (i : ℕ) (t u : List ℕ) {e q : List ℕ} {a r : ℕ} → (a, e) ≡ placed d i t → (r, q) ≡ placed e a u → (r, q) ≡ pieces d i (t ∷ u ∷ [])
 pieces-two d i t u {e} {q} {a} f g = pieces-next d i (t ∷ []) (u ∷ []) (pieces-one d i t f) (pieces-one e a u g)
 
@@ -85,7 +85,7 @@ pub bytes-some : (s : List ℕ) → (length s ≡ 0 → ⊥) → bytesTexts s �
 bytes-some [] e = absurd (e refl)
 bytes-some (b ∷ s) e = refl
 
-pub part-none : (s : List ℕ) (from len : ℕ) → length s < from + len → partTexts s from len ≡ []
+pub part-none : (s : List ℕ) (from len : ℕ) → length s < from + len → partTexts s from len ≡ outsideTexts
 unfolding partTexts
 part-none s from len h = simp (lt-leb _ _ h)
 

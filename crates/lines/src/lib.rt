@@ -1,9 +1,13 @@
-// The pieces of a program's line, each placed behind the last, and what programs do with buffers.
+// The fields of a program's line, each placed after the last, and what programs do with buffers.
+pub mod fields;
+pub mod names;
+
 ghost use mathlib.Core.Path.{_≡_};
+ghost use mathlib.Core.Bool.{false};
 ghost use Prim.Native.Nat.{_-_, _<_};
 ghost use lib.ListN.{length, replicate};
 ghost use Rattle.wire.specs.Bytes.{pick};
-ghost use Rattle.lines.specs.Line.{sumNext, sumOf, pieces, numberTexts, signedTexts, flagTexts, partTexts, bytesTexts, positionTexts, endTexts};
+ghost use Rattle.lines.specs.Line.{sumNext, sumOf, afterOf, pieces, numberTexts, signedTexts, flagTexts, isWithin, outsideTexts, partTexts, bytesTexts, positionTexts, datedTexts, spannedTexts, flaggedTexts, endTexts};
 use lsn::Lsn;
 
 // The sum of a buffer.
@@ -46,6 +50,16 @@ pub fn left(turns: u64, go: bool) -> u64
     if go { turns - 1 } else { 0 }
 }
 
+// The place after what was taken of the bytes between two places.
+pub fn after(from: usize, to: usize, taken: usize) -> usize
+    ensures { λ r. ⌜ r ≡ afterOf from to taken ⌝ }
+{
+    if to < from {
+        return to;
+    }
+    from + wire::store::least(taken, to - from)
+}
+
 pub fn number(line: &mut [u8], at: usize, n: u64) -> usize
     ensures { λ r. ⌜ (r, now (line .exit)) ≡ pieces (now (line .entry)) at (numberTexts n) ⌝ }
 {
@@ -77,15 +91,35 @@ pub fn flag(line: &mut [u8], at: usize, on: bool) -> usize
     }
 }
 
-// The bytes that a part names.
+// Whether a part lies within a slice.
+pub fn within(s: &[u8], from: usize, len: usize) -> bool
+    ensures { λ r. ⌜ r ≡ isWithin (now (s .entry)) from len ⌝ }
+{
+    if s.len() < from {
+        return false;
+    }
+    if s.len() - from < len {
+        return false;
+    }
+    true
+}
+
+// What a line has for a part that does not lie within its slice.
+pub fn outside(line: &mut [u8], at: usize) -> usize
+    ensures { λ r. ⌜ (r, now (line .exit)) ≡ pieces (now (line .entry)) at outsideTexts ⌝ }
+{
+    wire::store::place(line, at, b" outside")
+}
+
+// The bytes that a part names. A part is never clipped.
 pub fn part(line: &mut [u8], at: usize, s: &[u8], from: usize, len: usize) -> usize
     ensures { λ r. ⌜ (r, now (line .exit)) ≡ pieces (now (line .entry)) at (partTexts (now (s .entry)) from len) ⌝ }
 {
     if s.len() < from {
-        return at;
+        return outside(line, at);
     }
     if s.len() - from < len {
-        return at;
+        return outside(line, at);
     }
     bytes(line, at, &s[from..from + len])
 }
@@ -108,8 +142,48 @@ pub fn position(line: &mut [u8], at: usize, p: Lsn) -> usize
     p.place(line, a)
 }
 
+// A letter, a position and a time.
+pub fn dated(line: &mut [u8], at: usize, letter: u8, p: Lsn, time: i64) -> usize
+    ensures { λ r. ⌜ (r, now (line .exit)) ≡ pieces (now (line .entry)) at (datedTexts letter p time) ⌝ }
+{
+    let head = [letter];
+    let a = wire::store::place(line, at, &head);
+    let b = position(line, a, p);
+    long(line, b, time)
+}
+
+// A letter, two positions and a time.
+pub fn spanned(line: &mut [u8], at: usize, letter: u8, p: Lsn, q: Lsn, time: i64) -> usize
+    ensures { λ r. ⌜ (r, now (line .exit)) ≡ pieces (now (line .entry)) at (spannedTexts letter p q time) ⌝ }
+{
+    let head = [letter];
+    let a = wire::store::place(line, at, &head);
+    let b = position(line, a, p);
+    let c = position(line, b, q);
+    long(line, c, time)
+}
+
+// `M`, a flag and a position.
+pub fn flagged(line: &mut [u8], at: usize, on: bool, p: Lsn) -> usize
+    ensures { λ r. ⌜ (r, now (line .exit)) ≡ pieces (now (line .entry)) at (flaggedTexts on p) ⌝ }
+{
+    let a = wire::store::place(line, at, b"M");
+    let b = flag(line, a, on);
+    position(line, b, p)
+}
+
 pub fn end(line: &mut [u8], at: usize) -> usize
     ensures { λ r. ⌜ (r, now (line .exit)) ≡ pieces (now (line .entry)) at endTexts ⌝ }
 {
     wire::store::place(line, at, b"\n")
+}
+
+// Prints the first n bytes of a line, and says whether all were written. Nothing is printed, and the answer is false, where the line is shorter.
+pub fn print(line: &[u8], n: usize) -> bool
+    ensures { λ r. ⌜ (length (now (line .entry)) < n → r ≡ false) ⌝ }
+{
+    if line.len() < n {
+        return false;
+    }
+    io::write_all(1, &line[0..n])
 }

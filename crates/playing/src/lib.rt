@@ -1,6 +1,12 @@
 // Server bytes played through a run that is already open, and the events that it hands on: what the programs `events` and `streams` do.
 pub mod spelling;
 
+ghost use mathlib.Core.Path.{_≡_};
+ghost use Rattle.worker.specs.Answer.{verdictNumber};
+ghost use Rattle.worker.specs.Step.{isEnded};
+ghost use Rattle.lines.specs.Line.{pieces};
+ghost use Rattle.playing.specs.Spelling.{endTextsOf};
+ghost use Rattle.playing.specs.Playing.{eventSettings, begun, refilledOf, inputOf, eventLine, toldOf, stepped, Plays};
 use lsn::Lsn;
 use moment::Moment;
 use wire::store::least;
@@ -13,14 +19,16 @@ use worker::State;
 use worker::Stepped;
 use worker::Verdict;
 
-// The longest intervals: no status is ever due.
-fn settings() -> Settings {
+// The longest intervals: with a clock that stands still no status is due after the first.
+fn settings() -> Settings
+    ensures { λ r. ⌜ r ≡ eventSettings ⌝ }
+{
     Settings {
         status_interval: worker::session::LONGEST_INTERVAL,
         idle_wakeup_interval: worker::session::LONGEST_INTERVAL,
         max_message_size: 65536,
         has_stop: false,
-        stop_at_lsn: Lsn::from_u64(0),
+        stop_at_lsn: Lsn(0),
         timing: false,
         binary: false,
     }
@@ -35,8 +43,10 @@ struct Playing {
     go: bool,
 }
 
-fn begin() -> Playing {
-    let opened = worker::session::already_open(settings(), Lsn::from_u64(0));
+fn begin() -> Playing
+    ensures { λ r. ⌜ r ≡ begun ⌝ }
+{
+    let opened = worker::session::already_open(settings(), Lsn(0));
     let run = opened.run;
     Playing {
         run,
@@ -47,8 +57,10 @@ fn begin() -> Playing {
     }
 }
 
-// The next bytes, where none are unread.
-fn refilled(p: Playing, fd: i32, bytes: &mut [u8]) -> Playing {
+// The next bytes, where none are unread. How many come is the file's affair; none are its end.
+fn refilled(p: Playing, fd: i32, bytes: &mut [u8]) -> Playing
+    ensures { λ r. ⌜ r ≡ refilledOf p (r .to) ⌝ }
+{
     if p.from < p.to {
         return p;
     }
@@ -67,10 +79,12 @@ fn refilled(p: Playing, fd: i32, bytes: &mut [u8]) -> Playing {
     }
 }
 
-// The clock stands still, and the queue is free.
-fn input(ended: bool) -> Input {
+// The clock stands still, the queue is free, and nobody asks for a stop.
+fn input(ended: bool) -> Input
+    ensures { λ r. ⌜ r ≡ inputOf ended ⌝ }
+{
     Input {
-        moment: Moment::from_nanos(1),
+        moment: Moment(1),
         client_time: 0,
         stop: false,
         queue: Queue::Free,
@@ -78,40 +92,48 @@ fn input(ended: bool) -> Input {
     }
 }
 
-fn is_over(run: Run) -> bool {
+fn is_over(run: Run) -> bool
+    ensures { λ r. ⌜ r ≡ isEnded (run .state) ⌝ }
+{
     let state = worker::session::state(run);
     match state {
+        State::Opening => false,
+        State::Turn => false,
+        State::Drain => false,
+        State::Reading => false,
+        State::Waiting => false,
+        State::Handling => false,
+        State::Offering => false,
         State::Ended => true,
-        _ => false,
     }
 }
 
-// Prints the first n bytes of a line buffer.
-pub fn print(line: &[u8], n: usize) -> bool {
-    if line.len() < n {
-        return false;
-    }
-    io::write_all(1, &line[0..n])
-}
-
-fn tell_event(event: Event, payload: &[u8], line: &mut [u8]) {
+// Prints the line of an event, and nothing for no event.
+fn tell_event(event: Event, payload: &[u8], line: &mut [u8])
+    ensures { λ _. ⌜ now (line .exit) ≡ eventLine event (now (payload .entry)) (now (line .entry)) ⌝ }
+{
     let a = spelling::event(line, 0, payload, event, true);
     if a == 0 {
         return;
     }
     let b = lines::end(line, a);
-    print(line, b);
+    lines::print(line, b);
 }
 
-fn tell_end(verdict: Verdict, line: &mut [u8]) {
+// Prints the last line.
+fn tell_end(verdict: Verdict, line: &mut [u8])
+    ensures { λ _. ⌜ now (line .exit) ≡ pieces (now (line .entry)) 0 (endTextsOf (verdictNumber verdict)) .1 ⌝ }
+{
     let a = wire::store::place(line, 0, b"END");
     let b = lines::number(line, a, spelling::number(verdict) as u64);
     let c = lines::end(line, b);
-    print(line, c);
+    lines::print(line, c);
 }
 
 // The lines of a step: its event's, and the last one. Whether the run goes on.
-fn told(s: Stepped, payload: &[u8], line: &mut [u8]) -> bool {
+fn told(s: Stepped, payload: &[u8], line: &mut [u8]) -> bool
+    ensures { λ r. ⌜ (r, now (line .exit)) ≡ toldOf s (now (payload .entry)) (now (line .entry)) ⌝ }
+{
     let event = s.event;
     let run = s.run;
     let verdict = s.verdict;
@@ -123,7 +145,9 @@ fn told(s: Stepped, payload: &[u8], line: &mut [u8]) -> bool {
     true
 }
 
-fn step(p: Playing, bytes: &[u8], payload: &mut [u8], out: &mut [u8], line: &mut [u8]) -> Playing {
+fn step(p: Playing, bytes: &[u8], payload: &mut [u8], out: &mut [u8], line: &mut [u8]) -> Playing
+    ensures { λ r. ⌜ (r, now (payload .exit), now (out .exit)) ≡ stepped p (now (bytes .entry)) (now (payload .entry)) (now (out .entry)) ⌝ }
+{
     let run = p.run;
     let to = least(p.to, bytes.len());
     let from = least(p.from, to);
@@ -147,25 +171,32 @@ fn turn(
     payload: &mut [u8],
     out: &mut [u8],
     line: &mut [u8],
-) -> Playing {
+) -> Playing
+    ensures { λ r. ⌜ (Plays (p .run) → Plays (r .run)) ⌝ }
+{
     let q = refilled(p, fd, bytes);
     step(q, bytes, payload, out, line)
 }
 
-fn turns(fd: i32, bytes: &mut [u8], payload: &mut [u8], out: &mut [u8], line: &mut [u8]) {
+fn turns(fd: i32, bytes: &mut [u8], payload: &mut [u8], out: &mut [u8], line: &mut [u8]) -> Run
+    ensures { λ r. ⌜ Plays r ⌝ }
+{
     let mut p = begin();
     let mut left: u64 = u64::MAX;
     while left > 0 {
         p = turn(p, fd, bytes, payload, out, line);
         left = lines::left(left, p.go);
     }
+    p.run
 }
 
-// Plays what a file has, in reads of 64 KB, and prints its events.
-pub fn play(fd: i32) {
+// Plays what a file has, in reads of 64 KB, and prints its events. The answer is the run after the last step.
+pub fn play(fd: i32) -> Run
+    ensures { λ r. ⌜ Plays r ⌝ }
+{
     let mut bytes = io::large_buffer();
     let mut payload = io::large_buffer();
     let mut out = [0u8; 39];
     let mut line = [0u8; 256];
-    turns(fd, &mut bytes, &mut payload, &mut out, &mut line);
+    turns(fd, &mut bytes, &mut payload, &mut out, &mut line)
 }

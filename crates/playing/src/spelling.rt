@@ -1,14 +1,14 @@
-// How programs spell what a run answers. Each writer answers the place behind what it wrote.
+// How programs spell what a run answers. Each writer answers the place after what it wrote.
 ghost use mathlib.Core.Path.{_≡_};
 ghost use Rattle.lines.specs.Line.{pieces};
 ghost use Rattle.worker.specs.Answer.{verdictNumber};
-ghost use Rattle.playing.specs.Spelling.{datedTexts, spannedTexts, flaggedTexts, stoppedTexts, partBy, lossyLength, prefixBy, dataTexts, eventTexts};
+ghost use Rattle.playing.specs.Spelling.{stoppedTexts, lengthTexts, partBy, lossyLength, prefixBy, dataTexts, eventTexts};
 use error::Counted;
 use lsn::Lsn;
 use worker::Event;
 use worker::Verdict;
 
-// Document 01's number, 0 for none.
+// The refusal's number, 0 for none: SCOPE 7.1; 01, "Where each call turns back".
 pub fn number(verdict: Verdict) -> u8
     ensures { λ r. ⌜ r ≡ verdictNumber verdict ⌝ }
 {
@@ -18,12 +18,22 @@ pub fn number(verdict: Verdict) -> u8
     }
 }
 
+// A length that stands for a part of the payload.
+fn by_length(line: &mut [u8], at: usize, payload: &[u8], from: usize, len: usize, n: u64) -> usize
+    ensures { λ r. ⌜ (r, now (line .exit)) ≡ pieces (now (line .entry)) at (lengthTexts (now (payload .entry)) from len n) ⌝ }
+{
+    if lines::within(payload, from, len) {
+        return lines::number(line, at, n);
+    }
+    lines::outside(line, at)
+}
+
 // A part of the payload: its length, or its bytes.
 fn part(line: &mut [u8], at: usize, payload: &[u8], from: usize, len: usize, brief: bool) -> usize
     ensures { λ r. ⌜ (r, now (line .exit)) ≡ pieces (now (line .entry)) at (partBy brief (now (payload .entry)) from len) ⌝ }
 {
     if brief {
-        return lines::number(line, at, len as u64);
+        return by_length(line, at, payload, from, len, len as u64);
     }
     lines::part(line, at, payload, from, len)
 }
@@ -49,36 +59,9 @@ fn prefix(line: &mut [u8], at: usize, payload: &[u8], from: usize, len: usize, b
     ensures { λ r. ⌜ (r, now (line .exit)) ≡ pieces (now (line .entry)) at (prefixBy brief (now (payload .entry)) from len) ⌝ }
 {
     if brief {
-        return lines::number(line, at, lossy_len(payload, from, len));
+        return by_length(line, at, payload, from, len, lossy_len(payload, from, len));
     }
     lines::part(line, at, payload, from, len)
-}
-
-fn dated(line: &mut [u8], at: usize, letter: u8, p: Lsn, time: i64) -> usize
-    ensures { λ r. ⌜ (r, now (line .exit)) ≡ pieces (now (line .entry)) at (datedTexts letter p time) ⌝ }
-{
-    let head = [letter];
-    let a = wire::store::place(line, at, &head);
-    let b = lines::position(line, a, p);
-    lines::long(line, b, time)
-}
-
-fn spanned(line: &mut [u8], at: usize, letter: u8, p: Lsn, q: Lsn, time: i64) -> usize
-    ensures { λ r. ⌜ (r, now (line .exit)) ≡ pieces (now (line .entry)) at (spannedTexts letter p q time) ⌝ }
-{
-    let head = [letter];
-    let a = wire::store::place(line, at, &head);
-    let b = lines::position(line, a, p);
-    let c = lines::position(line, b, q);
-    lines::long(line, c, time)
-}
-
-fn flagged(line: &mut [u8], at: usize, flag: bool, position: Lsn) -> usize
-    ensures { λ r. ⌜ (r, now (line .exit)) ≡ pieces (now (line .entry)) at (flaggedTexts flag position) ⌝ }
-{
-    let a = wire::store::place(line, at, b"M");
-    let b = lines::flag(line, a, flag);
-    lines::position(line, b, position)
 }
 
 fn stopped(line: &mut [u8], at: usize, reached: Lsn) -> usize
@@ -101,7 +84,7 @@ fn data_event(line: &mut [u8], at: usize, payload: &[u8], e: Event, brief: bool)
             content_from,
             content_len,
         } => {
-            let a = flagged(line, at, transactional, lsn);
+            let a = lines::flagged(line, at, transactional, lsn);
             let b = prefix(line, a, payload, prefix_from, prefix_len, brief);
             part(line, b, payload, content_from, content_len, brief)
         }
@@ -112,7 +95,7 @@ fn data_event(line: &mut [u8], at: usize, payload: &[u8], e: Event, brief: bool)
             from,
             len,
         } => {
-            let a = spanned(line, at, b'X', wal_start, wal_end, server_time);
+            let a = lines::spanned(line, at, b'X', wal_start, wal_end, server_time);
             part(line, a, payload, from, len, brief)
         }
         Event::Nothing => at,
@@ -134,7 +117,7 @@ pub fn event(line: &mut [u8], at: usize, payload: &[u8], e: Event, brief: bool) 
             server_time,
             reply_requested,
         } => {
-            let a = dated(line, at, b'K', wal_end, server_time);
+            let a = lines::dated(line, at, b'K', wal_end, server_time);
             lines::flag(line, a, reply_requested)
         }
         Event::Begin {
@@ -142,14 +125,14 @@ pub fn event(line: &mut [u8], at: usize, payload: &[u8], e: Event, brief: bool) 
             commit_time,
             xid,
         } => {
-            let a = dated(line, at, b'B', final_lsn, commit_time);
+            let a = lines::dated(line, at, b'B', final_lsn, commit_time);
             lines::number(line, a, xid as u64)
         }
         Event::Commit {
             lsn,
             end_lsn,
             commit_time,
-        } => spanned(line, at, b'C', lsn, end_lsn, commit_time),
+        } => lines::spanned(line, at, b'C', lsn, end_lsn, commit_time),
         Event::Message { .. } => data_event(line, at, payload, e, brief),
         Event::XLogData { .. } => data_event(line, at, payload, e, brief),
         Event::StoppedAt { reached } => stopped(line, at, reached),

@@ -1,11 +1,9 @@
-// The slot and the publications of a script. The publications stand behind the slot as the script has them, length and bytes.
-ghost use Prim.Native.Nat.{_≤_};
-ghost use lib.ListN.{length};
-use crate::fields;
-use lsn::Lsn;
+// The slot and the publications of a script. The publications stand after the slot as the script has them, length and bytes.
+use crate::script::Script;
+use lines::fields;
+use lines::names::name_at;
 use wire::store::least;
 use worker::Opened;
-use worker::Settings;
 
 // How much of the buffer is filled, how many bytes the names have so far, how many publications there are, and whether all is well formed.
 pub(crate) struct Names {
@@ -24,44 +22,53 @@ fn malformed() -> Names {
     }
 }
 
-// One more publication behind the names that are there.
+// The bytes of all names with one name more, 4,097 where they are too many.
+fn more(used: usize, len: usize) -> usize {
+    if 4096 < used {
+        return 4097;
+    }
+    if 4096 - used < len {
+        return 4097;
+    }
+    used + len
+}
+
+// A name's bytes after its length.
+fn stored(used: usize, count: u8, names: &mut [u8], at: usize, len: usize) -> Names {
+    if names.len() < at {
+        return malformed();
+    }
+    if names.len() - at < len {
+        return malformed();
+    }
+    let got = io::read_full(0, &mut names[at..at + len]);
+    if got < len {
+        return malformed();
+    }
+    Names {
+        filled: at + len,
+        used,
+        publications: count,
+        good: true,
+    }
+}
+
+// One more publication after the names that are there.
 fn one_name(n: Names, names: &mut [u8]) -> Names {
     if !n.good {
         return n;
     }
-    let at = n.filled;
-    let used = n.used;
     let mut head = [0u8; 2];
     if io::read_full(0, &mut head) < 2 {
         return malformed();
     }
     let len = fields::half(&head, 0);
+    let used = more(n.used, len);
     if 4096 < used {
         return malformed();
     }
-    if 4096 - used < len {
-        return malformed();
-    }
-    if names.len() < at {
-        return malformed();
-    }
-    if names.len() - at < 2 {
-        return malformed();
-    }
-    if names.len() - at - 2 < len {
-        return malformed();
-    }
-    wire::store::place(names, at, &head);
-    let got = io::read_full(0, &mut names[at + 2..at + 2 + len]);
-    if got < len {
-        return malformed();
-    }
-    Names {
-        filled: at + 2 + len,
-        used: used + len,
-        publications: n.publications,
-        good: true,
-    }
+    let at = wire::store::place(names, n.filled, &head);
+    stored(used, n.publications, names, at, len)
 }
 
 fn all_names(slot: usize, count: u8, names: &mut [u8]) -> Names {
@@ -79,6 +86,14 @@ fn all_names(slot: usize, count: u8, names: &mut [u8]) -> Names {
     n
 }
 
+fn publications(slot: usize, names: &mut [u8]) -> Names {
+    let mut count = [0u8; 1];
+    if io::read_full(0, &mut count) < 1 {
+        return malformed();
+    }
+    all_names(slot, count[0], names)
+}
+
 // A slot of the given length, the number of publications, and each of them.
 pub(crate) fn read(slot: usize, names: &mut [u8]) -> Names {
     if 4096 < slot {
@@ -91,50 +106,29 @@ pub(crate) fn read(slot: usize, names: &mut [u8]) -> Names {
     if got < slot {
         return malformed();
     }
-    let mut count = [0u8; 1];
-    if io::read_full(0, &mut count) < 1 {
-        return malformed();
-    }
-    all_names(slot, fields::byte(&count, 0), names)
+    publications(slot, names)
 }
 
-struct Part {
-    from: usize,
-    to: usize,
+fn with_names(s: Script, slot: &[u8], publications: &[&[u8]], out: &mut [u8]) -> Opened {
+    let settings = s.settings;
+    let position = s.position;
+    let start = s.start;
+    worker::session::open(settings, slot, publications, position, start, out)
 }
 
-// The name at a place.
-fn part_at(names: &[u8], at: usize) -> Part
-    requires { ⌜ at ≤ length (now names) ⌝ }
-    ensures { λ r. ⌜ (r .from ≤ r .to) × (r .to ≤ length (now (names .entry))) ⌝ }
-{
-    let left = names.len() - at;
-    let from = at + least(2, left);
-    let to = from + least(fields::half(names, at), names.len() - from);
-    Part { from, to }
-}
-
-pub(crate) fn open(
-    settings: Settings,
-    names: &[u8],
-    slot: usize,
-    publications: u8,
-    position: Lsn,
-    start: Lsn,
-    out: &mut [u8],
-) -> Opened {
-    let n = least(slot, names.len());
-    let most = publications as usize;
+pub(crate) fn open(s: Script, names: &[u8], out: &mut [u8]) -> Opened {
+    let n = least(s.slot, names.len());
+    let most = s.publications as usize;
     let mut list = [&names[0..0]; 256];
     let mut k: usize = 0;
     let mut at = n;
     while k < most {
-        let p = part_at(names, at);
-        let from = p.from;
-        let to = p.to;
+        let name = name_at(names, at);
+        let from = name.from;
+        let to = name.to;
         list[k] = &names[from..to];
         k += 1;
         at = to;
     }
-    worker::session::open(settings, &names[0..n], &list[0..k], position, start, out)
+    with_names(s, &names[0..n], &list[0..k], out)
 }

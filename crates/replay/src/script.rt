@@ -1,25 +1,30 @@
 // What stands in a script before its calls.
-use crate::fields;
 use crate::names;
+use lines::fields;
 use lsn::Lsn;
 use worker::Settings;
 
-// Whether the input ended before it, whether it is well formed, how its run begins, and its buffers.
-pub(crate) struct Script {
-    pub(crate) over: bool,
+// A script's buffers, how many calls it has, and whether it is well formed up to these.
+pub(crate) struct Tail {
     pub(crate) good: bool,
-    pub(crate) already_open: bool,
-    pub(crate) settings: Settings,
-    pub(crate) position: Lsn,
-    pub(crate) start: Lsn,
-    pub(crate) slot: usize,
-    pub(crate) publications: u8,
     pub(crate) payload: usize,
     pub(crate) payload_fill: u8,
     pub(crate) output: usize,
     pub(crate) output_fill: u8,
     pub(crate) server: usize,
     pub(crate) calls: u64,
+}
+
+// Whether the input ended before it, how its run begins, how long its slot is, how many publications follow it, and the rest.
+pub(crate) struct Script {
+    pub(crate) over: bool,
+    pub(crate) already_open: bool,
+    pub(crate) settings: Settings,
+    pub(crate) position: Lsn,
+    pub(crate) start: Lsn,
+    pub(crate) slot: usize,
+    pub(crate) publications: u8,
+    pub(crate) tail: Tail,
 }
 
 fn settings_of(head: &[u8]) -> Settings {
@@ -34,17 +39,22 @@ fn settings_of(head: &[u8]) -> Settings {
     }
 }
 
-// A script of which only the head is known, if that.
-fn begun(head: &[u8], over: bool) -> Script {
+fn made(head: &[u8], over: bool, publications: u8, tail: Tail) -> Script {
     Script {
         over,
-        good: false,
         already_open: fields::byte(head, 1) == 1,
         settings: settings_of(head),
         position: Lsn::from_u64(fields::long(head, 26)),
         start: Lsn::from_u64(fields::long(head, 34)),
         slot: fields::half(head, 53),
-        publications: 0,
+        publications,
+        tail,
+    }
+}
+
+fn malformed() -> Tail {
+    Tail {
+        good: false,
         payload: 0,
         payload_fill: 0,
         output: 0,
@@ -81,52 +91,69 @@ fn are_lengths(tail: &[u8]) -> bool {
     fields::word(tail, 10) <= 131072
 }
 
-// The rest of a script whose names were read.
-fn read_tail(s: Script, publications: u8, server: &mut [u8]) -> Script {
-    let mut tail = [0u8; 14];
-    if io::read_full(0, &mut tail) < 14 {
-        return s;
+fn tail_of(tail: &[u8], calls: u64) -> Tail {
+    Tail {
+        good: true,
+        payload: fields::word(tail, 0),
+        payload_fill: fields::byte(tail, 4),
+        output: fields::word(tail, 5),
+        output_fill: fields::byte(tail, 9),
+        server: fields::word(tail, 10),
+        calls,
     }
-    if !are_lengths(&tail) {
-        return s;
+}
+
+// How many calls follow.
+fn calls(tail: &[u8]) -> Tail {
+    let mut count = [0u8; 4];
+    if io::read_full(0, &mut count) < 4 {
+        return malformed();
     }
-    let n = fields::word(&tail, 10);
+    tail_of(tail, fields::word(&count, 0) as u64)
+}
+
+fn server_bytes(tail: &[u8], server: &mut [u8]) -> Tail {
+    let n = fields::word(tail, 10);
     if server.len() < n {
-        return s;
+        return malformed();
     }
     let got = io::read_full(0, &mut server[0..n]);
     if got < n {
-        return s;
+        return malformed();
     }
-    let mut calls = [0u8; 4];
-    if io::read_full(0, &mut calls) < 4 {
-        return s;
+    calls(tail)
+}
+
+// What follows the names.
+fn read_tail(server: &mut [u8]) -> Tail {
+    let mut tail = [0u8; 14];
+    if io::read_full(0, &mut tail) < 14 {
+        return malformed();
     }
-    let mut t = s;
-    t.good = true;
-    t.publications = publications;
-    t.payload = fields::word(&tail, 0);
-    t.payload_fill = fields::byte(&tail, 4);
-    t.output = fields::word(&tail, 5);
-    t.output_fill = fields::byte(&tail, 9);
-    t.server = n;
-    t.calls = fields::word(&calls, 0) as u64;
-    t
+    if !are_lengths(&tail) {
+        return malformed();
+    }
+    server_bytes(&tail, server)
+}
+
+// What follows a well formed head.
+fn read_rest(head: &[u8], list: &mut [u8], server: &mut [u8]) -> Script {
+    let n = names::read(fields::half(head, 53), list);
+    if !n.good {
+        return made(head, false, 0, malformed());
+    }
+    let tail = read_tail(server);
+    made(head, false, n.publications, tail)
 }
 
 pub(crate) fn read(list: &mut [u8], server: &mut [u8]) -> Script {
     let mut head = [0u8; 55];
     let got = io::read_full(0, &mut head);
-    let s = begun(&head, got == 0);
     if got < 55 {
-        return s;
+        return made(&head, got == 0, 0, malformed());
     }
     if !is_head(&head) {
-        return s;
+        return made(&head, false, 0, malformed());
     }
-    let n = names::read(s.slot, list);
-    if !n.good {
-        return s;
-    }
-    read_tail(s, n.publications, server)
+    read_rest(&head, list, server)
 }

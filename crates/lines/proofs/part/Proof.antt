@@ -1,4 +1,4 @@
-use Rattle.lines.proofs.Laws.{pieces-none, part-none, part-some}
+use Rattle.lines.proofs.Laws.{part-none, part-some}
 use Prim.Native.Nat.{_+_, _-_}
 use mathlib.Core.Path.{_≡_}
 use native.Mathlib.Omega.{arith}
@@ -8,13 +8,13 @@ use Rattle.lines.proofs.part.Tie as tie
 
 returns : tie.Need-returns
 returns c =
-    let a = c .before .before .before .args in
-    rw (part-none (a .s .now) (a .from) (a .len) (omega arith)) (pieces-none _ _)
+    let a = c .before .before .before .before .before .before .before .args in
+    rw (part-none (a .s .now) (a .from) (a .len) (omega arith)) (c .before .before .outside .ensures)
 
 returns-2 : tie.Need-returns-2
 returns-2 c =
-    let a = c .before .before .before .before .args in
-    rw (part-none (a .s .now) (a .from) (a .len) (omega arith)) (pieces-none _ _)
+    let a = c .before .before .before .before .before .before .before .before .args in
+    rw (part-none (a .s .now) (a .from) (a .len) (omega arith)) (c .before .before .outside2 .ensures)
 
 returns-3 : tie.Need-returns-3
 returns-3 c =
@@ -25,5 +25,5 @@ returns-3 c =
 pub part-spec : {M : Type 1} → statement M
 part-spec =
     tie.close
-    (tie.spec returns (search needs) returns-2 (search needs) (search needs) (search needs) (search needs)
-    (search needs) (search needs) returns-3)
+    (tie.spec (search needs) (search needs) returns (search needs) (search needs) (search needs) returns-2 (search needs)
+    (search needs) (search needs) (search needs) (search needs) (search needs) returns-3)

@@ -7,19 +7,19 @@ use Rattle.replay.proofs.run.Statement.{statement}
 use Rattle.replay.proofs.run.Tie as tie
 
 abbrev Inv-loop : tie.InvT-loop
-Inv-loop list₀ server₀ payload₀ out₀ line₀ left₀ list server payload out line left = (length list ≡ length list₀) × (length server ≡ length server₀) × (length payload ≡ length payload₀) × (length out ≡ length out₀) × (length line ≡ length line₀)
+Inv-loop server₀ payload₀ left₀ server payload left = (length server ≡ length server₀) × (length payload ≡ length payload₀)
 
 abbrev μ-loop : tie.MeasureT-loop
-μ-loop list₀ server₀ payload₀ out₀ line₀ left₀ list server payload out line left = left
+μ-loop server₀ payload₀ left₀ server payload left = left
 
 loop-less : tie.Need-loop-less Inv-loop μ-loop
 loop-less c =
-    let at-one-script = c .before .before .before .before .before .before .before .before .before .before .before in
-    let at-loop = at-one-script .before .before .before .before .before .before .before in
+    let at-one-script = c .before .before .before .before .before in
+    let at-loop = at-one-script .before .before .before .before in
     left-less (at-loop .loop .left) (at-one-script .one-script .result) (c .left .ensures) (omega arith)
 
 pub run-spec : {M : Type 1} → statement M
 run-spec =
     tie.close
     (tie.spec Inv-loop μ-loop (search needs) (search needs) (search needs) loop-less (search needs) (search needs)
-    (search needs) (search needs) (search needs) (search needs) (λ c. search needs))
+    (search needs) (λ c. search needs))

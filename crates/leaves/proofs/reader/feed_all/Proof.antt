@@ -7,10 +7,10 @@ use Rattle.leaves.proofs.reader.feed_all.Statement.{statement}
 use Rattle.leaves.proofs.reader.feed_all.Tie as tie
 
 abbrev Inv-loop : tie.InvT-loop
-Inv-loop line₀ setting size bytes payload₀ at f₀ turns₀ line payload f turns = (length line ≡ length line₀) × (length payload ≡ length payload₀)
+Inv-loop line₀ setting size bytes payload₀ f₀ turns₀ line payload f turns = (length line ≡ length line₀) × (length payload ≡ length payload₀)
 
 abbrev μ-loop : tie.MeasureT-loop
-μ-loop line₀ setting size bytes payload₀ at f₀ turns₀ line payload f turns = turns
+μ-loop line₀ setting size bytes payload₀ f₀ turns₀ line payload f turns = turns
 
 loop-less : tie.Need-loop-less Inv-loop μ-loop
 loop-less c =
@@ -21,5 +21,5 @@ loop-less c =
 pub feed-all-spec : {M : Type 1} → statement M
 feed-all-spec =
     tie.close
-    (tie.spec Inv-loop μ-loop (search needs) (search needs) (search needs) (search needs) (search needs) (search needs)
-    (search needs) loop-less (search needs) (search needs) (search needs) (λ c. search needs))
+    (tie.spec Inv-loop μ-loop (search needs) (search needs) (search needs) (search needs) (search needs) loop-less
+    (search needs) (search needs) (search needs) (λ c. search needs))

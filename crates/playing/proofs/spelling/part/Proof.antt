@@ -3,7 +3,7 @@ use Rattle.playing.proofs.spelling.part.Statement.{statement}
 use Rattle.playing.proofs.spelling.part.Tie as tie
 
 returns : tie.Need-returns
-returns c = rw (c .before .before .before .before .if1 .taken) (c .before .before .number .ensures)
+returns c = rw (c .before .before .before .before .if1 .taken) (c .before .before .by-length .ensures)
 
 returns-2 : tie.Need-returns-2
 returns-2 c = rw (c .before .before .before .before .if1 .left) (c .before .before .part .ensures)

@@ -6,7 +6,7 @@ returns : tie.Need-returns
 returns c = rw (
   c .before .before .before .before .before .if1 .taken,
   ← c .before .before .before .lossy-len .ensures,
-) (c .before .before .number .ensures)
+) (c .before .before .by-length .ensures)
 
 returns-2 : tie.Need-returns-2
 returns-2 c = rw (c .before .before .before .before .if1 .left) (c .before .before .part .ensures)
