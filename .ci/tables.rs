@@ -1,32 +1,44 @@
-//! Holds the tables against the crates: every file, name, must-fail edit and line that they cite is there. Run in the repository's root.
-use std::collections::BTreeMap;
+//! Holds the documents against the repository: the files, names, must-fail edits and sections that they cite are there, every edit and every
+//! crate is named, statements stand in specs/, links lead somewhere. Run in the repository's root.
+use std::collections::{BTreeMap, BTreeSet};
 use std::fs;
 use std::path::{Path, PathBuf};
 
 /// Of each crate its files of Rattle and of proofs, with their contents.
 type Crates = BTreeMap<String, Vec<(PathBuf, String)>>;
 
-fn files(folder: &Path, into: &mut Vec<(PathBuf, String)>) {
+/// The files below a folder with one of the extensions, with their contents.
+fn files(folder: &Path, extensions: &[&str], into: &mut Vec<(PathBuf, String)>) {
     let Ok(entries) = fs::read_dir(folder) else { return };
     for path in entries.map(|entry| entry.expect("a folder's entry").path()) {
-        if path.is_dir() {
-            files(&path, into);
-        } else if path.extension().is_some_and(|x| x == "antt" || x == "rt") {
-            let text = fs::read_to_string(&path).expect("a text");
-            into.push((path, text));
+        if path.is_dir() && !path.ends_with("target") {
+            files(&path, extensions, into);
+        } else if path.extension().is_some_and(|x| extensions.iter().any(|e| x == *e)) {
+            into.push((path.clone(), fs::read_to_string(&path).expect("a text")));
         }
     }
 }
 
-fn crates() -> Crates {
-    let list = fs::read_to_string("crates.txt").expect("crates.txt");
-    let names = list.lines().filter_map(|line| line.split_once(':')).map(|(name, _)| name.to_string());
-    let with_files = |name: String| {
+fn read(page: &str) -> String {
+    fs::read_to_string(page).unwrap_or_else(|_| panic!("no page {page}"))
+}
+
+/// The lines of crates.txt: each crate with those of this repository that it uses.
+fn uses() -> BTreeMap<String, Vec<String>> {
+    let list = read("crates.txt");
+    let split = list.lines().filter(|line| !line.starts_with('#')).filter_map(|line| line.split_once(':'));
+    let all: BTreeMap<String, Vec<String>> = split.map(|(name, of)| (name.to_string(), of.split_whitespace().map(String::from).collect())).collect();
+    let here: BTreeSet<String> = all.keys().cloned().collect();
+    all.into_iter().map(|(name, of)| (name, of.into_iter().filter(|x| here.contains(x)).collect())).collect()
+}
+
+fn crates(uses: &BTreeMap<String, Vec<String>>) -> Crates {
+    let with_files = |name: &String| {
         let mut all = Vec::new();
-        ["src", "specs", "proofs"].iter().for_each(|part| files(&Path::new("crates").join(&name).join(part), &mut all));
-        (name, all)
+        ["src", "specs", "proofs"].iter().for_each(|part| files(&Path::new("crates").join(name).join(part), &["antt", "rt"], &mut all));
+        (name.clone(), all)
     };
-    names.filter(|name| Path::new("crates").join(name).is_dir()).map(with_files).collect()
+    uses.keys().map(with_files).collect()
 }
 
 /// Whether a file defines a name: a function or type of Rattle, or what stands before a colon in a definition's first line.
@@ -64,7 +76,7 @@ impl Place {
     }
 }
 
-/// The names of a cell that stand behind a file and a colon, or behind a crate, and are not defined there.
+/// The names of a cell that stand after a file and a colon, or after a crate, and are not defined there.
 fn missing_names(crates: &Crates, cell: &str) -> Vec<String> {
     let (mut missing, mut place) = (Vec::new(), None);
     let mut inner = false;
@@ -90,12 +102,15 @@ fn missing_names(crates: &Crates, cell: &str) -> Vec<String> {
     missing
 }
 
-/// The paths of a line that lead nowhere.
+/// The words of a line that may be paths.
+fn words(line: &str) -> impl Iterator<Item = &str> {
+    line.split(|c: char| c.is_whitespace() || "`|;,()[]<>\"'".contains(c)).map(|w| w.trim_end_matches([':', '.', '?', '!']))
+}
+
+/// The paths of a line into crates that lead nowhere, and files cited by line numbers, which an edit of a comment would move.
 fn missing_paths(line: &str) -> Vec<String> {
-    let words = line.split(|c: char| c.is_whitespace() || "`|;,()".contains(c)).map(|w| w.trim_end_matches([':', '.']));
-    let cited = words.filter(|w| ["/specs/", "/proofs/", "/src/", "/must-fail/"].iter().any(|part| w.contains(part)) && !w.contains('*'));
+    let cited = words(line).filter(|w| ["/specs/", "/proofs/", "/src/", "/must-fail/"].iter().any(|part| w.contains(part)) && !w.contains('*'));
     let there = |path: &str| {
-        let path = path.split(':').next().unwrap_or(path);
         let ends = ["", ".antt", ".rt", ".rs"];
         ["", "crates/"].iter().any(|root| ends.iter().any(|end| Path::new(&format!("{root}{path}{end}")).exists()))
     };
@@ -103,62 +118,185 @@ fn missing_paths(line: &str) -> Vec<String> {
 }
 
 /// Edits named as `must-fail crate/edit, edit` that are not there.
-fn missing_edits(line: &str) -> Vec<String> {
+fn missing_edits(line: &str, edits: &BTreeSet<String>) -> Vec<String> {
     let mut missing = Vec::new();
     for cited in line.split("must-fail ").skip(1) {
-        let Some((of, edits)) = cited.split(['|', ';']).next().unwrap_or("").split_once('/') else { continue };
-        for edit in edits.split(", ").map(str::trim).filter(|e| e.chars().all(|c| c.is_alphanumeric() || c == '_') && !e.is_empty()) {
-            if !Path::new(&format!("crates/{of}/must-fail/{edit}.edit")).exists() {
-                missing.push(format!("{of}/{edit}"));
-            }
-        }
+        let Some((of, named)) = cited.split(['|', ';']).next().unwrap_or("").split_once('/') else { continue };
+        let name = |e: &&str| e.chars().all(|c| c.is_alphanumeric() || c == '_') && !e.is_empty();
+        missing.extend(named.split(", ").map(str::trim).filter(name).map(|e| format!("{of}/{e}")).filter(|e| !edits.contains(e)));
     }
     missing
 }
 
-/// Lines cited as `crate/src/file.rt:12, 34, name, name` or `..:12, in name` at which those names do not stand.
-fn missing_lines(line: &str) -> Vec<String> {
+/// Every must-fail edit, as `crate/edit`.
+fn edits(uses: &BTreeMap<String, Vec<String>>) -> BTreeSet<String> {
+    let mut all = BTreeSet::new();
+    for name in uses.keys() {
+        let mut found = Vec::new();
+        files(&Path::new("crates").join(name).join("must-fail"), &["edit"], &mut found);
+        all.extend(found.iter().map(|(path, _)| format!("{name}/{}", path.file_stem().and_then(|x| x.to_str()).unwrap_or_default())));
+    }
+    all
+}
+
+/// The cells of a table's column, each with its line's number.
+fn column(text: &str, heading: &str) -> Vec<(usize, String)> {
+    let (mut place, mut cells) = (None, Vec::new());
+    for (i, line) in text.lines().enumerate() {
+        let row: Vec<&str> = line.split('|').map(str::trim).collect();
+        if !line.starts_with('|') {
+            place = None;
+        } else if let Some(at) = row.iter().position(|cell| *cell == heading) {
+            place = Some(at);
+        } else if let (Some(at), false) = (place, line.starts_with("|---")) {
+            cells.push((i + 1, row.get(at).unwrap_or(&"").to_string()));
+        }
+    }
+    cells
+}
+
+/// PROMISES names an edit for each family, each edit that it names is there, and it names all that are there.
+fn wrong_families(page: &str, edits: &BTreeSet<String>, wrong: &mut Vec<String>) {
+    let mut named = BTreeSet::new();
+    for (line, cell) in column(&read(page), "edits") {
+        let cited: Vec<String> = words(&cell).filter(|w| w.contains('/')).map(String::from).collect();
+        if cited.is_empty() {
+            wrong.push(format!("{page}:{line}: an edit of this family"));
+        }
+        wrong.extend(cited.iter().filter(|e| !edits.contains(*e)).map(|e| format!("{page}:{line}: the edit {e}")));
+        named.extend(cited);
+    }
+    wrong.extend(edits.iter().filter(|e| !named.contains(*e)).map(|e| format!("{page}: a family with the edit {e}")));
+}
+
+/// What PROMISES cites as a definition, or as what a definition is held against, stands in specs/, not in proofs/.
+fn wrong_statements(page: &str, wrong: &mut Vec<String>) {
+    let text = read(page);
+    let cells = ["definition or statement", "held against"].iter().flat_map(|heading| column(&text, heading));
+    wrong.extend(cells.filter(|(_, cell)| cell.contains("/proofs/")).map(|(line, _)| format!("{page}:{line}: a statement in specs/")));
+}
+
+/// The numbers of SCOPE's sections.
+fn sections() -> BTreeSet<String> {
+    let number = |line: &str| {
+        let title = line.strip_prefix("### ").or(line.strip_prefix("## "))?;
+        Some(title.split_whitespace().next()?.to_string())
+    };
+    read("docs/SCOPE.md").lines().filter_map(number).filter(|n| n.starts_with(|c: char| c.is_ascii_digit())).collect()
+}
+
+/// The sections cited in a text as `SCOPE 3.1` or `SCOPE 3.1, 3.2`.
+fn cited_sections(line: &str) -> Vec<String> {
+    let is_section = |w: &&str| w.starts_with(|c: char| c.is_ascii_digit()) && w.chars().all(|c| c.is_ascii_digit() || c == '.');
+    let mut cited = Vec::new();
+    for after in line.split("SCOPE ").skip(1) {
+        let mut numbers =
+            after.split(", ").map(|w| w.split(|c: char| c.is_whitespace() || ";:)\"`|".contains(c)).next().unwrap_or("").trim_end_matches('.'));
+        let Some(first) = numbers.next().filter(is_section) else { continue };
+        cited.push(first.to_string());
+        cited.extend(numbers.take_while(|w| is_section(w) && w.contains('.')).map(String::from));
+    }
+    cited
+}
+
+/// Every citation of a section, in sources and pages, leads to one.
+fn wrong_sections(wrong: &mut Vec<String>) {
+    let known = sections();
+    let mut all = Vec::new();
+    ["crates", "docs", "host", "compare", "vectors", "bench"]
+        .iter()
+        .for_each(|folder| files(Path::new(folder), &["antt", "rt", "rs", "md", "h", "c", "edit"], &mut all));
+    all.push((PathBuf::from("README.md"), read("README.md")));
+    for (path, text) in &all {
+        for (i, line) in text.lines().enumerate() {
+            let unknown = cited_sections(line).into_iter().filter(|n| !known.contains(n));
+            wrong.extend(unknown.map(|n| format!("{}:{}: SCOPE {n}", path.display(), i + 1)));
+        }
+    }
+    for (line, cell) in column(&read("docs/SENTENCES.md"), "SCOPE") {
+        let numbers = cell.split([',', ' ']).map(str::trim).filter(|n| !n.is_empty());
+        wrong.extend(numbers.filter(|n| !known.contains(*n)).map(|n| format!("docs/SENTENCES.md:{line}: SCOPE {n}")));
+    }
+}
+
+/// A heading as a link names it.
+fn slug(heading: &str) -> String {
+    let plain = heading.trim_start_matches('#').trim().to_lowercase();
+    plain.chars().filter(|c| c.is_alphanumeric() || " -_".contains(*c)).map(|c| if c == ' ' { '-' } else { c }).collect()
+}
+
+/// The links and page names of a line that lead nowhere.
+fn missing_links(page: &Path, line: &str) -> Vec<String> {
+    let folder = page.parent().unwrap_or(Path::new(""));
     let mut missing = Vec::new();
-    for cited in line.split(['|', ';']) {
-        let Some((before, after)) = cited.split_once(".rt:") else { continue };
-        let path = format!("crates/{}.rt", before.rsplit([' ', '|']).next().unwrap_or(before));
-        let text = fs::read_to_string(&path).unwrap_or_default();
-        let source: Vec<&str> = text.lines().collect();
-        let numbers = after.split(", ").map_while(|n| n.trim().parse::<usize>().ok());
-        let names = after.split('`').skip(1).step_by(2).map(|n| n.rsplit("::").next().unwrap_or(n));
-        let inside = after.contains(", in `");
-        for (n, name) in numbers.zip(names) {
-            let upto = source.get(..n).unwrap_or_default();
-            let heading = if inside { upto.iter().rfind(|l| l.contains("fn ")) } else { upto.last() };
-            if !heading.is_some_and(|l| l.contains(name)) {
-                missing.push(format!("{path}:{n}, {name}"));
+    for link in line.split("](").skip(1).filter_map(|rest| rest.split(')').next()).filter(|link| !link.contains("://")) {
+        let (file, anchor) = link.split_once('#').unwrap_or((link, ""));
+        let target = if file.is_empty() { page.to_path_buf() } else { folder.join(file) };
+        let text = fs::read_to_string(&target).unwrap_or_default();
+        if !target.exists() || !anchor.is_empty() && !text.lines().any(|l| l.starts_with('#') && slug(l) == anchor) {
+            missing.push(format!("the link {link}"));
+        }
+    }
+    let named = words(line).filter(|w| w.ends_with(".md") && w.len() > 3 && !w.contains('*'));
+    missing.extend(named.filter(|w| !Path::new(w).exists() && !folder.join(w).exists()).map(|w| format!("the page {w}")));
+    let quoted = line.split('`').skip(1).step_by(2).filter(|w| !w.contains(' ') && !w.contains(['*', '.', ':', '=']));
+    let top = |w: &&str| w.split('/').next().is_some_and(|first| first != "target" && w.contains('/') && Path::new(first).is_dir());
+    missing.extend(quoted.filter(top).filter(|w| !Path::new(w).exists()).map(|w| format!("the path {w}")));
+    missing
+}
+
+fn wrong_links(wrong: &mut Vec<String>) {
+    let mut pages = vec![(PathBuf::from("README.md"), read("README.md")), (PathBuf::from("NOTICE"), read("NOTICE"))];
+    ["docs", "vectors", "compare", "host"].iter().for_each(|folder| files(Path::new(folder), &["md"], &mut pages));
+    for (page, text) in &pages {
+        for (i, line) in text.lines().enumerate() {
+            wrong.extend(missing_links(page, line).into_iter().map(|what| format!("{}:{}: {what}", page.display(), i + 1)));
+        }
+    }
+}
+
+/// ARCHITECTURE's table has every crate, at a level above those of all crates that it uses.
+fn wrong_levels(uses: &BTreeMap<String, Vec<String>>, wrong: &mut Vec<String>) {
+    let page = "docs/ARCHITECTURE.md";
+    let text = read(page);
+    let mut drawn: BTreeMap<String, usize> = BTreeMap::new();
+    let mut last = 0;
+    for ((_, number), (_, cell)) in column(&text, "level").into_iter().zip(column(&text, "crate")) {
+        last = number.parse().unwrap_or(last);
+        drawn.extend(cell.split(',').map(|name| (name.trim().trim_matches('`').to_string(), last)));
+    }
+    for (name, below) in uses {
+        match drawn.get(name) {
+            None => wrong.push(format!("{page}: the crate {name}")),
+            Some(at) => {
+                let high = below.iter().filter(|of| drawn.get(*of).is_some_and(|other| other >= at));
+                wrong.extend(high.map(|of| format!("{page}: {name} at a level above {of}, which it uses,")));
             }
         }
     }
-    missing
+    wrong.extend(drawn.keys().filter(|name| !uses.contains_key(*name)).map(|name| format!("{page}: a line of crates.txt for {name}")));
 }
 
 fn main() {
-    let crates = crates();
+    let uses = uses();
+    let (crates, edits) = (crates(&uses), edits(&uses));
     let mut wrong = Vec::new();
-    for (page, tables) in [("crates/SENTENCES.md", true), ("crates/PROMISES.md", true), ("docs/DECISIONS.md", false), ("docs/ARCHITECTURE.md", false)]
-    {
-        let text = fs::read_to_string(page).expect("a page");
-        for (i, line) in text.lines().enumerate() {
+    // A page, and how many first columns of its tables are prose.
+    for (page, prose) in [("docs/SENTENCES.md", 2), ("docs/PROMISES.md", 1), ("docs/DECISIONS.md", 2), ("docs/ARCHITECTURE.md", 1)] {
+        for (i, line) in read(page).lines().enumerate() {
             let mut cited = missing_paths(line);
-            cited.extend(missing_edits(line));
-            cited.extend(missing_lines(line));
-            if tables && line.starts_with('|') {
-                line.split('|').skip(2).for_each(|cell| cited.extend(missing_names(&crates, cell)));
+            cited.extend(missing_edits(line, &edits));
+            if line.starts_with('|') {
+                line.split('|').skip(prose + 1).for_each(|cell| cited.extend(missing_names(&crates, cell)));
             }
             wrong.extend(cited.into_iter().map(|what| format!("{page}:{}: {what}", i + 1)));
         }
     }
-    let picture = fs::read_to_string("docs/ARCHITECTURE.md").expect("a page");
-    let drawn = |name: &str| {
-        picture.lines().filter(|line| line.starts_with("    ")).any(|line| line.split(|c: char| !c.is_alphanumeric() && c != '_').any(|w| w == name))
-    };
-    wrong.extend(crates.keys().filter(|name| !drawn(name)).map(|name| format!("docs/ARCHITECTURE.md: no crate {name}")));
+    wrong_families("docs/PROMISES.md", &edits, &mut wrong);
+    wrong_statements("docs/PROMISES.md", &mut wrong);
+    wrong_sections(&mut wrong);
+    wrong_links(&mut wrong);
+    wrong_levels(&uses, &mut wrong);
     wrong.iter().for_each(|line| eprintln!("tables: {line} is not there"));
     std::process::exit(!wrong.is_empty() as i32)
 }

@@ -1,5 +1,5 @@
 //! Frames and parses a buffer of messages, with the Rattle functions and with plain Rust, results compared, beside memcpy of the same bytes.
-//! Not a test: it prints what it measured. `bench/run` builds and runs it.
+//! It prints what it measured; with --check it only compares, on short streams. `bench/run` builds and runs it.
 
 use std::hint::black_box;
 use std::time::Instant;
@@ -97,12 +97,12 @@ fn plain(bytes: &[u8], payload: &mut [u8]) -> (u64, usize) {
     (sum, count)
 }
 
-/// About 64 MB of CopyData messages of `size` bytes each, as far as they can be so short: Begin, Commit, Message and other data in turn; of 30
+/// About so many bytes of CopyData messages of `size` bytes each, as far as they can be so short: Begin, Commit, Message and other data in turn; of 30
 /// bytes, XLogData without data.
-fn stream(size: usize) -> Vec<u8> {
-    let mut bytes = Vec::with_capacity(64 << 20);
+fn stream(size: usize, length: usize) -> Vec<u8> {
+    let mut bytes = Vec::with_capacity(length);
     let mut i = 0u64;
-    while bytes.len() < 64 << 20 {
+    while bytes.len() < length {
         let mut data = match i % 4 {
             _ if size == 30 => Vec::new(),
             0 => vec![b'B'],
@@ -136,17 +136,29 @@ fn best(mut run: impl FnMut()) -> f64 {
         .fold(f64::MAX, f64::min)
 }
 
+const SIZES: [usize; 8] = [30, 50, 64, 100, 300, 600, 1024, 8192];
+
+/// Both sides' sum and count over a stream, which must be equal.
+fn compared(bytes: &[u8], payload: &mut [u8]) -> (u64, usize) {
+    let (ours, rust) = (rattle(bytes, payload), plain(bytes, payload));
+    assert_eq!(ours, rust, "the two differ");
+    ours
+}
+
 fn main() {
+    if std::env::args().any(|argument| argument == "--check") {
+        let messages: usize = SIZES.iter().map(|size| compared(&stream(*size, 1 << 20), &mut vec![0u8; LIMIT]).1).sum();
+        println!("bench: {messages} messages, the same results on both sides");
+        return;
+    }
     println!(
         "{:>8} {:>9} {:>12} {:>9} {:>9} {:>9} {:>7} {:>9}",
         "bytes", "messages", "ours msg/s", "ours MB/s", "Rust MB/s", "memcpy", "ratio", "ours ns"
     );
-    for size in [30usize, 50, 64, 100, 300, 600, 1024, 8192] {
-        let bytes = stream(size);
+    for size in SIZES {
+        let bytes = stream(size, 64 << 20);
         let mut payload = vec![0u8; LIMIT];
-        let a = rattle(&bytes, &mut payload);
-        let b = plain(&bytes, &mut payload);
-        assert_eq!(a, b, "the two differ");
+        let (_, count) = compared(&bytes, &mut payload);
         let ours = best(|| {
             black_box(rattle(black_box(&bytes), &mut payload));
         });
@@ -161,14 +173,14 @@ fn main() {
         let mb = bytes.len() as f64 / 1e6;
         println!(
             "{:>8} {:>9} {:>12.0} {:>9.0} {:>9.0} {:>9.0} {:>7.2} {:>9.1}",
-            bytes.len() / a.1,
-            a.1,
-            a.1 as f64 / ours,
+            bytes.len() / count,
+            count,
+            count as f64 / ours,
             mb / ours,
             mb / rust,
             mb / mem,
             ours / rust,
-            ours / a.1 as f64 * 1e9
+            ours / count as f64 * 1e9
         );
     }
 }

@@ -1,7 +1,8 @@
 //! Compares, commit by commit, what `follow --json` printed with what the database holds.
 //!
-//! check PRINTED PEEKED [TABLE=DUMP]...: PRINTED has the lines of follow; PEEKED the messages of a second slot, read from the server by
-//! SQL, one in hexadecimal digits a line; a DUMP the table as COPY writes it, by id.
+//! check [--first PRINTED LSN] PRINTED PEEKED [TABLE=DUMP]...: PRINTED has the lines of follow; PEEKED the messages of a second slot, read from
+//! the server by SQL, one in hexadecimal digits a line; a DUMP the table as COPY writes it, by id. With --first there are two lists of lines: the
+//! first was broken off when LSN was confirmed, so what was committed up to LSN must stand in the first, and all else in the second.
 use std::collections::{BTreeMap, BTreeSet};
 use std::{env, fs, process};
 
@@ -128,7 +129,11 @@ fn field<'a>(line: &'a str, name: &str) -> &'a str {
 }
 
 fn position(line: &str, name: &str) -> u64 {
-    let (high, low) = field(line, name).split_once('/').expect("a slash");
+    parsed(field(line, name))
+}
+
+fn parsed(text: &str) -> u64 {
+    let (high, low) = text.split_once('/').expect("a slash");
     let part = |text| u64::from_str_radix(text, 16).expect("hexadecimal digits");
     part(high) << 32 | part(low)
 }
@@ -137,9 +142,9 @@ fn message_bytes(prefix: &str, content: &[u8]) -> Vec<u8> {
     [b"M", prefix.as_bytes(), b"\0", content].concat()
 }
 
-fn printed(text: &str) -> Stream {
-    let mut stream = Stream::default();
-    for line in text.lines() {
+// Reads lines on from those before. A line that was broken off has no end.
+fn printed(mut stream: Stream, text: &str) -> Stream {
+    for line in text[..text.rfind('\n').map_or(0, |end| end + 1)].lines() {
         match field(line, "event") {
             "begin" => stream.begin(field(line, "xid").parse().expect("a number")),
             "commit" => stream.commit(position(line, "lsn"), position(line, "end_lsn")),
@@ -253,9 +258,18 @@ fn compare_table(tables: &Tables, name: &str, dump: &str) {
 }
 
 fn main() {
-    let arguments: Vec<String> = env::args().collect();
+    let mut arguments: Vec<String> = env::args().collect();
     let read = |path: &str| fs::read_to_string(path).unwrap_or_else(|e| fail(&format!("{path}: {e}")));
-    let (ours, theirs) = (printed(&read(&arguments[1])), peeked(&read(&arguments[2])));
+    let mut before = Stream::default();
+    if arguments[1] == "--first" {
+        let confirmed = parsed(&arguments[3]);
+        before = printed(before, &read(&arguments[2]));
+        before.broken_off += u64::from(before.open.take().is_some());
+        before.commits.retain(|commit| commit.end <= confirmed);
+        println!("{} commits stand in the first list and are confirmed", before.commits.len());
+        arguments.drain(1..4);
+    }
+    let (ours, theirs) = (printed(before, &read(&arguments[1])), peeked(&read(&arguments[2])));
     compare_commits(&ours, &theirs);
     let mut tables = Tables::new();
     for change in ours.commits.iter().flat_map(|commit| &commit.changes) {

@@ -117,7 +117,7 @@ fn to_client(mut server: TcpStream, mut client: TcpStream, mut limit: Option<usi
         };
         limit = limit.map(|left| left - n);
         messages.feed(&buffer[..n], |tag, head| {
-            // XLogData with a Commit: its end stands behind 25 bytes of XLogData, the letter, a flag and the commit's position.
+            // XLogData with a Commit: its end stands after 25 bytes of XLogData, the letter, a flag and the commit's position.
             if tag == b'd' && head.len() == HEAD && head[0] == b'w' && head[25] == b'C' && number(&head[35..43]) <= confirmed {
                 account.lock().expect("no thread fails").again += 1;
             }

@@ -15,7 +15,7 @@ fn main() -> Result<(), Refusal> {
     let mut moment = 0;
     while run.state() != State::Ended {
         moment += 1;
-        let input = Input { moment: Moment(moment), client_time: 0, stop: false, queue: Queue::Free, ended: true };
+        let input = Input { moment: Moment(moment), client_time_micros: 0, stop: false, queue: Queue::Free, ended: true };
         let step = run.advance(&input, unread, &mut payload, &mut out);
         unread = &unread[step.taken..];
         // A host would send out[..step.written] here.
@@ -41,5 +41,6 @@ fn show(event: Event) {
             println!("data to {wal_end}, {} bytes", data.len())
         }
         Event::StoppedAt { reached } => println!("stopped at {reached}"),
+        other => println!("{other:?}"),
     }
 }

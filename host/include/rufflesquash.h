@@ -1,8 +1,18 @@
-/* The functions of libexport.a, for C. Rust programs use the crate beside this file.
+/* The functions of libexport.a, for C. Rust programs use the crate beside this file. What each call does is docs/SCOPE.md, section 9.
  *
- * A run is 48 words of 64 bits. Any words are the words of some run, so no call refuses words; a host keeps and copies them, and looks
- * into them with the calls below alone. A lent buffer is a pointer and a length; a pointer to no bytes may be anything but must not be
- * null. Buffers of one call do not overlap. Numbers of refusals are those of docs/ and crates/error: 0 is none. */
+ * A run is 64 words of 64 bits. Any words are the words of some run, so no call refuses words; a host keeps and copies them, and looks into
+ * them with the calls below alone (the names of the words are for debugging). The same holds of a cell, a reader and a query.
+ *
+ * A lent buffer is a pointer and a length. An empty one may have any pointer, the null pointer too; so may an empty list of texts. Buffers
+ * of one call do not overlap, unless all of them are only read. Arrays and single words are never null.
+ *
+ * A part that an answer names (a place and a length) lies within the buffer that it is a part of, whatever words a call was given: place
+ * and place + length are at most that buffer's length.
+ *
+ * A call that can refuse answers the refusal's number, 1 to 25 (docs/SCOPE.md, section 7); 0 is none.
+ *
+ * The macros are the list of crates/words/src/layout.rt, name by name; a host that was built with another list is told by
+ * rufflesquash_abi() != RUFFLESQUASH_ABI. */
 #ifndef RUFFLESQUASH_H
 #define RUFFLESQUASH_H
 
@@ -14,72 +24,235 @@
 extern "C" {
 #endif
 
-#define RUFFLESQUASH_RUN_WORDS 48
-#define RUFFLESQUASH_SETTINGS_WORDS 7
-#define RUFFLESQUASH_ANSWER_WORDS 12
-#define RUFFLESQUASH_METRICS_WORDS 7
-#define RUFFLESQUASH_CELL_WORDS 4
+/* The number of this list and of the functions; it grows with every change of either. */
+#define RUFFLESQUASH_ABI 2
 
-/* A name in a list of names. */
+/* Settings: intervals are nanoseconds, a flag is true unless 0. */
+#define RUFFLESQUASH_SETTINGS_WORDS 7
+#define RUFFLESQUASH_SETTINGS_STATUS_INTERVAL_NANOS 0
+#define RUFFLESQUASH_SETTINGS_IDLE_WAKEUP_INTERVAL_NANOS 1
+#define RUFFLESQUASH_SETTINGS_MAX_MESSAGE_BYTES 2
+#define RUFFLESQUASH_SETTINGS_HAS_STOP 3
+#define RUFFLESQUASH_SETTINGS_STOP_AT_LSN 4
+#define RUFFLESQUASH_SETTINGS_TIMING 5
+#define RUFFLESQUASH_SETTINGS_BINARY 6
+
+/* A run: its settings first; the words from RUN_SPARE on are 0 and ignored, so that later versions have room. */
+#define RUFFLESQUASH_RUN_WORDS 64
+#define RUFFLESQUASH_RUN_STATUS_INTERVAL_NANOS 0
+#define RUFFLESQUASH_RUN_IDLE_WAKEUP_INTERVAL_NANOS 1
+#define RUFFLESQUASH_RUN_MAX_MESSAGE_BYTES 2
+#define RUFFLESQUASH_RUN_HAS_STOP 3
+#define RUFFLESQUASH_RUN_STOP_AT_LSN 4
+#define RUFFLESQUASH_RUN_TIMING 5
+#define RUFFLESQUASH_RUN_BINARY 6
+#define RUFFLESQUASH_RUN_STATE 7
+#define RUFFLESQUASH_RUN_HEADER_0 8
+#define RUFFLESQUASH_RUN_HEADER_1 9
+#define RUFFLESQUASH_RUN_HEADER_2 10
+#define RUFFLESQUASH_RUN_HEADER_3 11
+#define RUFFLESQUASH_RUN_HEADER_4 12
+#define RUFFLESQUASH_RUN_FILLED 13
+#define RUFFLESQUASH_RUN_PAYLOAD_LEN 14
+#define RUFFLESQUASH_RUN_READER_REFUSED 15
+#define RUFFLESQUASH_RUN_LAST_MOMENT 16
+#define RUFFLESQUASH_RUN_WAIT_BEGAN 17
+#define RUFFLESQUASH_RUN_STALL_BEGAN 18
+#define RUFFLESQUASH_RUN_APPLIED 19
+#define RUFFLESQUASH_RUN_SIGNALLED 20
+#define RUFFLESQUASH_RUN_PENDING_SINCE 21
+#define RUFFLESQUASH_RUN_TIMED 22
+#define RUFFLESQUASH_RUN_STATUS_SENT 23
+#define RUFFLESQUASH_RUN_STATUS_POSITION 24
+#define RUFFLESQUASH_RUN_STATUS_AT 25
+#define RUFFLESQUASH_RUN_DRAINED 26
+#define RUFFLESQUASH_RUN_PENDING 27
+#define RUFFLESQUASH_RUN_WHOLE_TAG 28
+#define RUFFLESQUASH_RUN_WHOLE_LEN 29
+#define RUFFLESQUASH_RUN_WHOLE_IN_WAIT 30
+#define RUFFLESQUASH_RUN_EVENT 31
+#define RUFFLESQUASH_RUN_EVENT_1 32
+#define RUFFLESQUASH_RUN_EVENT_2 33
+#define RUFFLESQUASH_RUN_EVENT_3 34
+#define RUFFLESQUASH_RUN_EVENT_4 35
+#define RUFFLESQUASH_RUN_EVENT_5 36
+#define RUFFLESQUASH_RUN_EVENT_6 37
+#define RUFFLESQUASH_RUN_STALLED 38
+#define RUFFLESQUASH_RUN_STOPS 39
+#define RUFFLESQUASH_RUN_REACHED 40
+#define RUFFLESQUASH_RUN_EVENTS_FORWARDED 41
+#define RUFFLESQUASH_RUN_FEEDBACK_SENT 42
+#define RUFFLESQUASH_RUN_KEEPALIVE_REPLIES 43
+#define RUFFLESQUASH_RUN_STALL_COUNT 44
+#define RUFFLESQUASH_RUN_STALL_MICROS_TOTAL 45
+#define RUFFLESQUASH_RUN_LAST_APPLIED_LSN 46
+#define RUFFLESQUASH_RUN_LAST_WAL_END 47
+#define RUFFLESQUASH_RUN_SPARE 48
+
+/* States of a run; every other number is Ended. */
+#define RUFFLESQUASH_STATE_OPENING 0
+#define RUFFLESQUASH_STATE_TURN 1
+#define RUFFLESQUASH_STATE_DRAIN 2
+#define RUFFLESQUASH_STATE_READING 3
+#define RUFFLESQUASH_STATE_WAITING 4
+#define RUFFLESQUASH_STATE_HANDLING 5
+#define RUFFLESQUASH_STATE_OFFERING 6
+#define RUFFLESQUASH_STATE_ENDED 7
+
+/* The queue to the consumer; every other number is a closed one. */
+#define RUFFLESQUASH_QUEUE_FREE 0
+#define RUFFLESQUASH_QUEUE_FULL 1
+#define RUFFLESQUASH_QUEUE_CLOSED 2
+
+/* What a step answers; the event's numbers follow its kind. */
+#define RUFFLESQUASH_ANSWER_WORDS 12
+#define RUFFLESQUASH_ANSWER_REFUSAL 0
+#define RUFFLESQUASH_ANSWER_TAKEN 1
+#define RUFFLESQUASH_ANSWER_WRITTEN 2
+#define RUFFLESQUASH_ANSWER_WAITED_TOLD 3
+#define RUFFLESQUASH_ANSWER_WAITED_NANOS 4
+#define RUFFLESQUASH_ANSWER_EVENT 5
+#define RUFFLESQUASH_ANSWER_EVENT_1 6
+#define RUFFLESQUASH_ANSWER_EVENT_2 7
+#define RUFFLESQUASH_ANSWER_EVENT_3 8
+#define RUFFLESQUASH_ANSWER_EVENT_4 9
+#define RUFFLESQUASH_ANSWER_EVENT_5 10
+#define RUFFLESQUASH_ANSWER_EVENT_6 11
+
+/* Kinds of events; every other number is none. */
+#define RUFFLESQUASH_EVENT_NOTHING 0
+#define RUFFLESQUASH_EVENT_KEEP_ALIVE 1
+#define RUFFLESQUASH_EVENT_BEGIN 2
+#define RUFFLESQUASH_EVENT_COMMIT 3
+#define RUFFLESQUASH_EVENT_MESSAGE 4
+#define RUFFLESQUASH_EVENT_XLOG_DATA 5
+#define RUFFLESQUASH_EVENT_STOPPED_AT 6
+
+/* When to step again. */
+#define RUFFLESQUASH_NEXT_WORDS 2
+#define RUFFLESQUASH_NEXT_KIND 0
+#define RUFFLESQUASH_NEXT_MOMENT 1
+#define RUFFLESQUASH_NEXT_AT_ONCE 0
+#define RUFFLESQUASH_NEXT_FROM 1
+#define RUFFLESQUASH_NEXT_ON_INPUT 2
+#define RUFFLESQUASH_NEXT_NEVER 3
+
+/* The counters of a run. */
+#define RUFFLESQUASH_METRICS_WORDS 7
+#define RUFFLESQUASH_METRICS_EVENTS_FORWARDED 0
+#define RUFFLESQUASH_METRICS_FEEDBACK_SENT 1
+#define RUFFLESQUASH_METRICS_KEEPALIVE_REPLIES 2
+#define RUFFLESQUASH_METRICS_STALL_COUNT 3
+#define RUFFLESQUASH_METRICS_STALL_MICROS_TOTAL 4
+#define RUFFLESQUASH_METRICS_LAST_APPLIED_LSN 5
+#define RUFFLESQUASH_METRICS_LAST_WAL_END 6
+
+/* The last status. */
+#define RUFFLESQUASH_STATUS_WORDS 3
+#define RUFFLESQUASH_STATUS_SENT 0
+#define RUFFLESQUASH_STATUS_POSITION 1
+#define RUFFLESQUASH_STATUS_AT 2
+
+/* The error that ended a run. */
+#define RUFFLESQUASH_ERROR_WORDS 2
+#define RUFFLESQUASH_ERROR_GIVEN 0
+#define RUFFLESQUASH_ERROR_LEN 1
+
+/* A progress cell. */
+#define RUFFLESQUASH_CELL_WORDS 4
+#define RUFFLESQUASH_CELL_APPLIED 0
+#define RUFFLESQUASH_CELL_SIGNALLED 1
+#define RUFFLESQUASH_CELL_PENDING_SINCE 2
+#define RUFFLESQUASH_CELL_TIMED 3
+
+/* A reader of messages, and what a read answers. */
+#define RUFFLESQUASH_READER_WORDS 8
+#define RUFFLESQUASH_READER_HEADER_0 0
+#define RUFFLESQUASH_READER_HEADER_1 1
+#define RUFFLESQUASH_READER_HEADER_2 2
+#define RUFFLESQUASH_READER_HEADER_3 3
+#define RUFFLESQUASH_READER_HEADER_4 4
+#define RUFFLESQUASH_READER_FILLED 5
+#define RUFFLESQUASH_READER_PAYLOAD_LEN 6
+#define RUFFLESQUASH_READER_REFUSED 7
+#define RUFFLESQUASH_READ_WORDS 5
+#define RUFFLESQUASH_READ_REFUSAL 0
+#define RUFFLESQUASH_READ_TAKEN 1
+#define RUFFLESQUASH_READ_WHOLE 2
+#define RUFFLESQUASH_READ_TAG 3
+#define RUFFLESQUASH_READ_LEN 4
+
+/* The answers to a simple query; the query's last word is 0 and ignored. */
+#define RUFFLESQUASH_QUERY_WORDS 4
+#define RUFFLESQUASH_QUERY_FAILED 0
+#define RUFFLESQUASH_QUERY_KEPT 1
+#define RUFFLESQUASH_QUERY_ERROR_LEN 2
+#define RUFFLESQUASH_QUERY_SPARE 3
+#define RUFFLESQUASH_FOLD_WORDS 3
+#define RUFFLESQUASH_FOLD_KIND 0
+#define RUFFLESQUASH_FOLD_VALUE 1
+#define RUFFLESQUASH_FOLD_ERROR_LEN 2
+#define RUFFLESQUASH_FOLD_MORE 0
+#define RUFFLESQUASH_FOLD_ROW 1
+#define RUFFLESQUASH_FOLD_READY 2
+#define RUFFLESQUASH_FOLD_FAILED 3
+#define RUFFLESQUASH_FOLD_REFUSED 4
+
+/* A column of a row. */
+#define RUFFLESQUASH_COLUMN_WORDS 3
+#define RUFFLESQUASH_COLUMN_KIND 0
+#define RUFFLESQUASH_COLUMN_FROM 1
+#define RUFFLESQUASH_COLUMN_LEN 2
+#define RUFFLESQUASH_COLUMN_ABSENT 0
+#define RUFFLESQUASH_COLUMN_NULL 1
+#define RUFFLESQUASH_COLUMN_VALUE 2
+
+/* An authentication request. */
+#define RUFFLESQUASH_AUTH_WORDS 4
+#define RUFFLESQUASH_AUTH_REFUSAL 0
+#define RUFFLESQUASH_AUTH_CODE 1
+#define RUFFLESQUASH_AUTH_FROM 2
+#define RUFFLESQUASH_AUTH_LEN 3
+
+/* A field of an error, and the fields' numbers. */
+#define RUFFLESQUASH_FIELD_WORDS 3
+#define RUFFLESQUASH_FIELD_GIVEN 0
+#define RUFFLESQUASH_FIELD_FROM 1
+#define RUFFLESQUASH_FIELD_LEN 2
+#define RUFFLESQUASH_FIELD_SEVERITY 0
+#define RUFFLESQUASH_FIELD_CODE 1
+#define RUFFLESQUASH_FIELD_MESSAGE 2
+#define RUFFLESQUASH_FIELD_DETAIL 3
+#define RUFFLESQUASH_FIELD_HINT 4
+#define RUFFLESQUASH_FIELD_POSITION 5
+#define RUFFLESQUASH_FIELD_WHERE 6
+#define RUFFLESQUASH_FIELD_SCHEMA 7
+#define RUFFLESQUASH_FIELD_TABLE 8
+#define RUFFLESQUASH_FIELD_COLUMN 9
+#define RUFFLESQUASH_FIELD_DATA_TYPE 10
+#define RUFFLESQUASH_FIELD_CONSTRAINT 11
+#define RUFFLESQUASH_FIELD_FILE 12
+#define RUFFLESQUASH_FIELD_LINE 13
+#define RUFFLESQUASH_FIELD_ROUTINE 14
+
+/* Kinds of refusals. */
+#define RUFFLESQUASH_KIND_NONE 0
+#define RUFFLESQUASH_KIND_USAGE 1
+#define RUFFLESQUASH_KIND_IO 2
+#define RUFFLESQUASH_KIND_PROTOCOL 3
+#define RUFFLESQUASH_KIND_SERVER 4
+#define RUFFLESQUASH_KIND_MESSAGE_TOO_LARGE 5
+#define RUFFLESQUASH_KIND_PARSE_LSN 6
+/* A text in a list of texts. */
 struct rufflesquash_bytes {
     const uint8_t *at;
     size_t len;
 };
 
-/* Words of the settings. Intervals are nanoseconds; a flag is true unless 0. */
-enum rufflesquash_setting {
-    RUFFLESQUASH_STATUS_INTERVAL = 0,
-    RUFFLESQUASH_IDLE_WAKEUP_INTERVAL = 1,
-    RUFFLESQUASH_MAX_MESSAGE_SIZE = 2,
-    RUFFLESQUASH_HAS_STOP = 3,
-    RUFFLESQUASH_STOP_AT_LSN = 4,
-    RUFFLESQUASH_TIMING = 5,
-    RUFFLESQUASH_BINARY = 6
-};
+/* RUFFLESQUASH_ABI of the archive. */
+uint64_t rufflesquash_abi(void);
 
-/* The queue to the consumer; every other number counts as closed. */
-enum rufflesquash_queue { RUFFLESQUASH_FREE = 0, RUFFLESQUASH_FULL = 1, RUFFLESQUASH_CLOSED = 2 };
-
-enum rufflesquash_run_state {
-    RUFFLESQUASH_OPENING = 0,
-    RUFFLESQUASH_TURN = 1,
-    RUFFLESQUASH_DRAIN = 2,
-    RUFFLESQUASH_READING = 3,
-    RUFFLESQUASH_WAITING = 4,
-    RUFFLESQUASH_HANDLING = 5,
-    RUFFLESQUASH_OFFERING = 6,
-    RUFFLESQUASH_ENDED = 7
-};
-
-/* Words of a step's answer. The event's numbers follow its kind. */
-enum rufflesquash_answer {
-    RUFFLESQUASH_REFUSAL = 0,
-    RUFFLESQUASH_TAKEN = 1,
-    RUFFLESQUASH_WRITTEN = 2,
-    RUFFLESQUASH_WAITED_TOLD = 3, /* 1 where the next word tells how long a confirmed position had waited */
-    RUFFLESQUASH_WAITED = 4,      /* nanoseconds */
-    RUFFLESQUASH_EVENT = 5        /* the event's kind; its numbers are words 6 to 11 */
-};
-
-/* Kinds of events and their numbers. Times are two's complement, microseconds from 2000-01-01; a part begins at a place of the payload
- * buffer and has a length. */
-enum rufflesquash_event {
-    RUFFLESQUASH_NOTHING = 0,
-    RUFFLESQUASH_KEEP_ALIVE = 1, /* wal_end, server_time, reply_requested */
-    RUFFLESQUASH_BEGIN = 2,      /* final_lsn, commit_time, xid */
-    RUFFLESQUASH_COMMIT = 3,     /* lsn, end_lsn, commit_time */
-    RUFFLESQUASH_MESSAGE = 4,    /* transactional, lsn, prefix's place, its length, content's place, its length */
-    RUFFLESQUASH_XLOG_DATA = 5,  /* wal_start, wal_end, server_time, data's place, its length */
-    RUFFLESQUASH_STOPPED_AT = 6  /* reached */
-};
-
-/* When to step again while nothing new comes; the moment is the second word. */
-enum rufflesquash_next {
-    RUFFLESQUASH_AT_ONCE = 0,
-    RUFFLESQUASH_FROM = 1,
-    RUFFLESQUASH_ON_INPUT = 2,
-    RUFFLESQUASH_NEVER = 3
-};
+/* ---- a run */
 
 /* Writes the query that opens a stream. Answers the refusal (1, 25, 4); refused, run and out are as they were and written is 0. */
 uint64_t rufflesquash_open(const uint64_t settings[RUFFLESQUASH_SETTINGS_WORDS], const uint8_t *slot, size_t slot_len,
@@ -90,13 +263,22 @@ uint64_t rufflesquash_open(const uint64_t settings[RUFFLESQUASH_SETTINGS_WORDS],
 uint64_t rufflesquash_already_open(const uint64_t settings[RUFFLESQUASH_SETTINGS_WORDS], uint64_t start,
                                    uint64_t run[RUFFLESQUASH_RUN_WORDS]);
 
-/* One step. The moment is nanoseconds, the client's time microseconds from 2000-01-01; ended counts only where no byte is unread. */
+/* One step. The moment is nanoseconds, 1 to 2^63 - 1, the client's time microseconds from 2000-01-01; ended counts only where no byte is
+ * unread. Words of the answer: the refusal; how many unread bytes were taken; how many bytes at the front of out are to be sent; whether a
+ * waiting time is told (1 or 0), and that time in nanoseconds; the event's kind and its numbers:
+ *   KEEP_ALIVE  wal_end, server_time, reply_requested
+ *   BEGIN       final_lsn, commit_time, xid
+ *   COMMIT      lsn, end_lsn, commit_time
+ *   MESSAGE     transactional, lsn, the prefix's place in payload, its length, the content's place, its length
+ *   XLOG_DATA   wal_start, wal_end, server_time, the data's place in payload, its length
+ *   STOPPED_AT  reached
+ * Times are two's complement, microseconds from 2000-01-01. Numbers that a kind does not have are 0. */
 void rufflesquash_step(uint64_t run[RUFFLESQUASH_RUN_WORDS], uint64_t moment, int64_t client_time, bool stop, uint64_t queue, bool ended,
                        const uint8_t *unread, size_t unread_len, uint8_t *payload, size_t payload_len, uint8_t *out, size_t out_len,
                        uint64_t answer[RUFFLESQUASH_ANSWER_WORDS]);
 
-/* Up to four steps with the same input, until one of them has a refusal, an event or bytes to send; taken is their sum. Four steps hand
- * on a message that is unread whole, and are made at once. */
+/* One to four steps with the same input, until one of them has a refusal, an event or bytes to send; the answer is the last one's, taken
+ * is their sum. */
 void rufflesquash_advance(uint64_t run[RUFFLESQUASH_RUN_WORDS], uint64_t moment, int64_t client_time, bool stop, uint64_t queue, bool ended,
                           const uint8_t *unread, size_t unread_len, uint8_t *payload, size_t payload_len, uint8_t *out, size_t out_len,
                           uint64_t answer[RUFFLESQUASH_ANSWER_WORDS]);
@@ -104,7 +286,10 @@ void rufflesquash_advance(uint64_t run[RUFFLESQUASH_RUN_WORDS], uint64_t moment,
 /* The consumer has applied all before a position. */
 void rufflesquash_report(uint64_t run[RUFFLESQUASH_RUN_WORDS], uint64_t position, uint64_t moment);
 
-void rufflesquash_next_step(const uint64_t run[RUFFLESQUASH_RUN_WORDS], size_t payload_len, uint64_t queue, uint64_t next[2]);
+/* When a step moves next while no byte is unread, the input has not ended, no stop is requested, the queue stays as it is and nothing is
+ * reported: its kind, and for FROM the moment. A host that has unread bytes, an ended input or a stop request steps at once instead. */
+void rufflesquash_next_step(const uint64_t run[RUFFLESQUASH_RUN_WORDS], size_t payload_len, uint64_t queue,
+                            uint64_t next[RUFFLESQUASH_NEXT_WORDS]);
 
 uint64_t rufflesquash_state(const uint64_t run[RUFFLESQUASH_RUN_WORDS]);
 
@@ -115,12 +300,14 @@ void rufflesquash_metrics(const uint64_t run[RUFFLESQUASH_RUN_WORDS], uint64_t c
 uint64_t rufflesquash_position(const uint64_t run[RUFFLESQUASH_RUN_WORDS]);
 
 /* Whether a status was sent, the position it confirmed, its moment. */
-void rufflesquash_last_sent(const uint64_t run[RUFFLESQUASH_RUN_WORDS], uint64_t status[3]);
+void rufflesquash_last_sent(const uint64_t run[RUFFLESQUASH_RUN_WORDS], uint64_t status[RUFFLESQUASH_STATUS_WORDS]);
 
-/* Whether a server error ended the run, and its length at the payload buffer's front. */
-void rufflesquash_error_part(const uint64_t run[RUFFLESQUASH_RUN_WORDS], uint64_t part[2]);
+/* Whether a server error ended the run, and its length at the front of the payload buffer of its steps, of which the length is handed in:
+ * the answer is at most that. */
+void rufflesquash_error_part(const uint64_t run[RUFFLESQUASH_RUN_WORDS], size_t payload_len, uint64_t part[RUFFLESQUASH_ERROR_WORDS]);
 
-/* Each answers the refusal (25, 4); refused, out is as it was and written is 0. */
+/* ---- texts and positions. Each writer answers the refusal (25, 4); refused, out is as it was and written is 0. */
+
 uint64_t rufflesquash_lossy(const uint8_t *text, size_t text_len, uint8_t *out, size_t out_len, uint64_t *written);
 uint64_t rufflesquash_error_text(const uint8_t *payload, size_t payload_len, uint8_t *out, size_t out_len, uint64_t *written);
 uint64_t rufflesquash_display_position(uint64_t position, uint8_t *out, size_t out_len, uint64_t *written);
@@ -128,8 +315,8 @@ uint64_t rufflesquash_display_position(uint64_t position, uint8_t *out, size_t o
 /* Answers the refusal (22, 23, 24); refused, position is 0. */
 uint64_t rufflesquash_parse_position(const uint8_t *text, size_t text_len, uint64_t *position);
 
-/* A progress cell is 4 words, and any words are the words of some cell. A run has one of its own inside; these calls are for a host that keeps
- * another. Moments are nanoseconds, 0 is none. */
+/* ---- a progress cell. A run has one of its own inside; these calls are for a host that keeps another. Moments are nanoseconds, 0 is none. */
+
 void rufflesquash_cell_new(uint64_t start, bool timed, uint64_t cell[RUFFLESQUASH_CELL_WORDS]);
 uint64_t rufflesquash_cell_load(const uint64_t cell[RUFFLESQUASH_CELL_WORDS]);
 uint64_t rufflesquash_cell_pending_since(const uint64_t cell[RUFFLESQUASH_CELL_WORDS]);
@@ -142,17 +329,47 @@ uint64_t rufflesquash_cell_take_pending(uint64_t cell[RUFFLESQUASH_CELL_WORDS], 
 /* A pending moment from an earlier session: the older one counts. */
 void rufflesquash_cell_carry_pending(uint64_t cell[RUFFLESQUASH_CELL_WORDS], uint64_t since);
 
-/* An authentication request. Answer: the refusal (21), the code in two's complement, where the rest begins, its length. */
-void rufflesquash_auth_request(const uint8_t *payload, size_t payload_len, uint64_t answer[4]);
+/* ---- before and after the stream */
+
+/* Messages of the client. Each answers the refusal (25, 4); refused, out is as it was and written is 0. The texts of a startup message are
+ * names and values in turn. A status confirms a position in all its three places; it has 39 bytes. */
+uint64_t rufflesquash_write_startup(int32_t version, const struct rufflesquash_bytes *texts, size_t texts_len, uint8_t *out, size_t out_len,
+                                    uint64_t *written);
+uint64_t rufflesquash_write_query(const uint8_t *text, size_t text_len, uint8_t *out, size_t out_len, uint64_t *written);
+uint64_t rufflesquash_write_copy_done(uint8_t *out, size_t out_len, uint64_t *written);
+uint64_t rufflesquash_write_terminate(uint8_t *out, size_t out_len, uint64_t *written);
+uint64_t rufflesquash_write_status(uint64_t position, int64_t client_time, bool reply, uint8_t *out, size_t out_len, uint64_t *written);
+
+/* Reads the server's messages, as the steps of a run do. Words that are all 0 are a reader at the beginning of a message. The payload buffer
+ * has at least the limit's bytes and is lent unchanged to every read. Words of the answer: the refusal (3, 6, 7, 8, 9); how many unread
+ * bytes were taken; whether a message is whole (1 or 0), its tag, and its payload's length at the front of payload. */
+void rufflesquash_read(uint64_t reader[RUFFLESQUASH_READER_WORDS], size_t max_message_size, const uint8_t *unread, size_t unread_len,
+                       bool ended, uint8_t *payload, size_t payload_len, uint64_t answer[RUFFLESQUASH_READ_WORDS]);
+
+/* A whole message in answer to a simple query. Words that are all 0 are a query of which no message came. Words of the answer: its kind; its
+ * value, which of ROW is how many columns the row has, of FAILED how many bytes of the error stand at the front of error, of REFUSED the
+ * refusal (20), else 0; and of FAILED how many bytes the error had, else 0. MORE and ROW go on; READY, FAILED and REFUSED end the query,
+ * and the words are then those of a new one. */
+void rufflesquash_query_message(uint64_t query[RUFFLESQUASH_QUERY_WORDS], uint8_t tag, const uint8_t *payload, size_t payload_len,
+                                uint8_t *error, size_t error_len, uint64_t answer[RUFFLESQUASH_FOLD_WORDS]);
 
 /* How many columns a DataRow has. Answers the refusal (20); refused, columns is 0. */
 uint64_t rufflesquash_data_row(const uint8_t *payload, size_t payload_len, uint64_t *columns);
 
-/* Kinds of columns. */
-enum rufflesquash_column_kind { RUFFLESQUASH_ABSENT = 0, RUFFLESQUASH_NULL = 1, RUFFLESQUASH_VALUE = 2 };
+/* A column of a DataRow, from 0: its kind, its value's place in payload and length. Answers the refusal (20); refused, all of it is 0. */
+uint64_t rufflesquash_column(const uint8_t *payload, size_t payload_len, size_t index, uint64_t column[RUFFLESQUASH_COLUMN_WORDS]);
 
-/* A column of a DataRow, from 0: its kind, where its value begins, its length. A refused row has none. */
-void rufflesquash_column(const uint8_t *payload, size_t payload_len, size_t index, uint64_t column[3]);
+/* An authentication request: the refusal (21), the code in two's complement, the rest's place in payload and its length. */
+void rufflesquash_auth_request(const uint8_t *payload, size_t payload_len, uint64_t answer[RUFFLESQUASH_AUTH_WORDS]);
+
+/* A field of an ErrorResponse by its number: whether it is given (1 or 0), its place in payload and length. FIELD_CODE is the SQLSTATE. */
+void rufflesquash_error_field(const uint8_t *payload, size_t payload_len, size_t field, uint64_t part[RUFFLESQUASH_FIELD_WORDS]);
+
+/* The kind of a refusal by its number; KIND_NONE where no refusal has it. */
+uint64_t rufflesquash_refusal_kind(uint64_t refusal);
+
+/* 1 where a new connection may help after this refusal, else 0. */
+uint64_t rufflesquash_refusal_is_transient(uint64_t refusal);
 
 #ifdef __cplusplus
 }

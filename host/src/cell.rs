@@ -1,5 +1,6 @@
 //! The progress cell by itself.
 
+use crate::archive::assert_archive;
 use crate::ffi;
 use crate::{Lsn, Moment};
 use std::fmt;
@@ -8,62 +9,54 @@ use std::fmt;
 /// that keeps its own, for a session to come, carries what is pending over. It can be copied and kept.
 #[derive(Clone, PartialEq, Eq)]
 pub struct ProgressCell {
-    words: [u64; ffi::CELL_WORDS],
+    words: ffi::CellWords,
 }
 
 impl ProgressCell {
     /// A cell at a position. With timing it keeps the moment of the first raise that no status has covered.
     pub fn new(start: Lsn, timed: bool) -> ProgressCell {
-        let mut words = [0; ffi::CELL_WORDS];
-        // SAFETY: the array has the length that the function names.
-        unsafe { ffi::rufflesquash_cell_new(start.0, timed, &mut words) };
-        ProgressCell { words }
+        assert_archive();
+        ProgressCell { words: ffi::cell_new(start.0, timed) }
     }
 
     /// The position.
     pub fn load(&self) -> Lsn {
-        // SAFETY: the array has the length that the function names.
-        Lsn(unsafe { ffi::rufflesquash_cell_load(&self.words) })
+        Lsn(ffi::cell_load(&self.words))
     }
 
     /// The pending moment, where there is one.
     pub fn pending_since(&self) -> Option<Moment> {
-        // SAFETY: the array has the length that the function names.
-        some(unsafe { ffi::rufflesquash_cell_pending_since(&self.words) })
+        some(ffi::cell_pending_since(&self.words))
     }
 
     /// Reports a position at a moment; true where the signal is new. A lower position than before changes nothing.
     pub fn raise(&mut self, position: Lsn, moment: Moment) -> bool {
-        // SAFETY: the array has the length that the function names.
-        unsafe { ffi::rufflesquash_cell_raise(&mut self.words, position.0, moment.0) != 0 }
+        ffi::cell_raise(&mut self.words, position.0, moment.0) != 0
     }
 
     /// Clears the signal and answers the position.
     pub fn take_signal(&mut self) -> Lsn {
-        // SAFETY: the array has the length that the function names.
-        Lsn(unsafe { ffi::rufflesquash_cell_take_signal(&mut self.words) })
+        Lsn(ffi::cell_take_signal(&mut self.words))
     }
 
     /// A status with a position was sent that was read at a moment: answers the moment that was pending. Where the cell's position is above
     /// the one sent, `loaded_at` is pending from now on.
     pub fn take_pending(&mut self, sent: Lsn, loaded_at: Moment) -> Option<Moment> {
-        // SAFETY: the array has the length that the function names.
-        some(unsafe { ffi::rufflesquash_cell_take_pending(&mut self.words, sent.0, loaded_at.0) })
+        some(ffi::cell_take_pending(&mut self.words, sent.0, loaded_at.0))
     }
 
     /// Carries a pending moment over from an earlier session: the older one counts. Without timing nothing changes.
     pub fn carry_pending(&mut self, since: Moment) {
-        // SAFETY: the array has the length that the function names.
-        unsafe { ffi::rufflesquash_cell_carry_pending(&mut self.words, since.0) }
+        ffi::cell_carry_pending(&mut self.words, since.0)
     }
 
     /// The cell's words, to keep them elsewhere.
-    pub fn as_words(&self) -> &[u64; ffi::CELL_WORDS] {
+    pub fn as_words(&self) -> &ffi::CellWords {
         &self.words
     }
 
     /// The cell that words stand for; any words are those of some cell.
-    pub fn from_words(words: [u64; ffi::CELL_WORDS]) -> ProgressCell {
+    pub fn from_words(words: ffi::CellWords) -> ProgressCell {
         ProgressCell { words }
     }
 }

@@ -11,45 +11,58 @@
 //! let mut run = Run::already_open(&settings, Lsn(0x10))?;
 //! let mut payload = vec![0; run_limit(&settings)];
 //! let mut out = [0; 39];
-//! let input = Input { moment: Moment(1), client_time: 0, stop: false, queue: Queue::Free, ended: false };
+//! let input = Input { moment: Moment(1), client_time_micros: 0, stop: false, queue: Queue::Free, ended: false };
 //! let step = run.step(&input, b"", &mut payload, &mut out);
 //! assert_eq!((step.refusal, step.written), (None, 39));
 //! # fn run_limit(s: &Settings) -> usize { s.payload_len() }
 //! # Ok::<(), rufflesquash::Refusal>(())
 //! ```
-#![warn(missing_docs)]
+#![deny(missing_docs, unsafe_code)]
 
+mod archive;
 mod cell;
 mod ffi;
+mod messages;
 mod refusal;
 mod run;
 mod startup;
 mod types;
 
+pub use archive::{check_archive, WrongArchive};
 pub use cell::ProgressCell;
-pub use refusal::Refusal;
+pub use messages::{write_copy_done, write_query, write_startup, write_status, write_terminate};
+pub use refusal::{Kind, Refusal};
 pub use run::Run;
-pub use startup::{AuthRequest, Column, DataRow};
+pub use startup::{error_field, AuthRequest, Column, DataRow, ErrorField, Message, MessageReader, Query, QueryAnswer, Read};
 pub use types::{Event, Input, LastStatus, Lsn, Metrics, Moment, NextStep, Queue, Settings, State, Step};
 
-/// The shortest output that a step takes.
+/// The shortest output that a step takes, in bytes.
 pub const STEP_OUTPUT: usize = 39;
+
+/// How many words a run has, for a host that keeps them elsewhere.
+pub const RUN_WORDS: usize = ffi::RUN_WORDS;
+
+/// How many words a progress cell has.
+pub const CELL_WORDS: usize = ffi::CELL_WORDS;
 
 /// Writes the text of bytes over the front of `out`, as `String::from_utf8_lossy` makes it, and answers its length.
 /// Refused (25, 4), `out` is as it was.
 pub fn lossy(text: &[u8], out: &mut [u8]) -> Result<usize, Refusal> {
-    written(ffi::rufflesquash_lossy, text, out)
+    written(ffi::lossy(text, out))
 }
 
 /// Writes the text of the error that an ErrorResponse's payload holds over the front of `out`, and answers its length.
 /// Refused (25, 4), `out` is as it was.
 pub fn error_text(payload: &[u8], out: &mut [u8]) -> Result<usize, Refusal> {
-    written(ffi::rufflesquash_error_text, payload, out)
+    written(ffi::error_text(payload, out))
 }
 
-fn written(write: ffi::Writing, from: &[u8], out: &mut [u8]) -> Result<usize, Refusal> {
-    let mut written = 0;
-    // SAFETY: both slices are lent whole and do not overlap.
-    let number = unsafe { write(from.as_ptr(), from.len(), out.as_mut_ptr(), out.len(), &mut written) };
+// A writer's answer: the length that it wrote.
+fn written((number, written): ffi::Written) -> Result<usize, Refusal> {
     Refusal::checked(number).map(|()| written as usize)
 }
+
+// README's Rust example is a test.
+#[cfg(doctest)]
+#[doc = include_str!("../../README.md")]
+struct Readme;

@@ -1,14 +1,18 @@
 //! Why a call was refused.
 
+use crate::ffi;
 use std::fmt;
 
 macro_rules! refusals {
     ($($number:literal $name:ident $text:literal,)*) => {
         /// Why a call was refused. The number is the one in the project's papers and in `rufflesquash.h`.
         #[derive(Clone, Copy, Debug, PartialEq, Eq, Hash)]
+        #[non_exhaustive]
         #[repr(u8)]
         pub enum Refusal {
             $(#[doc = $text] $name = $number,)*
+            /// an answer that this crate does not know: the archive is not the one that it was made for
+            Unknown = 255,
         }
 
         impl Refusal {
@@ -25,6 +29,7 @@ macro_rules! refusals {
             fn fmt(&self, f: &mut fmt::Formatter<'_>) -> fmt::Result {
                 f.write_str(match self {
                     $(Refusal::$name => $text,)*
+                    Refusal::Unknown => "an answer that this crate does not know: the archive is not the one that it was made for",
                 })
             }
         }
@@ -55,19 +60,41 @@ refusals! {
     21 AuthRequestTooShort "an authentication request is too short",
     22 MissingSlash "a position has no slash",
     23 InvalidHighPart "the part of a position before the slash is no hexadecimal number",
-    24 InvalidLowPart "the part of a position behind the slash is no hexadecimal number",
+    24 InvalidLowPart "the part of a position after the slash is no hexadecimal number",
     25 InputTooLong "the lent inputs have more than 1,048,576 bytes together",
 }
 
 impl Refusal {
-    /// The refusal's number, 1 to 25.
+    /// The refusal's number, 1 to 25; 255 for [`Refusal::Unknown`], which no call of the archive that belongs to this crate gives.
     pub fn number(self) -> u8 {
         self as u8
     }
 
-    /// What a call answered: a number that is no refusal's counts as none.
+    /// What kind of failure it is. [`Refusal::Unknown`] is one of use: the wrong archive was linked.
+    pub fn kind(self) -> Kind {
+        match ffi::refusal_kind(u64::from(self.number())) {
+            ffi::KIND_IO => Kind::Io,
+            ffi::KIND_PROTOCOL => Kind::Protocol,
+            ffi::KIND_SERVER => Kind::Server,
+            ffi::KIND_MESSAGE_TOO_LARGE => Kind::MessageTooLarge,
+            ffi::KIND_PARSE_LSN => Kind::ParseLsn,
+            _ => Kind::Usage,
+        }
+    }
+
+    /// Whether a new connection may help.
+    pub fn is_transient(self) -> bool {
+        ffi::refusal_is_transient(u64::from(self.number()))
+    }
+
+    /// What a number says: 0 that nothing was refused, and one that is no refusal's never that.
+    pub(crate) fn of_word(number: u64) -> Option<Refusal> {
+        (number != 0).then(|| Refusal::from_number(number).unwrap_or(Refusal::Unknown))
+    }
+
+    /// What a call answered.
     pub(crate) fn checked(number: u64) -> Result<(), Refusal> {
-        match Refusal::from_number(number) {
+        match Refusal::of_word(number) {
             None => Ok(()),
             Some(refusal) => Err(refusal),
         }
@@ -75,3 +102,37 @@ impl Refusal {
 }
 
 impl std::error::Error for Refusal {}
+
+/// Kinds of refusals.
+#[derive(Clone, Copy, Debug, PartialEq, Eq, Hash)]
+#[non_exhaustive]
+pub enum Kind {
+    /// The call was not used as it is to be.
+    Usage,
+    /// The input ended within a message.
+    Io,
+    /// The bytes are not what the protocol says.
+    Protocol,
+    /// The server sent an error.
+    Server,
+    /// A message is longer than the limit.
+    MessageTooLarge,
+    /// A text is no position.
+    ParseLsn,
+}
+
+#[cfg(test)]
+mod tests {
+    use super::*;
+
+    #[test]
+    fn a_number_of_no_refusal_is_no_success() {
+        assert_eq!(Refusal::checked(0), Ok(()));
+        for number in 1..=25 {
+            assert_eq!(Refusal::checked(number).map_err(|r| u64::from(r.number())), Err(number));
+        }
+        for number in [26, 35, 254, 255, 256, 257, u64::MAX] {
+            assert_eq!(Refusal::checked(number), Err(Refusal::Unknown), "{number}");
+        }
+    }
+}

@@ -17,18 +17,13 @@ pub struct Moment(pub u64);
 impl Lsn {
     /// The position that a text names, as `16/B374D848`; refusals 22, 23 and 24.
     pub fn parse(text: &[u8]) -> Result<Lsn, Refusal> {
-        let mut position = 0;
-        // SAFETY: the slice is lent whole.
-        let number = unsafe { ffi::rufflesquash_parse_position(text.as_ptr(), text.len(), &mut position) };
+        let (number, position) = ffi::parse_position(text);
         Refusal::checked(number).map(|()| Lsn(position))
     }
 
     /// Writes the position's text, at most 17 bytes, over the front of `out`, and answers its length. Refused (4), `out` is as it was.
     pub fn write(self, out: &mut [u8]) -> Result<usize, Refusal> {
-        let mut written = 0;
-        // SAFETY: the slice is lent whole.
-        let number = unsafe { ffi::rufflesquash_display_position(self.0, out.as_mut_ptr(), out.len(), &mut written) };
-        Refusal::checked(number).map(|()| written as usize)
+        crate::written(ffi::display_position(self.0, out))
     }
 }
 
@@ -55,9 +50,9 @@ pub struct Settings {
     pub status_interval: Duration,
     /// How long a wait lasts until a status is sent; at most 86,400 seconds.
     pub idle_wakeup_interval: Duration,
-    /// The longest payload of a message, held to 1,073,741,824.
+    /// The longest payload of a message in bytes, held to 1,073,741,824.
     pub max_message_size: usize,
-    /// The run ends behind the event that reaches this position.
+    /// The run ends after the event that reaches this position.
     pub stop_at_lsn: Option<Lsn>,
     /// Whether statuses tell how long a confirmed position had waited.
     pub timing: bool,
@@ -85,15 +80,15 @@ impl Settings {
     }
 
     pub(crate) fn words(&self) -> [u64; ffi::SETTINGS_WORDS] {
-        [
-            nanos(self.status_interval),
-            nanos(self.idle_wakeup_interval),
-            self.max_message_size as u64,
-            self.stop_at_lsn.is_some() as u64,
-            self.stop_at_lsn.unwrap_or_default().0,
-            self.timing as u64,
-            self.binary as u64,
-        ]
+        let mut words = [0; ffi::SETTINGS_WORDS];
+        words[ffi::SETTINGS_STATUS_INTERVAL_NANOS] = nanos(self.status_interval);
+        words[ffi::SETTINGS_IDLE_WAKEUP_INTERVAL_NANOS] = nanos(self.idle_wakeup_interval);
+        words[ffi::SETTINGS_MAX_MESSAGE_BYTES] = self.max_message_size as u64;
+        words[ffi::SETTINGS_HAS_STOP] = self.stop_at_lsn.is_some() as u64;
+        words[ffi::SETTINGS_STOP_AT_LSN] = self.stop_at_lsn.unwrap_or_default().0;
+        words[ffi::SETTINGS_TIMING] = self.timing as u64;
+        words[ffi::SETTINGS_BINARY] = self.binary as u64;
+        words
     }
 }
 
@@ -116,9 +111,9 @@ pub enum Queue {
 impl Queue {
     pub(crate) fn word(self) -> u64 {
         match self {
-            Queue::Free => 0,
-            Queue::Full => 1,
-            Queue::Closed => 2,
+            Queue::Free => ffi::QUEUE_FREE,
+            Queue::Full => ffi::QUEUE_FULL,
+            Queue::Closed => ffi::QUEUE_CLOSED,
         }
     }
 }
@@ -129,13 +124,20 @@ pub struct Input {
     /// Now; never before that of an accepted step.
     pub moment: Moment,
     /// The client's time for a status: microseconds from 2000-01-01.
-    pub client_time: i64,
+    pub client_time_micros: i64,
     /// Whether the run is to stop.
     pub stop: bool,
     /// The queue now.
     pub queue: Queue,
     /// Whether the server's bytes have ended; counts only where none are unread.
     pub ended: bool,
+}
+
+impl Input {
+    #[inline]
+    pub(crate) fn given(&self) -> ffi::Given {
+        ffi::Given { moment: self.moment.0, client_time: self.client_time_micros, stop: self.stop, queue: self.queue.word(), ended: self.ended }
+    }
 }
 
 /// The state of a run.
@@ -162,13 +164,13 @@ pub enum State {
 impl State {
     pub(crate) fn of_word(word: u64) -> State {
         match word {
-            0 => State::Opening,
-            1 => State::Turn,
-            2 => State::Drain,
-            3 => State::Reading,
-            4 => State::Waiting,
-            5 => State::Handling,
-            6 => State::Offering,
+            ffi::STATE_OPENING => State::Opening,
+            ffi::STATE_TURN => State::Turn,
+            ffi::STATE_DRAIN => State::Drain,
+            ffi::STATE_READING => State::Reading,
+            ffi::STATE_WAITING => State::Waiting,
+            ffi::STATE_HANDLING => State::Handling,
+            ffi::STATE_OFFERING => State::Offering,
             _ => State::Ended,
         }
     }
@@ -176,41 +178,83 @@ impl State {
 
 /// An event for the consumer. Its parts lie in the payload buffer that was lent to the step. Times are microseconds from 2000-01-01.
 #[derive(Clone, Copy, Debug, PartialEq, Eq)]
-#[allow(missing_docs)]
+#[non_exhaustive]
 pub enum Event<'a> {
-    /// The server's end of log.
-    KeepAlive { wal_end: Lsn, server_time: i64, reply_requested: bool },
+    /// The server tells how far its log goes.
+    KeepAlive {
+        /// The end of the server's log.
+        wal_end: Lsn,
+        /// The server's clock when it sent the message.
+        server_time_micros: i64,
+        /// Whether the server asked for a status at once; the run has then written it before this event.
+        reply_requested: bool,
+    },
     /// A transaction begins.
-    Begin { final_lsn: Lsn, commit_time: i64, xid: u32 },
+    Begin {
+        /// The position of its commit.
+        final_lsn: Lsn,
+        /// When it was committed.
+        commit_time_micros: i64,
+        /// Its number.
+        xid: u32,
+    },
     /// A transaction ends.
-    Commit { lsn: Lsn, end_lsn: Lsn, commit_time: i64 },
-    /// A logical message; [`crate::lossy`] makes a text of its prefix.
-    Message { transactional: bool, lsn: Lsn, prefix: &'a [u8], content: &'a [u8] },
-    /// Any other data of the plugin.
-    XLogData { wal_start: Lsn, wal_end: Lsn, server_time: i64, data: &'a [u8] },
+    Commit {
+        /// The position of the commit.
+        lsn: Lsn,
+        /// The end of the transaction: what a consumer reports that has applied it.
+        end_lsn: Lsn,
+        /// When it was committed.
+        commit_time_micros: i64,
+    },
+    /// A logical message.
+    Message {
+        /// Whether it belongs to the transaction that is open.
+        transactional: bool,
+        /// Its position.
+        lsn: Lsn,
+        /// Its prefix; [`crate::lossy`] makes a text of it.
+        prefix: &'a [u8],
+        /// Its content.
+        content: &'a [u8],
+    },
+    /// Any other data of the plugin: rows, relations, types, origins.
+    XLogData {
+        /// The position at which the data begin.
+        wal_start: Lsn,
+        /// The end of the server's log.
+        wal_end: Lsn,
+        /// The server's clock when it sent the message.
+        server_time_micros: i64,
+        /// The data, as the plugin wrote them.
+        data: &'a [u8],
+    },
     /// The stop position was reached; the run ends with this event.
-    StoppedAt { reached: Lsn },
+    StoppedAt {
+        /// The position that reached it.
+        reached: Lsn,
+    },
 }
 
 impl<'a> Event<'a> {
-    // The event of seven words, with its parts in the payload buffer.
-    pub(crate) fn of_words(words: &[u64], payload: &'a [u8]) -> Option<Event<'a>> {
-        let [kind, a, b, c, d, e, f] = *words else {
-            return None;
-        };
-        Some(match kind {
-            1 => Event::KeepAlive { wal_end: Lsn(a), server_time: b as i64, reply_requested: c != 0 },
-            2 => Event::Begin { final_lsn: Lsn(a), commit_time: b as i64, xid: c as u32 },
-            3 => Event::Commit { lsn: Lsn(a), end_lsn: Lsn(b), commit_time: c as i64 },
-            4 => Event::Message { transactional: a != 0, lsn: Lsn(b), prefix: part(payload, c, d), content: part(payload, e, f) },
-            5 => Event::XLogData { wal_start: Lsn(a), wal_end: Lsn(b), server_time: c as i64, data: part(payload, d, e) },
-            6 => Event::StoppedAt { reached: Lsn(a) },
-            _ => return None,
-        })
+    // The event of its kind and six more words, with its parts in the payload buffer. A kind that this crate does not know is no event that may
+    // be passed over.
+    pub(crate) fn of_words(kind: u64, words: [u64; 6], payload: &'a [u8]) -> Result<Option<Event<'a>>, Refusal> {
+        let [a, b, c, d, e, f] = words;
+        Ok(Some(match kind {
+            ffi::EVENT_NOTHING => return Ok(None),
+            ffi::EVENT_KEEP_ALIVE => Event::KeepAlive { wal_end: Lsn(a), server_time_micros: b as i64, reply_requested: c != 0 },
+            ffi::EVENT_BEGIN => Event::Begin { final_lsn: Lsn(a), commit_time_micros: b as i64, xid: c as u32 },
+            ffi::EVENT_COMMIT => Event::Commit { lsn: Lsn(a), end_lsn: Lsn(b), commit_time_micros: c as i64 },
+            ffi::EVENT_MESSAGE => Event::Message { transactional: a != 0, lsn: Lsn(b), prefix: part(payload, c, d), content: part(payload, e, f) },
+            ffi::EVENT_XLOG_DATA => Event::XLogData { wal_start: Lsn(a), wal_end: Lsn(b), server_time_micros: c as i64, data: part(payload, d, e) },
+            ffi::EVENT_STOPPED_AT => Event::StoppedAt { reached: Lsn(a) },
+            _ => return Err(Refusal::Unknown),
+        }))
     }
 }
 
-// A part, as far as the buffer has it: words that no call made, or a buffer other than before, may name bytes behind its end.
+// A part that an answer names. It lies in the buffer, as the archive promises; this crate does not rely on that.
 pub(crate) fn part(payload: &[u8], from: u64, len: u64) -> &[u8] {
     let end = payload.len() as u64;
     let from = from.min(end);
@@ -218,8 +262,11 @@ pub(crate) fn part(payload: &[u8], from: u64, len: u64) -> &[u8] {
     &payload[from as usize..to as usize]
 }
 
-/// What a step answers.
+/// What a step answers. All of it counts: bytes taken are not lent again, bytes written are sent before the next step, and the event is the
+/// consumer's.
 #[derive(Clone, Copy, Debug, PartialEq, Eq)]
+#[must_use = "the step has taken bytes, and may have bytes to send and an event"]
+#[non_exhaustive]
 pub struct Step<'a> {
     /// Why the step was refused. 2 to 5 change nothing; 6 to 19 end the run.
     pub refusal: Option<Refusal>,
@@ -233,14 +280,35 @@ pub struct Step<'a> {
     pub waited: Option<Duration>,
 }
 
+impl<'a> Step<'a> {
+    #[inline]
+    pub(crate) fn of_words(answer: [u64; ffi::ANSWER_WORDS], payload: &'a [u8]) -> Step<'a> {
+        let [number, taken, written, told, waited, kind, a, b, c, d, e, f] = answer;
+        let (unknown, event) = match Event::of_words(kind, [a, b, c, d, e, f], payload) {
+            Ok(event) => (None, event),
+            Err(refusal) => (Some(refusal), None),
+        };
+        Step {
+            refusal: Refusal::of_word(number).or(unknown),
+            taken: taken as usize,
+            written: written as usize,
+            event,
+            waited: (told != 0).then(|| Duration::from_nanos(waited)),
+        }
+    }
+}
+
 /// When to step again while nothing new comes: no byte, no end of the input, no stop request, no change of the queue, no report.
+///
+/// It is the answer for a host whose next step would find no byte unread, the input not ended and no stop request. A host that has unread bytes,
+/// has met the end of the input or was asked to stop steps at once, whatever this says.
 #[derive(Clone, Copy, Debug, PartialEq, Eq)]
 pub enum NextStep {
     /// The next step moves.
     AtOnce,
     /// Steps from this moment on move; it may lie at or before the last accepted one.
     From(Moment),
-    /// None moves until something comes.
+    /// No step moves until something comes.
     OnInput,
     /// The run has ended.
     Never,
@@ -248,6 +316,7 @@ pub enum NextStep {
 
 /// The counters of a run; each starts again at zero after its largest value.
 #[derive(Clone, Copy, Debug, Default, PartialEq, Eq)]
+#[non_exhaustive]
 pub struct Metrics {
     /// Events handed on.
     pub events_forwarded: u64,

@@ -3,7 +3,7 @@
 mod common;
 
 use common::*;
-use rufflesquash::{Input, Lsn, Moment, Queue, Run, Settings, State, STEP_OUTPUT};
+use rufflesquash::{Input, Lsn, Moment, Queue, Run, Settings, State, RUN_WORDS, STEP_OUTPUT};
 
 impl Draw {
     /// A message of a stream, at times a cut or an odd one.
@@ -29,13 +29,17 @@ impl Draw {
         *moment += [0, 1, 1_000, 15_000_000][self.below(4) as usize];
         Input {
             moment: Moment(*moment),
-            client_time: self.word() as i64,
+            client_time_micros: self.word() as i64,
             stop: self.below(400) == 0,
             queue: [Queue::Free, Queue::Free, Queue::Free, Queue::Full, Queue::Closed][self.below(5) as usize],
             ended: self.below(400) == 0,
         }
     }
 }
+
+/// Where a run's words have its state, and the number of a drain (rufflesquash.h).
+const RUN_STATE: usize = 7;
+const STATE_DRAIN: u64 = 2;
 
 /// A run with its buffers.
 #[derive(Clone, Debug, PartialEq)]
@@ -55,7 +59,7 @@ impl Held {
         call(&mut self.run, input, unread, &mut self.payload, &mut self.out).into()
     }
 
-    /// Steps one by one, each with the bytes behind those taken, until one tells something.
+    /// Steps one by one, each with the bytes after those taken, until one tells something.
     fn one_by_one(&mut self, input: &Input, unread: &[u8]) -> Answer {
         let mut taken = 0;
         for left in (0..4).rev() {
@@ -82,7 +86,7 @@ fn same(held: &mut Held, input: &Input, unread: &[u8]) -> Answer {
 
 /// A moment at which nothing happens.
 fn quiet(moment: u64) -> Input {
-    Input { moment: Moment(moment), client_time: 0, stop: false, queue: Queue::Free, ended: false }
+    Input { moment: Moment(moment), client_time_micros: 0, stop: false, queue: Queue::Free, ended: false }
 }
 
 #[test]
@@ -115,7 +119,7 @@ fn on_streams() {
 fn on_any_words() {
     let mut draw = Draw(8);
     for _ in 0..200_000 {
-        let mut words = [0; 48];
+        let mut words = [0; RUN_WORDS];
         for word in &mut words {
             *word = match draw.below(4) {
                 0 => draw.word(),
@@ -124,7 +128,7 @@ fn on_any_words() {
             };
         }
         if draw.below(2) == 0 {
-            words[7] = 2;
+            words[RUN_STATE] = STATE_DRAIN;
         }
         let mut held = Held::new(Run::from_words(words));
         let bytes = [draw.message(), draw.message()].concat();

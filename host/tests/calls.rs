@@ -33,11 +33,11 @@ fn a_stream_is_opened_and_read() {
     .concat();
     let mut fed = Fed::opening(&bytes);
     let expected = [
-        Event::Begin { final_lsn: Lsn(0x20), commit_time: -5, xid: 77 },
-        Event::XLogData { wal_start: Lsn(1), wal_end: Lsn(2), server_time: -3, data: b"Rdata" },
+        Event::Begin { final_lsn: Lsn(0x20), commit_time_micros: -5, xid: 77 },
+        Event::XLogData { wal_start: Lsn(1), wal_end: Lsn(2), server_time_micros: -3, data: b"Rdata" },
         Event::Message { transactional: true, lsn: Lsn(9), prefix: b"pre\xff", content: b"abc" },
-        Event::Commit { lsn: Lsn(0x20), end_lsn: Lsn(0x28), commit_time: 6 },
-        Event::KeepAlive { wal_end: Lsn(0x30), server_time: -9, reply_requested: false },
+        Event::Commit { lsn: Lsn(0x20), end_lsn: Lsn(0x28), commit_time_micros: 6 },
+        Event::KeepAlive { wal_end: Lsn(0x30), server_time_micros: -9, reply_requested: false },
     ];
     assert_eq!(fed.events(), expected.map(|event| format!("{event:?}")));
     let metrics = fed.run.metrics();
@@ -223,7 +223,7 @@ fn a_cell_without_timing_stores_no_moment() {
     assert_eq!((any.load(), any.pending_since()), (Lsn(7), Some(Moment(8))));
 }
 
-// Any words are the words of some run: every call takes them and answers something of document 01.
+// Any words are the words of some run: every call takes them and answers what SCOPE 9 has.
 #[test]
 fn any_words_are_a_run() {
     let mut draw = Draw(1);

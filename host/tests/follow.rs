@@ -51,7 +51,7 @@ fn let_in(client: &mut TcpStream) -> String {
     String::from_utf8(query).unwrap()
 }
 
-// The positions of the statuses up to the CopyDone, behind which stands a Terminate.
+// The positions of the statuses up to the CopyDone; a Terminate follows it.
 fn statuses(client: &mut TcpStream) -> Vec<u64> {
     let mut positions = Vec::new();
     loop {
@@ -160,4 +160,110 @@ fn failures_have_one_line() {
         assert!(line.starts_with("follow: ") && line.contains(part), "{line}");
     }
     server.join().unwrap();
+}
+
+// `follow` with the redirections of a shell, with a server that lets in one client and plays its part.
+fn redirected(port: u16, redirection: &str) -> Output {
+    let line = format!("exec \"$0\" -h 127.0.0.1 -p {port} -U me -d db -S s --publication P -s 0.01 {redirection}");
+    let mut command = Command::new("sh");
+    command.args(["-c", &line, env!("CARGO_BIN_EXE_follow")]).env("PGPASSWORD", "geheim");
+    command.stdin(Stdio::null()).output().expect("follow runs")
+}
+
+#[test]
+fn a_closed_descriptor_ends_before_anything_is_opened() {
+    let listener = TcpListener::bind("127.0.0.1:0").unwrap();
+    let port = listener.local_addr().unwrap().port();
+    for (redirection, part) in [
+        (">&-", "standard output is closed"),
+        ("<&-", "standard input is closed"),
+        ("1< /dev/null", "standard output cannot be written"),
+        (">&- <&-", "is closed"),
+        ("2>&-", ""),
+        ("2< /dev/null", ""),
+        (">&- 2>&-", ""),
+        ("--help >&-", "standard output is closed"),
+    ] {
+        let output = redirected(port, redirection);
+        let line = String::from_utf8(output.stderr).unwrap();
+        assert_eq!((output.status.code(), output.stdout.len()), (Some(2), 0), "{redirection}: {line}");
+        assert_eq!(line.lines().count(), usize::from(!part.is_empty()), "{redirection}: {line}");
+        assert!(line.contains(part), "{redirection}: {line}");
+    }
+    listener.set_nonblocking(true).unwrap();
+    assert!(listener.accept().is_err(), "follow connected");
+    // Descriptors that are open for writing are taken as they are, /dev/null too.
+    drop(listener);
+    for redirection in ["> /dev/null", "1<> /dev/null", "< /dev/null > /dev/null"] {
+        let output = redirected(port, redirection);
+        let line = String::from_utf8(output.stderr).unwrap();
+        assert!(line.contains("cannot connect") && output.status.code() == Some(1), "{redirection}: {line}");
+    }
+}
+
+// The positions that the client confirms until its Terminate or its end.
+fn confirmed(client: &mut TcpStream) -> Vec<u64> {
+    let mut positions = Vec::new();
+    let mut header = [0; 5];
+    while client.read_exact(&mut header).is_ok() && header[0] != b'X' {
+        let mut payload = vec![0; u32::from_be_bytes(header[1..].try_into().unwrap()) as usize - 4];
+        client.read_exact(&mut payload).expect("a whole message");
+        if header[0] == b'd' {
+            positions.push(u64::from_be_bytes(payload[9..17].try_into().unwrap()));
+        }
+    }
+    assert!(!positions.is_empty(), "a stream begins with a status");
+    positions
+}
+
+#[test]
+fn a_full_disk_confirms_nothing() {
+    let (port, server) = serve(|listener| {
+        let (mut client, _) = listener.accept().unwrap();
+        let_in(&mut client);
+        client.write_all(&transaction(0x100, 1)).unwrap();
+        client.write_all(&keepalive(0x300, 0, 1)).unwrap();
+        confirmed(&mut client)
+    });
+    let output = redirected(port, "> /dev/full");
+    let line = String::from_utf8(output.stderr).unwrap();
+    assert_eq!((output.status.code(), line.lines().count()), (Some(1), 1), "{line}");
+    assert!(line.contains("cannot write to standard output"), "{line}");
+    assert!(server.join().unwrap().iter().all(|p| *p == 0));
+}
+
+#[test]
+fn a_reader_that_ends_midway_is_confirmed_no_further() {
+    let (told, tell) = std::sync::mpsc::channel();
+    let (port, server) = serve(move |listener| {
+        let (mut client, _) = listener.accept().unwrap();
+        let_in(&mut client);
+        client.write_all(&transaction(0x100, 1)).unwrap();
+        // The reader has ended before the rest is sent.
+        tell.recv().unwrap();
+        for at in 2..200 {
+            client.write_all(&transaction(0x100 * at, at as u32)).unwrap();
+        }
+        client.write_all(&keepalive(0x10_0000, 0, 1)).unwrap();
+        confirmed(&mut client)
+    });
+    let mut command = Command::new(env!("CARGO_BIN_EXE_follow"));
+    let port = port.to_string();
+    command.args(["-h", "127.0.0.1", "-p", &port, "-U", "me", "-d", "db", "-S", "s", "--publication", "P", "-s", "0.01"]);
+    let mut follow = command.env("PGPASSWORD", "geheim").stdin(Stdio::null()).stdout(Stdio::piped()).stderr(Stdio::piped()).spawn().unwrap();
+    let mut pipe = follow.stdout.take().unwrap();
+    let mut printed = Vec::new();
+    while !printed.ends_with(b"commit 0/100 end 0/108 at 2000-01-01T00:00:00.000000Z\n") {
+        let mut byte = [0];
+        pipe.read_exact(&mut byte).unwrap();
+        printed.extend(byte);
+    }
+    drop(pipe);
+    told.send(()).unwrap();
+    let output = follow.wait_with_output().unwrap();
+    let line = String::from_utf8(output.stderr).unwrap();
+    assert_eq!((output.status.code(), line.lines().count()), (Some(1), 1), "{line}");
+    assert!(line.contains("cannot write to standard output"), "{line}");
+    let positions = server.join().unwrap();
+    assert!(positions.iter().all(|p| *p <= 0x108), "{positions:x?}");
 }

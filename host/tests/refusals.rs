@@ -122,13 +122,13 @@ fn moments_have_a_range_and_an_order() {
 
 // 6 and 7 take what the header still lacked and end the run; the payload buffer and the output stay as they were.
 fn refused_header(header: &[u8], refusal: Refusal) {
-    for behind in [&b""[..], b"more bytes"] {
-        let mut fed = Fed::reading(&[header, behind].concat());
+    for after in [&b""[..], b"more bytes"] {
+        let mut fed = Fed::reading(&[header, after].concat());
         fed.step();
         fed.out.fill(FILL);
         let answer = fed.refused();
         assert_eq!((answer.refusal, answer.taken, answer.written), (Some(refusal), 5, 0));
-        assert_eq!(fed.bytes, behind);
+        assert_eq!(fed.bytes, after);
         assert!(fed.payload.iter().chain(&fed.out).all(|&b| b == FILL));
         assert_eq!(fed.run.state(), State::Ended);
     }

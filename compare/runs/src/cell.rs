@@ -95,7 +95,7 @@ impl Cell for ProgressCell {
     }
 }
 
-/// Where two cells first differ: behind how many calls, and what each answers, has as its position and as its pending moment.
+/// Where two cells first differ: after how many calls, and what each answers, has as its position and as its pending moment.
 fn difference<A: Cell, B: Cell>(list: &Calls) -> Option<(usize, [u64; 3], [u64; 3])> {
     let (mut a, mut b) = (A::new(list.start, list.timed), B::new(list.start, list.timed));
     for i in 0..=list.calls.len() {

@@ -1,16 +1,16 @@
 //! The first difference between two sides, and the smallest scenario that still shows one.
 
-use crate::record::{print_line, print_metrics, Record};
 use crate::scenario::{Happening, Round, Scenario};
 use crate::side::Side;
+use crate::trace::{print_line, print_metrics, Trace};
 use std::panic::{catch_unwind, AssertUnwindSafe};
 use std::time::{Duration, Instant};
 
-/// Plays a scenario on both; the client times of the first are handed to the second. None where the records are equal, as far as the second
+/// Plays a scenario on both; the client times of the first are handed to the second. None where the traces are equal, as far as the second
 /// tells that the scenario is inside the domain of the comparison.
 pub fn compare(first: &mut dyn Side, second: &mut dyn Side, scenario: &Scenario) -> Option<String> {
     let (a, b) = match play(first, second, scenario) {
-        Ok(records) => records,
+        Ok(traces) => traces,
         Err(broken) => return Some(broken),
     };
     let same = match b.outside {
@@ -23,7 +23,7 @@ pub fn compare(first: &mut dyn Side, second: &mut dyn Side, scenario: &Scenario)
     Some(difference(first.name(), &a, second.name(), &b))
 }
 
-fn play(first: &mut dyn Side, second: &mut dyn Side, scenario: &Scenario) -> Result<(Record, Record), String> {
+fn play(first: &mut dyn Side, second: &mut dyn Side, scenario: &Scenario) -> Result<(Trace, Trace), String> {
     let caught = |side: &mut dyn Side, times: &[i64]| {
         let name = side.name();
         catch_unwind(AssertUnwindSafe(|| side.run(scenario, times))).map_err(|_| format!("{name}: broke off"))
@@ -33,17 +33,17 @@ fn play(first: &mut dyn Side, second: &mut dyn Side, scenario: &Scenario) -> Res
     Ok((a, b))
 }
 
-/// The first place at which two records differ, with the lines before it.
-fn difference(first: &str, a: &Record, second: &str, b: &Record) -> String {
+/// The first place at which two traces differ, with the lines before it.
+fn difference(first: &str, a: &Trace, second: &str, b: &Trace) -> String {
     let same = a.lines.iter().zip(&b.lines).take_while(|(x, y)| x == y).count();
     let mut lines: Vec<String> = a.lines[..same].iter().map(|line| format!("both: {}", print_line(line))).collect();
     if same == a.lines.len() && same == b.lines.len() {
         let round = a.metrics.iter().zip(&b.metrics).take_while(|(x, y)| x == y).count();
-        let said = |r: &Record| r.metrics.get(round).map_or("no more rounds".to_string(), print_metrics);
+        let said = |r: &Trace| r.metrics.get(round).map_or("no more rounds".to_string(), print_metrics);
         lines.push(format!("{first}, after round {}: {}", round + 1, said(a)));
         lines.push(format!("{second}, after round {}: {}", round + 1, said(b)));
     } else {
-        let said = |r: &Record| r.lines.get(same).map_or("nothing more".to_string(), print_line);
+        let said = |r: &Trace| r.lines.get(same).map_or("nothing more".to_string(), print_line);
         lines.push(format!("{first}: {}", said(a)));
         lines.push(format!("{second}: {}", said(b)));
     }
@@ -332,7 +332,7 @@ fn pieces(s: &Scenario) -> impl Iterator<Item = &Vec<u8>> {
     s.rounds.iter().flat_map(|round| &round.what).filter_map(|what| if let Happening::Bytes(b) = what { Some(b) } else { None })
 }
 
-/// Where the messages of all the bytes begin and end, whatever the pieces; behind a header that is none, or one that is not whole, there are
+/// Where the messages of all the bytes begin and end, whatever the pieces; after a header that is none, or one that is not whole, there are
 /// no more.
 fn messages_of(s: &Scenario) -> Vec<(usize, usize)> {
     let bytes = pieces(s).flatten().copied().collect::<Vec<u8>>();
@@ -348,7 +348,7 @@ fn messages_of(s: &Scenario) -> Vec<(usize, usize)> {
     all
 }
 
-/// Puts other bytes in the place of messages. A cut between two pieces that lies in one stays as far behind its beginning as it can; pieces
+/// Puts other bytes in the place of messages. A cut between two pieces that lies in one stays as far after its beginning as it can; pieces
 /// of which nothing is left go.
 fn replace(s: &mut Scenario, messages: &[(usize, usize)], by: impl Fn(&[u8]) -> Vec<u8>) {
     let whole: Vec<u8> = pieces(s).flatten().copied().collect();

@@ -112,7 +112,7 @@ impl Coverage {
         if let Some(time) = answer.waited {
             self.seen(if time == 0 { "a waiting time of 0" } else { "a waiting time" });
         }
-        let status = answer.written.len() == crate::record::STATUS;
+        let status = answer.written.len() == crate::trace::STATUS;
         match before {
             State::Opening if answer.state == State::Turn => self.seen("Opening: W"),
             // A message that ends with the bytes read cannot be told from one that goes on, unless some were left.
@@ -138,7 +138,7 @@ impl Coverage {
     }
 
     fn times(&mut self, before: State, answer: &Answer, up: Up) {
-        let status = answer.written.len() == crate::record::STATUS;
+        let status = answer.written.len() == crate::trace::STATUS;
         let found = match (before, answer.state) {
             (State::Reading, State::Reading) if up.status => "Reading: unfinished, status interval up",
             (State::Waiting, State::Handling) if up.idle => "Waiting: whole, idle interval up",

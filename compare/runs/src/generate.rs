@@ -1,4 +1,4 @@
-//! Scenarios from a seed, inside the domain that document 01 gives the comparison.
+//! Scenarios from a seed, inside the domain of the comparison (SCOPE 10).
 
 use crate::draw::Draw;
 use crate::scenario::{Happening, Round, Scenario, LAST_MOMENT, LONGEST_PIECE};
@@ -107,7 +107,7 @@ fn too_long(draw: &mut Draw, limit: u64) -> Vec<u8> {
     headed(draw.pick(b"dNE"), n as i32 + 4, &rest)
 }
 
-/// A message that gives the refusal, behind `W`.
+/// A message that gives the refusal, after `W`.
 fn refused(draw: &mut Draw, number: u8, limit: u64) -> Vec<u8> {
     let (a, b, at) = (position(draw), position(draw), time(draw));
     let cut = |draw: &mut Draw, whole: Vec<u8>, least: usize, most: usize| whole[..least + draw.size(most - least + 1)].to_vec();
@@ -163,7 +163,7 @@ fn damaged(draw: &mut Draw, mut bytes: Vec<u8>) -> Vec<u8> {
     bytes
 }
 
-/// What the server says behind `W`.
+/// What the server says after `W`.
 fn messages(draw: &mut Draw, limit: u64) -> Vec<Vec<u8>> {
     let mut all: Vec<Vec<u8>> = Vec::new();
     match draw.below(50) {
@@ -220,7 +220,7 @@ fn pieces(draw: &mut Draw, all: &[Vec<u8>]) -> Vec<Vec<u8>> {
         0 => {}
         // Between messages.
         1 => cuts.extend(ends(all)),
-        // Inside headers, and just behind them.
+        // Inside headers, and just after them.
         2 => cuts.extend(ends(all).into_iter().map(|end| end + draw.size(6))),
         // One byte after the other, for a stretch.
         3 if !whole.is_empty() => {
@@ -345,7 +345,7 @@ fn report(draw: &mut Draw, at: u64) -> Happening {
 /// How the host of a run behaves.
 struct Habits {
     taker: u64,
-    /// The rounds in which it stops the run and closes the queue; those behind the last never come.
+    /// The rounds in which it stops the run and closes the queue; those after the last never come.
     stop_in: u64,
     close_in: u64,
     reporting: u64,
@@ -449,7 +449,7 @@ fn long_drain(draw: &mut Draw, mut s: Scenario) -> Scenario {
     s
 }
 
-/// A few messages, cut once: nowhere, in a header, behind one, behind a message or inside another.
+/// A few messages, cut once: nowhere, in a header, after one, after a message or inside another.
 fn cut_once(draw: &mut Draw) -> [Option<Happening>; 2] {
     let all: Vec<Vec<u8>> = (0..1 + draw.size(4)).map(|_| good(draw)).collect();
     let mut whole = all.concat();
@@ -490,7 +490,7 @@ fn together(draw: &mut Draw, mut s: Scenario) -> Scenario {
     s
 }
 
-/// What is left of the bytes, and the end: with the last of them where all are there, else behind them.
+/// What is left of the bytes, and the end: with the last of them where all are there, else after them.
 fn ending(draw: &mut Draw, s: &mut Scenario, at: u64, rest: Option<Happening>) {
     let mut what = Vec::from_iter(rest);
     if draw.once_in(2) {
@@ -577,7 +577,7 @@ fn base(draw: &mut Draw) -> Scenario {
     }
     s.rounds = rounds(draw, &s, pieces);
     if !s.in_domain() {
-        // An opening reply over the limit: begin behind it.
+        // An opening reply over the limit: begin after it.
         s.open = true;
     }
     s

@@ -1,9 +1,9 @@
-//! The model of `vectors/`, which was read off document 01, as a side.
+//! The model of `vectors/`, which was read off the specification, as a side.
 
-use crate::leaves::error_text;
-use crate::record::{Event, Metrics, STATUS};
+use crate::rust_leaves::error_text;
 use crate::scenario::Scenario;
 use crate::stepped::{Answer, Stepped, Steps};
+use crate::trace::{Event, Metrics, STATUS};
 use rufflesquash::{Input, Moment, Queue, State};
 
 #[derive(Default)]
@@ -62,7 +62,8 @@ impl Steps for Modelled {
             Queue::Full => model::Queue::Full,
             Queue::Closed => model::Queue::Closed,
         };
-        let lent = model::Input { moment: input.moment.0, client_time: input.client_time, stop: input.stop, queue, unread, ended: input.ended };
+        let lent =
+            model::Input { moment: input.moment.0, client_time: input.client_time_micros, stop: input.stop, queue, unread, ended: input.ended };
         let mut out = [0; STATUS];
         let run = self.run.as_mut().expect("a run that was begun");
         let answer = run.step(&lent, &mut self.payload, &mut out);
@@ -107,7 +108,7 @@ fn state_of(state: model::State) -> State {
 fn lossy(event: Event) -> Event {
     match event {
         Event::Message { flag, position, prefix, content } => {
-            Event::Message { flag, position, prefix: crate::leaves::lossy(&prefix).into_bytes(), content }
+            Event::Message { flag, position, prefix: crate::rust_leaves::lossy(&prefix).into_bytes(), content }
         }
         other => other,
     }

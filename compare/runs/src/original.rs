@@ -1,9 +1,9 @@
 //! The Rust, unchanged, on a scripted stream under tokio's paused clock.
 
-use crate::record::{client_time, put_client_time, Event, Line, Metrics, Record};
 use crate::scenario::{Happening, Scenario};
 use crate::server::accepted;
 use crate::side::Side;
+use crate::trace::{client_time, put_client_time, Event, Line, Metrics, Trace};
 use original::client::metrics::ReplicationMetrics;
 use original::client::worker::{ReplicationEvent, ReplicationEventReceiver, SharedProgress, WorkerState};
 use original::config::ReplicationConfig;
@@ -26,7 +26,7 @@ use tokio::time::{Instant, Sleep};
 /// AuthenticationOk, ReadyForQuery: what comes before `start_replication`.
 const AUTHENTICATED: &[u8] = b"R\0\0\0\x08\0\0\0\0Z\0\0\0\x05I";
 
-/// An event's content is known only when it is taken; its place in the record is known when it is handed on.
+/// An event's content is known only when it is taken; its place in the trace is known when it is handed on.
 enum Noted {
     Event,
     Line(Line),
@@ -317,7 +317,7 @@ impl<'a> Worker<'a> {
     }
 }
 
-/// Which of document 01's numbers an error of the Rust is.
+/// Which refusal's number (SCOPE 7.1) an error of the Rust has.
 pub fn number_of(error: &PgWireError) -> u8 {
     let begins = |text: &str, known: &[(&str, u8)]| known.iter().find(|k| text.starts_with(k.0)).map_or(255, |k| k.1);
     match error {
@@ -437,11 +437,11 @@ impl Side for Original {
         "rust"
     }
 
-    fn run(&mut self, scenario: &Scenario, _client_times: &[i64]) -> Record {
+    fn run(&mut self, scenario: &Scenario, _client_times: &[i64]) -> Trace {
         fix_origin();
-        let record = paused().block_on(self.play(scenario));
-        self.ended = record.end();
-        record
+        let trace = paused().block_on(self.play(scenario));
+        self.ended = trace.end();
+        trace
     }
 }
 
@@ -454,22 +454,22 @@ impl Side for Copied {
         "rust again"
     }
 
-    fn run(&mut self, scenario: &Scenario, client_times: &[i64]) -> Record {
-        let mut record = self.0.run(scenario, &[]);
+    fn run(&mut self, scenario: &Scenario, client_times: &[i64]) -> Trace {
+        let mut trace = self.0.run(scenario, &[]);
         let mut times = client_times.iter();
-        for (_, line) in &mut record.lines {
+        for (_, line) in &mut trace.lines {
             if let Line::Write(bytes) = line {
                 if client_time(bytes).is_some() {
                     put_client_time(bytes, times.next().copied().unwrap_or(0));
                 }
             }
         }
-        record
+        trace
     }
 }
 
 impl Original {
-    async fn play(&mut self, s: &Scenario) -> Record {
+    async fn play(&mut self, s: &Scenario) -> Trace {
         let begun = Instant::now();
         let metrics = Arc::new(ReplicationMetrics::default());
         let progress = Arc::new(SharedProgress::with_timing(Lsn(s.start), s.timing));
@@ -504,12 +504,12 @@ impl Original {
         self.play_rounds(s, wire, state).await
     }
 
-    async fn play_rounds(&mut self, s: &Scenario, wire: Arc<Mutex<Wire>>, mut state: WorkerState) -> Record {
+    async fn play_rounds(&mut self, s: &Scenario, wire: Arc<Mutex<Wire>>, mut state: WorkerState) -> Trace {
         let begun = wire.lock().unwrap().begun;
         let metrics = wire.lock().unwrap().metrics.clone();
         let mut stream = Stream(wire.clone());
         let mut worker = Worker::new(state.run_on_stream(&mut stream), wire.clone());
-        let mut record = Record::default();
+        let mut trace = Trace::default();
 
         worker.settle().await;
         for (i, round) in s.rounds.iter().enumerate() {
@@ -527,11 +527,11 @@ impl Original {
                 (wire.calls, wire.during) = (0, round.during.clone().into());
             }
             worker.settle().await;
-            record.metrics.push(metrics_of(&metrics));
+            trace.metrics.push(metrics_of(&metrics));
         }
         self.said = worker.outcome.as_ref().and_then(|o| o.as_ref().err()).map(|e| e.to_string());
         drop(worker);
-        record.lines = wire.lock().unwrap().lines();
-        record
+        trace.lines = wire.lock().unwrap().lines();
+        trace
     }
 }

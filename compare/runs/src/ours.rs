@@ -1,8 +1,8 @@
 //! The project itself as a side: the proved archive, through the crate `host/`.
 
-use crate::record::{Event, Metrics, STATUS};
 use crate::scenario::Scenario;
 use crate::stepped::{Answer, Stepped, Steps};
+use crate::trace::{Event, Metrics, STATUS};
 use rufflesquash::{Input, Lsn, Moment, Run, Settings};
 use std::time::Duration;
 
@@ -84,15 +84,16 @@ impl Steps for Ours {
 fn event_of(event: rufflesquash::Event, text: &mut Vec<u8>) -> Event {
     use rufflesquash::Event as Ours;
     match event {
-        Ours::KeepAlive { wal_end, server_time, reply_requested } => Event::KeepAlive { end: wal_end.0, time: server_time, reply: reply_requested },
-        Ours::Begin { final_lsn, commit_time, xid } => Event::Begin { end: final_lsn.0, time: commit_time, xid },
-        Ours::Commit { lsn, end_lsn, commit_time } => Event::Commit { position: lsn.0, end: end_lsn.0, time: commit_time },
+        Ours::KeepAlive { wal_end, server_time_micros: time, reply_requested } => Event::KeepAlive { end: wal_end.0, time, reply: reply_requested },
+        Ours::Begin { final_lsn, commit_time_micros: time, xid } => Event::Begin { end: final_lsn.0, time, xid },
+        Ours::Commit { lsn, end_lsn, commit_time_micros: time } => Event::Commit { position: lsn.0, end: end_lsn.0, time },
         Ours::Message { transactional, lsn, prefix, content } => {
             Event::Message { flag: transactional, position: lsn.0, prefix: written(prefix, text, rufflesquash::lossy), content: content.to_vec() }
         }
-        Ours::XLogData { wal_start, wal_end, server_time, data } => {
-            Event::Other { start: wal_start.0, end: wal_end.0, time: server_time, data: data.to_vec() }
+        Ours::XLogData { wal_start, wal_end, server_time_micros: time, data } => {
+            Event::Other { start: wal_start.0, end: wal_end.0, time, data: data.to_vec() }
         }
         Ours::StoppedAt { reached } => Event::StoppedAt { reached: reached.0 },
+        other => panic!("an event that the Rust does not have: {other:?}"),
     }
 }

@@ -10,7 +10,7 @@ pub const LAST_MOMENT: u64 = 9_223_372_036_853;
 
 #[derive(Clone, Debug, PartialEq)]
 pub struct Scenario {
-    /// Begins behind the `W` that accepted the query.
+    /// Begins after the `W` that accepted the query.
     pub open: bool,
     /// Milliseconds.
     pub status: u64,
@@ -43,15 +43,15 @@ impl Round {
         Round { at, what, during: Vec::new() }
     }
 
-    /// What happens between polls is in order; whether the input has ended behind it.
+    /// What happens between polls is in order; whether the input has ended after it.
     fn sound_between(&self, mut ended: bool) -> Result<bool, String> {
         for what in &self.what {
             match what {
                 Happening::Bytes(b) if b.is_empty() || b.len() > LONGEST_PIECE => return Err("a piece of no or too many bytes".to_string()),
-                Happening::Bytes(_) | Happening::End if ended => return Err("input behind its end".to_string()),
+                Happening::Bytes(_) | Happening::End if ended => return Err("input after its end".to_string()),
                 Happening::End => ended = true,
                 Happening::Pass(_) => return Err("time passes between calls by itself".to_string()),
-                Happening::ReportFrom(_, at) if *at > LAST_MOMENT => return Err(format!("the moment {at} lies behind the last, {LAST_MOMENT}")),
+                Happening::ReportFrom(_, at) if *at > LAST_MOMENT => return Err(format!("the moment {at} lies after the last, {LAST_MOMENT}")),
                 _ => {}
             }
         }
@@ -138,7 +138,7 @@ impl Scenario {
             ended = round.sound_between(ended)?;
             passed = passed.saturating_add(round.sound_during()?);
             if last.saturating_add(passed) > LAST_MOMENT {
-                return Err(format!("a moment may lie behind the last, {LAST_MOMENT}"));
+                return Err(format!("a moment may lie after the last, {LAST_MOMENT}"));
             }
         }
         Ok(())

@@ -1,10 +1,10 @@
-//! A side that is played step by step, as document 01 maps it: unread bytes are what the read buffer holds, or in a read the next piece;
+//! A side that is played step by step, as SCOPE 10 maps it: unread bytes are what the read buffer holds, or in a read the next piece;
 //! a step is made as long as one does something, then at the next moment at which something happens or a time is up.
 
 use crate::coverage::{Coverage, Up};
-use crate::record::{Event, Line, Metrics, Record};
 use crate::scenario::{Happening, Scenario};
 use crate::side::Side;
+use crate::trace::{Event, Line, Metrics, Trace};
 use rufflesquash::{Input, Moment, Queue, State};
 use std::collections::VecDeque;
 
@@ -75,7 +75,7 @@ struct Host<'a> {
     confirmed: Option<u64>,
     /// Milliseconds from the beginning.
     now: u64,
-    record: Record,
+    trace: Trace,
 }
 
 impl<R: Steps> Side for Stepped<R> {
@@ -83,11 +83,11 @@ impl<R: Steps> Side for Stepped<R> {
         self.name
     }
 
-    fn run(&mut self, scenario: &Scenario, client_times: &[i64]) -> Record {
+    fn run(&mut self, scenario: &Scenario, client_times: &[i64]) -> Trace {
         let query = self.run.begin(scenario);
         let mut host = Host::new(scenario, client_times);
         if !scenario.open {
-            host.record.lines.push((0, Line::Write(query)));
+            host.trace.lines.push((0, Line::Write(query)));
         }
         for (i, round) in scenario.rounds.iter().enumerate() {
             while let Some(due) = host.due().filter(|due| i > 0 && *due < round.at) {
@@ -101,10 +101,10 @@ impl<R: Steps> Side for Stepped<R> {
             round.what.iter().for_each(|what| self.happen(&mut host, what, false));
             (host.calls, host.during) = (0, round.during.iter().collect());
             self.settle(&mut host);
-            host.record.metrics.push(self.run.metrics());
+            host.trace.metrics.push(self.run.metrics());
         }
-        self.outside += host.record.outside.is_some() as u64;
-        host.record
+        self.outside += host.trace.outside.is_some() as u64;
+        host.trace
     }
 }
 
@@ -129,16 +129,16 @@ impl<R: Steps> Stepped<R> {
         }
     }
 
-    /// What happens during the calls of a step happens behind it: a step is told of the stop and the queue before it, and reports come
+    /// What happens during the calls of a step happens after it: a step is told of the stop and the queue before it, and reports come
     /// between steps.
     fn calls(&mut self, host: &mut Host, lines: usize) {
-        let made: Vec<Call> = host.record.lines[lines..].iter().filter_map(|(_, line)| call_of(line)).collect();
+        let made: Vec<Call> = host.trace.lines[lines..].iter().filter_map(|(_, line)| call_of(line)).collect();
         let before = host.calls;
         host.calls += made.len();
         while let Some((call, what)) = host.during.front().copied().filter(|(call, _)| *call <= host.calls) {
             host.during.pop_front();
             if host.is_inside(&made, call - before - 1, what) {
-                host.record.outside.get_or_insert(lines);
+                host.trace.outside.get_or_insert(lines);
             }
             self.happen(host, what, true);
         }
@@ -165,7 +165,7 @@ impl<R: Steps> Stepped<R> {
         };
         let input = Input {
             moment: moment_of(host.now),
-            client_time: host.client_times.get(host.statuses).copied().unwrap_or(0),
+            client_time_micros: host.client_times.get(host.statuses).copied().unwrap_or(0),
             stop: host.stop,
             queue,
             ended: host.ended && host.pieces.is_empty() && unread.is_empty(),
@@ -173,9 +173,9 @@ impl<R: Steps> Stepped<R> {
         let answer = self.run.step(&input, unread);
         self.steps += 1;
         self.coverage.step(host.state, &input, unread, &answer, up);
-        let lines = host.record.lines.len();
+        let lines = host.trace.lines.len();
         if let (Some(piece), true) = (piece, answer.taken > 0) {
-            host.record.lines.push((host.now, Line::Piece(piece.len())));
+            host.trace.lines.push((host.now, Line::Piece(piece.len())));
             host.held.extend(piece);
             host.pieces.pop_front();
         }
@@ -201,7 +201,7 @@ enum Call {
 fn call_of(line: &Line) -> Option<Call> {
     match line {
         Line::Piece(_) => Some(Call::Piece),
-        Line::Write(bytes) => Some(match crate::record::client_time(bytes) {
+        Line::Write(bytes) => Some(match crate::trace::client_time(bytes) {
             Some(_) => Call::Status(u64::from_be_bytes(bytes[6..14].try_into().unwrap())),
             None => Call::Done,
         }),
@@ -231,7 +231,7 @@ impl<'a> Host<'a> {
             during: VecDeque::new(),
             confirmed: None,
             now: 0,
-            record: Record::default(),
+            trace: Trace::default(),
         }
     }
 
@@ -290,17 +290,17 @@ impl<'a> Host<'a> {
         // Of a step's doings the event comes first, save in the answer to a keepalive, where it is a later step's.
         if let Some(event) = answer.event {
             self.queued += 1;
-            self.record.lines.push((now, Line::Event(event)));
+            self.trace.lines.push((now, Line::Event(event)));
         }
         if !answer.written.is_empty() {
-            if crate::record::client_time(&answer.written).is_some() {
+            if crate::trace::client_time(&answer.written).is_some() {
                 self.statuses += 1;
                 self.last_status = Some(now);
             }
-            self.record.lines.push((now, Line::Write(answer.written)));
+            self.trace.lines.push((now, Line::Write(answer.written)));
         }
         if let Some(time) = answer.waited {
-            self.record.lines.push((now, Line::Waited(time)));
+            self.trace.lines.push((now, Line::Waited(time)));
         }
         if answer.state == State::Waiting && self.state != State::Waiting {
             self.wait_began = now;
@@ -308,7 +308,7 @@ impl<'a> Host<'a> {
         self.state = answer.state;
         if self.state == State::Ended {
             let text = if answer.refusal == 19 { answer.error } else { Vec::new() };
-            self.record.lines.push((now, Line::End(answer.refusal, text)));
+            self.trace.lines.push((now, Line::End(answer.refusal, text)));
         }
     }
 

@@ -1,4 +1,4 @@
-//! Spellings that scenarios and records share.
+//! Spellings that scenarios and traces share.
 
 pub use model::{display as position, hex};
 

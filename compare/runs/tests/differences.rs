@@ -2,27 +2,27 @@
 
 use runs::compare::{compare, shrink};
 use runs::generate::scenario;
-use runs::leaf::{self, compare_leaves, Leaves, OriginalLeaves};
+use runs::leaf_records::{self, compare_leaves, Leaves, OriginalLeaves};
 use runs::modelled;
 use runs::original::{Copied, Original};
 use runs::ours;
-use runs::record::{Event, Line, Record};
 use runs::scenario::{Happening, Scenario};
 use runs::side::Side;
+use runs::trace::{Event, Line, Trace};
 use std::time::Duration;
 
-/// The Rust with its records changed.
-struct Changed(Copied, fn(&mut Record));
+/// The Rust with its traces changed.
+struct Changed(Copied, fn(&mut Trace));
 
 impl Side for Changed {
     fn name(&self) -> &'static str {
         "changed"
     }
 
-    fn run(&mut self, scenario: &Scenario, client_times: &[i64]) -> Record {
-        let mut record = self.0.run(scenario, client_times);
-        self.1(&mut record);
-        record
+    fn run(&mut self, scenario: &Scenario, client_times: &[i64]) -> Trace {
+        let mut trace = self.0.run(scenario, client_times);
+        self.1(&mut trace);
+        trace
     }
 }
 
@@ -32,7 +32,7 @@ fn size(s: &Scenario) -> usize {
 }
 
 /// The smallest scenario that shows the change.
-fn found(change: fn(&mut Record)) -> Scenario {
+fn found(change: fn(&mut Trace)) -> Scenario {
     let (mut first, mut second) = (Original::default(), Changed(Copied::default(), change));
     for seed in 1..20_000 {
         let s = scenario(seed);
@@ -80,8 +80,8 @@ fn generated_scenarios_are_sound_and_read_back() {
 
 #[test]
 fn a_changed_reply_byte_is_shown_by_one_keepalive() {
-    let small = found(|record| {
-        for (_, line) in &mut record.lines {
+    let small = found(|trace| {
+        for (_, line) in &mut trace.lines {
             if let Line::Write(bytes) = line {
                 if bytes.len() == 39 {
                     bytes[38] = 0;
@@ -95,20 +95,20 @@ fn a_changed_reply_byte_is_shown_by_one_keepalive() {
 
 #[test]
 fn a_lost_stopped_at_is_shown_by_one_message() {
-    let small = found(|record| record.lines.retain(|(_, line)| !matches!(line, Line::Event(Event::StoppedAt { .. }))));
+    let small = found(|trace| trace.lines.retain(|(_, line)| !matches!(line, Line::Event(Event::StoppedAt { .. }))));
     assert!(size(&small) <= 32, "{}", small.print());
 }
 
 #[test]
 fn a_changed_metric_is_shown() {
-    let small = found(|record| record.metrics.iter_mut().for_each(|m| m[4] = 0));
+    let small = found(|trace| trace.metrics.iter_mut().for_each(|m| m[4] = 0));
     assert!(size(&small) <= 63, "{}", small.print());
 }
 
 #[test]
 fn a_waiting_time_is_compared() {
-    let small = found(|record| {
-        for (_, line) in &mut record.lines {
+    let small = found(|trace| {
+        for (_, line) in &mut trace.lines {
             if let Line::Waited(time) = line {
                 *time = (*time).min(2_000_000);
             }
@@ -119,11 +119,11 @@ fn a_waiting_time_is_compared() {
 
 #[test]
 fn a_changed_moment_is_compared() {
-    let small = found(|record| record.lines.iter_mut().for_each(|(at, _)| *at = (*at).min(40)));
+    let small = found(|trace| trace.lines.iter_mut().for_each(|(at, _)| *at = (*at).min(40)));
     assert!(size(&small) <= 6, "{}", small.print());
 }
 
-/// Misses the slash behind a lone plus sign.
+/// Misses the slash after a lone plus sign.
 struct Lax;
 
 impl Leaves for Lax {
@@ -133,7 +133,7 @@ impl Leaves for Lax {
 
     fn answer(&mut self, records: &[u8]) -> Vec<u8> {
         let mut lines = OriginalLeaves.answer(records);
-        for (record, line) in leaf::records(records).zip(lines.split_mut(|b| *b == b'\n')) {
+        for (record, line) in leaf_records::records(records).zip(lines.split_mut(|b| *b == b'\n')) {
             if record.kind == b'p' && record.input == b"+/0" {
                 line.copy_from_slice(b"p 22");
             }
@@ -172,7 +172,7 @@ fn a_report_carries_its_own_moment() {
 }
 
 #[test]
-fn what_happens_during_a_call_is_seen_behind_it() {
+fn what_happens_during_a_call_is_seen_after_it() {
     let keepalives = "64000000166b000000000000000000000000000000000164000000166b0000000000000000000000000000000000";
     let text = format!("queue 1\nstatus 100\nidle 100\nat 0\nbytes {keepalives}\nduring 3 fill 1\nduring 3 stop\n");
     // The reply to the first keepalive is the third call: its event finds the queue full, and stop ends the stall.
@@ -180,7 +180,7 @@ fn what_happens_during_a_call_is_seen_behind_it() {
 }
 
 #[test]
-fn time_that_passes_during_a_read_is_seen_behind_it() {
+fn time_that_passes_during_a_read_is_seen_after_it() {
     let text = "status 5\nidle 100\nat 0\nbytes 64000000166b0000000000000000000000000000000001\nduring 2 pass 7\nat 8\n";
     // Read at 0; its reply, its event and the next turn are at 7.
     assert_eq!(played(text), ["0 write", "0 piece 23", "7 write", "7 event K 0/0 0 1", "metrics 1 2 1 0 0 0/0 0/0"]);

@@ -3,15 +3,15 @@
 use original::protocol::framing::MessageReader;
 use rufflesquash::{Input, Lsn, Moment, Queue, Refusal, Run, Settings, State};
 use runs::compare::compare;
-use runs::leaf::{put_record_in, texts, Leaves, OriginalLeaves, Program};
-use runs::leaves::{self, Query, Told};
+use runs::leaf_records::{put_record_in, texts, Leaves, OriginalLeaves, Program};
 use runs::original::Original;
 use runs::ours;
-use runs::record::{Line, Record, STATUS};
+use runs::rust_leaves::{self, Query, Told};
 use runs::scenario::Scenario;
 use runs::server::{begin, commit, data, framed, keepalive, message};
 use runs::side::Side;
 use runs::text::hex;
+use runs::trace::{Line, Trace, STATUS};
 use std::path::PathBuf;
 use std::time::Duration;
 
@@ -42,7 +42,7 @@ fn leaf(kind: u8, input: &[u8], line: &str) {
 }
 
 /// A scenario on each.
-fn apart(text: &str, mut first: Original) -> (Record, Record) {
+fn apart(text: &str, mut first: Original) -> (Trace, Trace) {
     let s = Scenario::parse(text).unwrap();
     let a = first.run(&s, &[]);
     let b = ours::side().run(&s, &a.client_times());
@@ -50,7 +50,7 @@ fn apart(text: &str, mut first: Original) -> (Record, Record) {
 }
 
 /// A scenario on which both do the same: what they do.
-fn alike(text: &str) -> Record {
+fn alike(text: &str) -> Trace {
     let (mut first, mut second) = (Original::default(), ours::side());
     let s = Scenario::parse(text).unwrap();
     assert_eq!(compare(&mut first, &mut second, &s), None, "{text}");
@@ -58,8 +58,8 @@ fn alike(text: &str) -> Record {
 }
 
 /// Statuses and CopyDone with their moments, and how the run ended.
-fn told(record: &Record) -> String {
-    let lines = record.lines.iter().filter_map(|(at, line)| match line {
+fn told(trace: &Trace) -> String {
+    let lines = trace.lines.iter().filter_map(|(at, line)| match line {
         Line::Write(bytes) if bytes.len() == STATUS => Some(format!("{at} status {} reply {}", &hex(&bytes[6..14])[14..], bytes[38])),
         Line::Write(bytes) if bytes[0] == b'c' => Some(format!("{at} done")),
         Line::Write(bytes) => Some(format!("{at} query {}", String::from_utf8_lossy(&bytes[5..bytes.len() - 1]))),
@@ -76,7 +76,7 @@ fn bytes(message: &[u8]) -> String {
 }
 
 fn input(moment: u64) -> Input {
-    Input { moment: Moment(moment), client_time: 0, stop: false, queue: Queue::Free, ended: false }
+    Input { moment: Moment(moment), client_time_micros: 0, stop: false, queue: Queue::Free, ended: false }
 }
 
 fn limit(max_message_size: usize) -> Settings {
@@ -89,8 +89,9 @@ fn limit(max_message_size: usize) -> Settings {
 fn a_text_over_the_bound() {
     let slot = "a".repeat(1_048_577);
     let s = Scenario { open: false, slot: slot.clone(), ..Scenario::default() };
-    let query =
-        leaves::write_simple_query(&format!("START_REPLICATION SLOT {slot} LOGICAL 0/0 (proto_version '1', publication_names 'p', messages 'true')"));
+    let query = rust_leaves::write_simple_query(&format!(
+        "START_REPLICATION SLOT {slot} LOGICAL 0/0 (proto_version '1', publication_names 'p', messages 'true')"
+    ));
     assert_eq!(Original::default().run(&s, &[]).lines, [(0, Line::Write(query))]);
     let mut out = vec![0xAA; 2_000_000];
     let refused = Run::open(&limit(0), slot.as_bytes(), &[], Lsn(0), Lsn(0), &mut out);
@@ -101,7 +102,7 @@ fn a_text_over_the_bound() {
 
 #[test]
 fn an_output_too_short() {
-    assert_eq!(leaves::write_done(), b"c\0\0\0\x04");
+    assert_eq!(rust_leaves::write_done(), b"c\0\0\0\x04");
     let empty = project_in(b'z', 0, b"");
     assert!(empty.starts_with("z 4 "), "{empty}");
     // Four bytes of the fill, whose sum is told: nothing was written.
@@ -126,8 +127,8 @@ fn a_moment_out_of_its_range() {
 
 #[test]
 fn a_message_in_pieces() {
-    assert_eq!(leaves::read(b"Z\0\0\0\x05", 1, 5, false), []);
-    assert_eq!(leaves::read(b"Z\0\0\0\x05I", 1, 5, false), [Told::Whole(b'Z', b"I".to_vec())]);
+    assert_eq!(rust_leaves::read(b"Z\0\0\0\x05", 1, 5, false), []);
+    assert_eq!(rust_leaves::read(b"Z\0\0\0\x05I", 1, 5, false), [Told::Whole(b'Z', b"I".to_vec())]);
     let mut run = Run::already_open(&limit(1), Lsn(0)).unwrap();
     let (mut payload, mut out) = ([0; 1], [0; 39]);
     let mut taken = |unread: &[u8]| run.step(&input(1), unread, &mut payload, &mut out).taken;
@@ -138,8 +139,8 @@ fn a_message_in_pieces() {
 
 #[test]
 fn a_payload_buffer_shorter_than_the_limit() {
-    let record = alike("limit 1\nat 0\nbytes 4e0000000500\n");
-    assert_eq!(told(&record), "0 status 00 reply 0");
+    let trace = alike("limit 1\nat 0\nbytes 4e0000000500\n");
+    assert_eq!(told(&trace), "0 status 00 reply 0");
     let mut run = Run::already_open(&limit(1), Lsn(0)).unwrap();
     assert_eq!(run.step(&input(1), b"", &mut [], &mut [0; 39]).refusal, Some(Refusal::PayloadBufferTooShort));
 }
@@ -153,17 +154,17 @@ fn a_message_over_the_limit() {
         let said = runtime.block_on(reader.read(&mut server)).unwrap_err().to_string();
         assert_eq!(said, "backend message too large: 1 bytes (max 0)", "{said}");
     }
-    // Behind it: limit, whether the input ends, the size of pieces, the bytes.
+    // The input: limit, whether the input ends, the size of pieces, the bytes.
     assert!(project_in(b'g', 0, b"\0\0\0\0\0\0\x05Z\0\0\0\x05").starts_with("g R 7 "));
 }
 
 #[test]
 fn the_largest_limit() {
-    let largest = leaves::LIMIT as u32;
+    let largest = rust_leaves::LIMIT as u32;
     let server = |n: u32| [&b"N"[..], &(n + 4).to_be_bytes()].concat();
-    assert_eq!(leaves::read(&server(largest), usize::MAX, 5, false), []);
-    assert_eq!(leaves::read(&server(largest + 1), usize::MAX, 5, false), [Told::Refused(7)]);
-    let mut payload = vec![0; leaves::LIMIT];
+    assert_eq!(rust_leaves::read(&server(largest), usize::MAX, 5, false), []);
+    assert_eq!(rust_leaves::read(&server(largest + 1), usize::MAX, 5, false), [Told::Refused(7)]);
+    let mut payload = vec![0; rust_leaves::LIMIT];
     for (n, refusal) in [(largest, None), (largest + 1, Some(Refusal::MessageTooLarge))] {
         let mut run = Run::already_open(&limit(usize::MAX), Lsn(0)).unwrap();
         let mut refused = |unread: &[u8]| run.step(&input(1), unread, &mut payload, &mut [0; 39]).refusal;
@@ -174,7 +175,7 @@ fn the_largest_limit() {
 #[test]
 fn rows_before_an_error() {
     let server = [framed(b'D', &[0, 0]), framed(b'E', b"\0"), framed(b'Z', b"I")].concat();
-    assert_eq!(leaves::simple_query(&server, 10), Query::Error(b"unknown server error".to_vec()));
+    assert_eq!(rust_leaves::simple_query(&server, 10), Query::Error(b"unknown server error".to_vec()));
     assert_eq!(project(b'm', &server), format!("m D | Z error {}", hex(b"unknown server error")));
 }
 
@@ -185,7 +186,7 @@ fn a_parameter_without_a_value() {
     assert_eq!(texts(&name[4..]), [b"a"]);
     let line = project(b's', name);
     assert!(line.ends_with(&hex(b"\0\0\0\x0C\0\x03\0\0a\0\0\0")), "{line}");
-    assert_eq!(leaves::write_startup(196_608, &[("a", "")]), b"\0\0\0\x0C\0\x03\0\0a\0\0\0");
+    assert_eq!(rust_leaves::write_startup(196_608, &[("a", "")]), b"\0\0\0\x0C\0\x03\0\0a\0\0\0");
 }
 
 #[test]
@@ -231,7 +232,7 @@ fn a_report_inside_a_step() {
 
 #[test]
 fn a_text_that_is_no_utf8() {
-    assert_eq!(leaves::parse_position(b"\xFF"), None);
+    assert_eq!(rust_leaves::parse_position(b"\xFF"), None);
     assert_eq!(Lsn::parse(b"\xFF"), Err(Refusal::MissingSlash));
     let mut out = [0; 200];
     let (_, n) = Run::open(&limit(0), b"\xFF", &[], Lsn(0), Lsn(0), &mut out).unwrap();
@@ -247,6 +248,66 @@ fn error_fields_that_are_skipped() {
     }
 }
 
+/// Fields as the program `leaves` prints them: the code, the message and the detail, of fifteen.
+fn fields(code: &str, message: &str, detail: &str) -> String {
+    format!("f 0 n {code} {message} {detail} n n n n n n n n n n n")
+}
+
+#[test]
+fn an_error_with_no_field() {
+    for payload in [&b""[..], b"\0"] {
+        leaf(b'f', payload, &fields("n", "n", "n"));
+        assert!(rust(b'e', payload).ends_with(&hex(b"unknown server error")), "{}", rust(b'e', payload));
+        leaf(b'e', payload, &project(b'e', payload));
+    }
+}
+
+/// The documentation has a zero byte after the last field; neither side asks for it.
+#[test]
+fn an_error_without_its_terminator() {
+    leaf(b'f', b"CX\0My\0", &fields(&hex(b"X"), &hex(b"y"), "n"));
+    leaf(b'f', b"CX\0My\0\0", &fields(&hex(b"X"), &hex(b"y"), "n"));
+}
+
+#[test]
+fn an_error_whose_last_field_is_unterminated() {
+    let line = project(b'f', b"CX\0My");
+    assert_eq!(rust(b'f', b"CX\0My"), line);
+    assert_eq!(line, fields(&hex(b"X"), "n", "n"));
+}
+
+#[test]
+fn an_error_with_a_field_twice() {
+    leaf(b'f', b"Mone\0Mtwo\0\0", &fields("n", &hex(b"two"), "n"));
+}
+
+#[test]
+fn w_and_z_without_their_bodies() {
+    let trace = alike("run opened\nat 0\nbytes 5700000004\n");
+    assert!(told(&trace).ends_with("; 0 status 00 reply 0"), "{}", told(&trace));
+    let server = framed(b'Z', b"");
+    assert_eq!(rust_leaves::simple_query(&server, 10), Query::Rows(vec![]));
+    leaf(b'm', &server, &project(b'm', &server));
+    assert!(project(b'm', &server).starts_with("m Z"), "{}", project(b'm', &server));
+}
+
+#[test]
+fn a_zero_byte_inside_a_text() {
+    let written = |line: String, bytes: &[u8]| assert!(line.ends_with(&hex(bytes)), "{line}");
+    leaf(b'q', b"a\0b", &project(b'q', b"a\0b"));
+    written(project(b'q', b"a\0b"), b"Q\0\0\0\x08a\0b\0");
+    let startup = b"\0\x03\0\0\0\x03u\0v\0\x01w";
+    leaf(b's', startup, &project(b's', startup));
+    written(project(b's', startup), b"\0\0\0\x0F\0\x03\0\0u\0v\0w\0\0");
+}
+
+#[test]
+fn a_startup_without_any_pair() {
+    let line = project(b's', b"\0\x03\0\0");
+    leaf(b's', b"\0\x03\0\0", &line);
+    assert!(line.ends_with(&hex(b"\0\0\0\x09\0\x03\0\0\0")), "{line}");
+}
+
 #[test]
 fn position_texts() {
     leaf(b'p', b"+1/2", "p 0 1/2");
@@ -257,8 +318,8 @@ fn position_texts() {
 
 #[test]
 fn any_reply_byte_but_0_asks() {
-    let record = alike(&format!("at 0\n{}", bytes(&keepalive(0, 0, 2))));
-    assert_eq!(told(&record), "0 status 00 reply 0; 0 status 00 reply 1; 0 event K 0/0 0 1");
+    let trace = alike(&format!("at 0\n{}", bytes(&keepalive(0, 0, 2))));
+    assert_eq!(told(&trace), "0 status 00 reply 0; 0 status 00 reply 1; 0 event K 0/0 0 1");
 }
 
 #[test]
@@ -285,14 +346,14 @@ fn lengths_and_numbers_of_columns_below_0() {
 
 #[test]
 fn the_answer_to_a_keepalive_asks_itself() {
-    let record = alike(&format!("at 0\n{}", bytes(&keepalive(0, 0, 1))));
-    assert_eq!(told(&record), "0 status 00 reply 0; 0 status 00 reply 1; 0 event K 0/0 0 1");
+    let trace = alike(&format!("at 0\n{}", bytes(&keepalive(0, 0, 1))));
+    assert_eq!(told(&trace), "0 status 00 reply 0; 0 status 00 reply 1; 0 event K 0/0 0 1");
 }
 
 #[test]
 fn the_servers_copy_done_is_skipped() {
-    let record = alike(&format!("at 0\nbytes 6300000004\nat 0\n{}", bytes(&keepalive(0, 0, 0))));
-    assert_eq!(told(&record), "0 status 00 reply 0; 0 event K 0/0 0 0");
+    let trace = alike(&format!("at 0\nbytes 6300000004\nat 0\n{}", bytes(&keepalive(0, 0, 0))));
+    assert_eq!(told(&trace), "0 status 00 reply 0; 0 event K 0/0 0 0");
 }
 
 #[test]
@@ -313,8 +374,8 @@ fn names_stand_unquoted() {
 
 #[test]
 fn a_message_that_has_begun_in_a_drain_is_read_to_its_end() {
-    let record = alike("status 1\nidle 1\nat 0\nbytes 4e000000046400000005\nat 5\nreport 0/10\nat 10\nstop\nat 20\nend\n");
-    assert_eq!(told(&record), "0 status 00 reply 0; 20 end 9");
+    let trace = alike("status 1\nidle 1\nat 0\nbytes 4e000000046400000005\nat 5\nreport 0/10\nat 10\nstop\nat 20\nend\n");
+    assert_eq!(told(&trace), "0 status 00 reply 0; 20 end 9");
 }
 
 #[test]
@@ -325,14 +386,14 @@ fn the_status_interval_sends_nothing_while_nothing_is_pending() {
 
 #[test]
 fn stop_is_not_looked_at_in_opening() {
-    let record = alike("run opened\nstatus 1\nidle 1\nat 0\nstop\nat 50\n");
-    assert_eq!(record.lines.len(), 1, "{}", told(&record));
+    let trace = alike("run opened\nstatus 1\nidle 1\nat 0\nstop\nat 50\n");
+    assert_eq!(trace.lines.len(), 1, "{}", told(&trace));
 }
 
 #[test]
 fn a_closed_queue_drops_events() {
-    let record = alike(&format!("at 0\nclose\n{}at 5\n", bytes(&keepalive(0, 0, 0))));
-    assert_eq!(told(&record), "0 status 00 reply 0");
+    let trace = alike(&format!("at 0\nclose\n{}at 5\n", bytes(&keepalive(0, 0, 0))));
+    assert_eq!(told(&trace), "0 status 00 reply 0");
 }
 
 #[test]
@@ -342,6 +403,6 @@ fn no_publications() {
 
 #[test]
 fn a_stop_position_of_0() {
-    let record = alike(&format!("stop_at 0/0\nat 0\n{}", bytes(&data(0, 0, 0, b""))));
-    assert_eq!(told(&record), "0 status 00 reply 0; 0 event X 0/0 0/0 0 -; 0 event S 0/0; 0 done; 0 end 0");
+    let trace = alike(&format!("stop_at 0/0\nat 0\n{}", bytes(&data(0, 0, 0, b""))));
+    assert_eq!(told(&trace), "0 status 00 reply 0; 0 event X 0/0 0/0 0 -; 0 event S 0/0; 0 done; 0 end 0");
 }

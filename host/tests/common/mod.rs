@@ -161,7 +161,7 @@ impl Fed {
     }
 
     pub fn input(&self) -> Input {
-        Input { moment: Moment(self.moment), client_time: -7, stop: self.stop, queue: self.queue, ended: self.ended }
+        Input { moment: Moment(self.moment), client_time_micros: -7, stop: self.stop, queue: self.queue, ended: self.ended }
     }
 
     /// One step, a microsecond later.

@@ -6,7 +6,7 @@
 use runs::cell::compare_with_the_project;
 use runs::compare::{compare, shrink};
 use runs::generate::scenario;
-use runs::leaf::{compare_leaves, OriginalLeaves, Program};
+use runs::leaf_records::{compare_leaves, OriginalLeaves, Program};
 use runs::modelled;
 use runs::original::Original;
 use runs::ours;

@@ -2,9 +2,9 @@
 
 use runs::draw::Draw;
 use runs::generate::scenario;
-use runs::leaf::{put_record, random, short, Leaves, OriginalLeaves};
+use runs::leaf_records::{put_record, random, short, Leaves, OriginalLeaves};
 use runs::original::Original;
-use runs::recorded;
+use runs::replay_script;
 use runs::scenario::{Happening, Scenario};
 use std::path::PathBuf;
 
@@ -24,13 +24,14 @@ fn small(mut s: Scenario) -> Option<Scenario> {
 }
 
 fn scripts() -> (Vec<u8>, String) {
-    let (mut first, mut second) = (Original::default(), recorded::side());
+    let (mut first, mut second) = (Original::default(), replay_script::side());
     let (mut bytes, mut lines, mut count) = (Vec::new(), String::new(), 0);
     let mut missing = usize::MAX;
     for seed in 1.. {
         let Some(s) = small(scenario(seed)) else { continue };
         let before = second.coverage.clone();
-        let (script, said) = recorded::record(&mut first, &mut second, &s).unwrap_or_else(|| panic!("seed {seed} differs: compare/run shows it"));
+        let (script, said) =
+            replay_script::script(&mut first, &mut second, &s).unwrap_or_else(|| panic!("seed {seed} differs: compare/run shows it"));
         // Whatever is new, then short ones; the rows that take 256 messages are left to compare/run.
         let now = second.coverage.print().1.len();
         let fits = said.len() <= LONGEST_LINES && script.len() <= LONGEST_SCRIPT;

@@ -51,7 +51,7 @@ fn at(position: u64, body: &[u8]) -> Vec<u8> {
     data(position, position, position as i64, body)
 }
 
-/// Transactions of `rows` rows, a keepalive behind every hundredth, up to a length.
+/// Transactions of `rows` rows, a keepalive after every hundredth, up to a length.
 fn stream(row: usize, rows: usize, length: usize) -> Stream {
     let mut bytes = Vec::with_capacity(length + 2 * PIECE + rows * (row + 64));
     let (mut messages, mut position, mut xid) = (0, 0x16B_0000, 700u32);
@@ -164,19 +164,22 @@ impl Sum {
     #[inline(always)]
     fn ours(&mut self, event: Event) {
         match event {
-            Event::KeepAlive { wal_end, server_time, reply_requested } => self.event(1, wal_end.0, server_time as u64, reply_requested as u64),
-            Event::Begin { final_lsn, commit_time, xid } => self.event(2, final_lsn.0, commit_time as u64, xid as u64),
-            Event::Commit { lsn, end_lsn, commit_time } => self.event(3, lsn.0, end_lsn.0, commit_time as u64),
+            Event::KeepAlive { wal_end, server_time_micros, reply_requested } => {
+                self.event(1, wal_end.0, server_time_micros as u64, reply_requested as u64)
+            }
+            Event::Begin { final_lsn, commit_time_micros, xid } => self.event(2, final_lsn.0, commit_time_micros as u64, xid as u64),
+            Event::Commit { lsn, end_lsn, commit_time_micros } => self.event(3, lsn.0, end_lsn.0, commit_time_micros as u64),
             Event::Message { transactional, lsn, prefix, content } => {
                 self.event(4, transactional as u64, lsn.0, 0);
                 self.lossy(prefix);
                 self.part(content);
             }
-            Event::XLogData { wal_start, wal_end, server_time, data } => {
-                self.event(5, wal_start.0, wal_end.0, server_time as u64);
+            Event::XLogData { wal_start, wal_end, server_time_micros, data } => {
+                self.event(5, wal_start.0, wal_end.0, server_time_micros as u64);
                 self.part(data);
             }
             Event::StoppedAt { reached } => self.event(6, reached.0, 0, 0),
+            other => panic!("an event that the Rust does not have: {other:?}"),
         }
     }
 }
@@ -185,12 +188,12 @@ impl Sum {
 fn owned(event: Event) -> ReplicationEvent {
     let lsn = |l: Lsn| TheirLsn(l.0);
     match event {
-        Event::KeepAlive { wal_end, server_time, reply_requested } => {
-            ReplicationEvent::KeepAlive { wal_end: lsn(wal_end), reply_requested, server_time_micros: server_time }
+        Event::KeepAlive { wal_end, server_time_micros, reply_requested } => {
+            ReplicationEvent::KeepAlive { wal_end: lsn(wal_end), reply_requested, server_time_micros }
         }
-        Event::Begin { final_lsn, commit_time, xid } => ReplicationEvent::Begin { final_lsn: lsn(final_lsn), xid, commit_time_micros: commit_time },
-        Event::Commit { lsn: at, end_lsn, commit_time } => {
-            ReplicationEvent::Commit { lsn: lsn(at), end_lsn: lsn(end_lsn), commit_time_micros: commit_time }
+        Event::Begin { final_lsn, commit_time_micros, xid } => ReplicationEvent::Begin { final_lsn: lsn(final_lsn), xid, commit_time_micros },
+        Event::Commit { lsn: at, end_lsn, commit_time_micros } => {
+            ReplicationEvent::Commit { lsn: lsn(at), end_lsn: lsn(end_lsn), commit_time_micros }
         }
         Event::Message { transactional, lsn: at, prefix, content } => ReplicationEvent::Message {
             transactional,
@@ -198,17 +201,18 @@ fn owned(event: Event) -> ReplicationEvent {
             prefix: String::from_utf8_lossy(prefix).into_owned(),
             content: bytes::Bytes::copy_from_slice(content),
         },
-        Event::XLogData { wal_start, wal_end, server_time, data } => ReplicationEvent::XLogData {
+        Event::XLogData { wal_start, wal_end, server_time_micros, data } => ReplicationEvent::XLogData {
             wal_start: lsn(wal_start),
             wal_end: lsn(wal_end),
-            server_time_micros: server_time,
+            server_time_micros,
             data: bytes::Bytes::copy_from_slice(data),
         },
         Event::StoppedAt { reached } => ReplicationEvent::StoppedAt { reached: lsn(reached) },
+        other => panic!("an event that the Rust does not have: {other:?}"),
     }
 }
 
-/// A stream in memory: what comes first, then piece after piece, "not ready" once behind each, so that the consumer comes to its turn.
+/// A stream in memory: what comes first, then piece after piece, "not ready" once after each, so that the consumer comes to its turn.
 struct Wire<'a> {
     before: &'a [u8],
     bytes: &'a [u8],
@@ -282,7 +286,7 @@ fn played_rust(bytes: &[u8], mut sum: Sum) -> Sum {
 
 /// The calls of a run over all pieces; each is copied into a buffer first, as one is read from a socket. The clock is read once a piece.
 #[inline(always)]
-fn calls<const SINGLE: bool>(bytes: &[u8], mut event: impl FnMut(Event), mut behind_piece: impl FnMut()) -> (u64, u64) {
+fn calls<const SINGLE: bool>(bytes: &[u8], mut event: impl FnMut(Event), mut after_piece: impl FnMut()) -> (u64, u64) {
     let settings = Settings { max_message_size: LIMIT, ..Settings::default() };
     let mut run = Run::already_open(&settings, Lsn(0)).expect("settings within their bounds");
     let mut payload = vec![0; settings.payload_len()];
@@ -291,10 +295,10 @@ fn calls<const SINGLE: bool>(bytes: &[u8], mut event: impl FnMut(Event), mut beh
     let (mut at, mut filled, mut calls) = (0, 0, 0);
     let mut out = [0; STEP_OUTPUT];
     let begun = Instant::now();
-    let mut input = Input { moment: Moment(1), client_time: 0, stop: false, queue: Queue::Free, ended: false };
+    let mut input = Input { moment: Moment(1), client_time_micros: 0, stop: false, queue: Queue::Free, ended: false };
     loop {
         if at == filled && matches!(run.state(), State::Reading | State::Waiting) {
-            behind_piece();
+            after_piece();
             let piece = pieces.next().unwrap_or_default();
             buffer[..piece.len()].copy_from_slice(piece);
             (at, filled) = (0, piece.len());
@@ -419,14 +423,14 @@ fn ended_step() -> f64 {
     let settings = Settings { max_message_size: 0, ..Settings::default() };
     let mut run = Run::already_open(&settings, Lsn(0)).expect("settings within their bounds");
     let mut out = [0; STEP_OUTPUT];
-    let input = Input { moment: Moment(1), client_time: 0, stop: true, queue: Queue::Free, ended: true };
+    let input = Input { moment: Moment(1), client_time_micros: 0, stop: true, queue: Queue::Free, ended: true };
     while run.state() != State::Ended {
-        run.step(&input, b"", &mut [], &mut out);
+        let _ = run.step(&input, b"", &mut [], &mut out);
     }
     let best = (0..RUNS).map(|_| {
         let (time, ()) = timed(|| {
             for _ in 0..STEPS {
-                std::hint::black_box(run.step(std::hint::black_box(&input), b"", &mut [], &mut out));
+                let _ = std::hint::black_box(run.step(std::hint::black_box(&input), b"", &mut [], &mut out));
             }
         });
         time

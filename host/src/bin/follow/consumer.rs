@@ -1,7 +1,8 @@
 //! The consumer: a thread that prints the events of a bounded queue and tells up to where it is done.
+use crate::ffi;
 use crate::print::Item;
-use crate::sys;
 use rufflesquash::{Lsn, Queue};
+use std::fs::File;
 use std::io::{self, BufWriter, Write};
 use std::sync::atomic::{AtomicBool, AtomicU64, Ordering::SeqCst};
 use std::sync::mpsc::{sync_channel, Receiver, SyncSender, TryRecvError};
@@ -34,12 +35,12 @@ pub struct Outbox {
 }
 
 impl Outbox {
-    /// Starts the consumer, which prints to standard output.
-    pub fn start(json: bool) -> Outbox {
+    /// Starts the consumer, which prints to a file.
+    pub fn start(out: File, json: bool) -> Outbox {
         let (sender, receiver) = sync_channel(EVENTS as usize);
         let shared = Arc::new(Shared::default());
         let printer = Printer {
-            out: BufWriter::with_capacity(65_536, io::stdout()),
+            out: BufWriter::with_capacity(65_536, out),
             json,
             shared: shared.clone(),
             events: 0,
@@ -103,7 +104,7 @@ impl Outbox {
 }
 
 struct Printer {
-    out: BufWriter<io::Stdout>,
+    out: BufWriter<File>,
     json: bool,
     shared: Arc<Shared>,
     events: u64,
@@ -118,7 +119,7 @@ impl Printer {
         let result = self.print_all(&receiver);
         if result.is_err() {
             self.shared.failed.store(true, SeqCst);
-            sys::wake();
+            ffi::wake();
         }
         result
     }
@@ -171,7 +172,7 @@ impl Printer {
         self.shared.position.store(self.done.0, SeqCst);
         self.shared.done_bytes.store(self.bytes, SeqCst);
         self.shared.done_events.store(self.events, SeqCst);
-        sys::wake();
+        ffi::wake();
         Ok(())
     }
 }

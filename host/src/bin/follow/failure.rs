@@ -1,11 +1,17 @@
 //! Why following ended, in one line, and what the program does then.
-use rufflesquash::Refusal;
+use rufflesquash::{error_field, ErrorField, Refusal};
 use std::fmt;
+use std::io::{self, Write};
 
 /// Exit status of a failed connection or of a server's error.
 pub const FAILED: u8 = 1;
 /// Exit status of bad options.
 pub const USAGE: u8 = 2;
+
+/// A line on standard error; where that cannot be written the program goes on without it.
+pub fn tell(line: fmt::Arguments) {
+    let _ = writeln!(io::stderr(), "follow: {line}");
+}
 
 /// One line that names what happened and what to do; a cut is tried again.
 #[derive(Debug)]
@@ -28,9 +34,10 @@ impl Failure {
     pub fn refused(refusal: Refusal, limit: usize) -> Failure {
         let line = format!("refusal {}: {refusal}", refusal.number());
         let advice = match refusal {
-            Refusal::EofInHeader | Refusal::EofInPayload => return Failure::cut(line),
+            refusal if refusal.is_transient() => return Failure::cut(line),
             Refusal::MessageTooLarge => format!(" of {limit} bytes; nothing is lost: follow again with a larger --max-message-size"),
             Refusal::InputTooLong => "; name fewer publications".to_string(),
+            Refusal::Unknown => "; build the archive and follow anew, from the same sources".to_string(),
             _ => "; the server's bytes are not what the protocol says: is this a PostgreSQL server?".to_string(),
         };
         Failure::new(refusal.number(), line + &advice)
@@ -73,5 +80,5 @@ fn server_text(payload: &[u8]) -> String {
 
 /// The SQLSTATE of an ErrorResponse's payload, or nothing.
 pub fn sqlstate(payload: &[u8]) -> &[u8] {
-    payload.split(|b| *b == 0).find_map(|field| field.strip_prefix(b"C")).unwrap_or(b"")
+    error_field(payload, ErrorField::Code).unwrap_or(b"")
 }

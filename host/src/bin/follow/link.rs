@@ -1,7 +1,7 @@
 //! A connection to the server: opened, and read and written without blocking.
 use crate::failure::{Failure, FAILED};
+use crate::ffi::{self, Waiter};
 use crate::options::{socket_path, Options};
-use crate::sys::{self, Waiter};
 use std::io::{self, ErrorKind, Read, Write};
 use std::net::{TcpStream, ToSocketAddrs};
 use std::os::fd::AsRawFd;
@@ -63,23 +63,18 @@ impl Link<'_> {
         self.waiter.wait(socket, timeout);
     }
 
-    /// Fills the whole buffer before the moment, or fails.
-    pub fn read_whole(&mut self, buffer: &mut [u8], until: Instant) -> Result<(), Failure> {
-        let mut filled = 0;
-        while filled < buffer.len() {
-            match self.read(&mut buffer[filled..]) {
-                Some(0) => return Err(Failure::cut("the server closed the connection while it was opened")),
-                Some(n) => filled += n,
-                None => {
-                    let left = until.saturating_duration_since(Instant::now());
-                    if left.is_zero() || sys::stop_requested() {
-                        return Err(Failure::cut("the server did not answer while the connection was opened"));
-                    }
-                    self.wait(true, Some(left));
-                }
+    /// Waits until bytes come or the server ends; how many came, 0 at the end. Fails where neither has happened before the moment.
+    pub fn read_some(&mut self, buffer: &mut [u8], until: Instant) -> Result<usize, Failure> {
+        loop {
+            if let Some(n) = self.read(buffer) {
+                return Ok(n);
             }
+            let left = until.saturating_duration_since(Instant::now());
+            if left.is_zero() || ffi::stop_requested() {
+                return Err(Failure::cut("the server did not answer while the connection was opened"));
+            }
+            self.wait(true, Some(left));
         }
-        Ok(())
     }
 
     /// Reads and forgets what still comes until the server closes or the time has passed.

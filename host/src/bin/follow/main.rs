@@ -1,23 +1,27 @@
 //! `follow`: prints what a logical replication slot of PostgreSQL hands on. A host of the library with std alone: trust and cleartext
 //! passwords; TLS and SCRAM stay with hosts that have crates for them.
+#![deny(unsafe_code)]
+
 mod consumer;
 mod failure;
+mod ffi;
 mod link;
 mod options;
 mod print;
 mod session;
 mod startup;
-mod sys;
 
 use consumer::Outbox;
-use failure::{Failure, FAILED};
+use failure::{tell, Failure, FAILED, USAGE};
+use ffi::Waiter;
 use link::Link;
 use options::{Options, Wanted};
 use rufflesquash::{Lsn, Run, Settings};
 use session::{Clock, Session, Totals};
+use startup::Talk;
+use std::io::{self, Write};
 use std::process::ExitCode;
 use std::time::{Duration, Instant};
-use sys::Waiter;
 
 const FIRST_PAUSE: Duration = Duration::from_millis(50);
 const LONGEST_PAUSE: Duration = Duration::from_secs(10);
@@ -25,45 +29,69 @@ const LONGEST_PAUSE: Duration = Duration::from_secs(10);
 const QUERY: usize = 3 * 1_048_576;
 
 fn main() -> ExitCode {
-    let result = match options::parse(std::env::args().skip(1)) {
-        Ok(Wanted::Follow(options)) => follow(&options),
-        Ok(Wanted::Help) => {
-            print!("{}", options::HELP);
-            Ok(())
-        }
-        Ok(Wanted::Version) => {
-            println!("follow {}", env!("CARGO_PKG_VERSION"));
-            Ok(())
-        }
-        Err(failure) => Err(failure),
-    };
-    match result {
+    match run() {
         Ok(()) => ExitCode::SUCCESS,
         Err(failure) => {
-            eprintln!("follow: {failure}");
+            tell(format_args!("{failure}"));
             ExitCode::from(failure.status)
         }
     }
 }
 
+fn run() -> Result<(), Failure> {
+    check_descriptors()?;
+    rufflesquash::check_archive().map_err(|wrong| Failure::new(FAILED, wrong.to_string()))?;
+    match options::parse(std::env::args().skip(1))? {
+        Wanted::Follow(options) => follow(&options),
+        Wanted::Help => print(options::HELP),
+        Wanted::Version => print(concat!("follow ", env!("CARGO_PKG_VERSION"), "\n")),
+    }
+}
+
+// What is printed to a closed descriptor is printed nowhere, and would be confirmed. So that is looked at before anything is opened.
+fn check_descriptors() -> Result<(), Failure> {
+    for (fd, name, mend) in [
+        (0, "standard input", "give it something, as < /dev/null"),
+        (1, "standard output", "give it a file or a pipe, or > /dev/null to drop what is printed"),
+        (2, "standard error", "give it a file or a pipe, or 2> /dev/null"),
+    ] {
+        let wrong = if ffi::closed_at_start(fd) {
+            "is closed"
+        } else if fd > 0 && ffi::read_only(fd) {
+            "cannot be written"
+        } else {
+            continue;
+        };
+        return Err(Failure::new(USAGE, format!("{name} {wrong}: {mend}")));
+    }
+    Ok(())
+}
+
+fn unwritable(e: io::Error) -> Failure {
+    Failure::new(FAILED, format!("cannot write to standard output: {e}; follow again where it can be written"))
+}
+
+fn print(text: &str) -> Result<(), Failure> {
+    ffi::standard_output().and_then(|mut out| out.write_all(text.as_bytes())).map_err(unwritable)
+}
+
 fn follow(options: &Options) -> Result<(), Failure> {
     let waiter = Waiter::new().map_err(|e| Failure::new(FAILED, format!("cannot wait for signals: {e}")))?;
-    let mut outbox = Outbox::start(options.json);
+    let mut outbox = Outbox::start(ffi::standard_output().map_err(unwritable)?, options.json);
     let mut totals = Totals::default();
     let mut result = connect_again(options, &waiter, &mut outbox, &mut totals);
     settle(&outbox, &waiter, Some(Duration::from_secs(1)));
     if outbox.settled() {
         if let Err(e) = outbox.finish() {
-            let line = format!("cannot write to standard output: {e}; follow again where it can be written");
-            result = Err(Failure::new(FAILED, line));
+            result = Err(unwritable(e));
         }
     }
     if options.verbose {
         let last = totals.last_status.unwrap_or_default();
-        eprintln!(
-            "follow: {} streams, {} events, {} statuses, {} stalls, last status {last}",
+        tell(format_args!(
+            "{} streams, {} events, {} statuses, {} stalls, last status {last}",
             totals.streams, totals.events, totals.statuses, totals.stalls
-        );
+        ));
     }
     result
 }
@@ -77,11 +105,11 @@ fn connect_again(options: &Options, waiter: &Waiter, outbox: &mut Outbox, totals
     let mut first = true;
     loop {
         let connected = connect(options, waiter, &mut first);
-        let result = connected.and_then(|link| one_stream(options, link, &mut payload, clock, outbox, totals));
+        let result = connected.and_then(|talk| one_stream(options, talk, &mut payload, clock, outbox, totals));
         let Err(failure) = result else { return Ok(()) };
         // All that was handed on is printed before more is asked for: the position is then the consumer's.
         settle(outbox, waiter, None);
-        if sys::stop_requested() || outbox.failed() {
+        if ffi::stop_requested() || outbox.failed() {
             return Ok(());
         }
         if !failure.again || options.no_loop || totals.streams == 0 {
@@ -90,7 +118,7 @@ fn connect_again(options: &Options, waiter: &Waiter, outbox: &mut Outbox, totals
         if outbox.position() > confirmed {
             (pause, confirmed) = (FIRST_PAUSE, outbox.position());
         }
-        eprintln!("follow: {failure}; again from {confirmed} in {} ms", pause.as_millis());
+        tell(format_args!("{failure}; again from {confirmed} in {} ms", pause.as_millis()));
         sleep(waiter, pause);
         pause = (pause * 2).min(LONGEST_PAUSE);
     }
@@ -107,20 +135,19 @@ fn settings(options: &Options) -> Settings {
     }
 }
 
-fn connect<'a>(options: &Options, waiter: &'a Waiter, first: &mut bool) -> Result<Link<'a>, Failure> {
-    let mut link = Link::connect(options, waiter)?;
-    startup::start(&mut link, options)?;
+fn connect<'a>(options: &Options, waiter: &'a Waiter, first: &mut bool) -> Result<Talk<'a>, Failure> {
+    let mut talk = Talk::start(Link::connect(options, waiter)?, options)?;
     if *first {
-        startup::check_publications(&mut link, options)?;
+        talk.check_publications(options)?;
         if options.create_slot {
-            startup::create_slot(&mut link, options)?;
+            talk.create_slot(options)?;
         }
         *first = false;
     }
-    Ok(link)
+    Ok(talk)
 }
 
-fn one_stream(options: &Options, link: Link, payload: &mut [u8], clock: Clock, outbox: &mut Outbox, totals: &mut Totals) -> Result<(), Failure> {
+fn one_stream(options: &Options, talk: Talk, payload: &mut [u8], clock: Clock, outbox: &mut Outbox, totals: &mut Totals) -> Result<(), Failure> {
     let settings = settings(options);
     let names: Vec<Vec<u8>> = options.publications.iter().map(|name| identifier(name)).collect();
     let names: Vec<&[u8]> = names.iter().map(Vec::as_slice).collect();
@@ -131,7 +158,7 @@ fn one_stream(options: &Options, link: Link, payload: &mut [u8], clock: Clock, o
     if totals.streams > 0 {
         outbox.hand_on(print::Item::Resumed(done));
     }
-    Session::new(link, settings, (run, &query[..n]), payload, clock)?.stream(outbox, totals)
+    Session::new(talk, settings, (run, &query[..n]), payload, clock)?.stream(outbox, totals)
 }
 
 // A name as SQL takes it for an identifier: the server folds and splits names that are not quoted.
@@ -143,7 +170,7 @@ fn identifier(name: &str) -> Vec<u8> {
 fn settle(outbox: &Outbox, waiter: &Waiter, limit: Option<Duration>) {
     let mut until = limit.map(|limit| Instant::now() + limit);
     while !outbox.settled() {
-        if until.is_none() && sys::stop_requested() {
+        if until.is_none() && ffi::stop_requested() {
             until = Some(Instant::now() + Duration::from_secs(5));
         }
         let left = until.map(|until| until.saturating_duration_since(Instant::now()));
@@ -156,7 +183,7 @@ fn settle(outbox: &Outbox, waiter: &Waiter, limit: Option<Duration>) {
 
 fn sleep(waiter: &Waiter, time: Duration) {
     let until = Instant::now() + time;
-    while !sys::stop_requested() {
+    while !ffi::stop_requested() {
         let left = until.saturating_duration_since(Instant::now());
         if left.is_zero() {
             return;

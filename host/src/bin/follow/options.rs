@@ -22,7 +22,7 @@ What to follow:
       --create-slot            create the slot before following it
       --if-not-exists          with --create-slot: no error where the slot is there already
   -I, --startpos LSN           begin at this position where the slot stands before it
-  -E, --endpos LSN             end behind the event that reaches this position
+  -E, --endpos LSN             end after the event that reaches this position
 How:
   -s, --status-interval SECS   time between two confirmations (default: 10; above 0, at most 86400; fractions are taken)
       --max-message-size BYTES longest message that is taken (default: 1073741824)

@@ -38,17 +38,21 @@ pub enum Item {
 }
 
 impl Item {
-    pub fn of(event: Event) -> Item {
-        match event {
-            Event::KeepAlive { wal_end, server_time, reply_requested: reply } => Item::KeepAlive { wal_end, time: server_time, reply },
-            Event::Begin { final_lsn, commit_time: time, xid } => Item::Begin { final_lsn, time, xid },
-            Event::Commit { lsn, end_lsn, commit_time: time } => Item::Commit { lsn, end_lsn, time },
+    /// None for an event of a kind that is not known here: it cannot be printed, so nothing from it on may be confirmed.
+    pub fn of(event: Event) -> Option<Item> {
+        Some(match event {
+            Event::KeepAlive { wal_end, server_time_micros: time, reply_requested: reply } => Item::KeepAlive { wal_end, time, reply },
+            Event::Begin { final_lsn, commit_time_micros: time, xid } => Item::Begin { final_lsn, time, xid },
+            Event::Commit { lsn, end_lsn, commit_time_micros: time } => Item::Commit { lsn, end_lsn, time },
             Event::StoppedAt { reached } => Item::StoppedAt(reached),
             Event::Message { transactional, lsn, prefix, content } => {
                 Item::Message { transactional, lsn, prefix: prefix.to_vec(), content: content.to_vec() }
             }
-            Event::XLogData { wal_start: start, wal_end: end, server_time: time, data } => Item::Data { start, end, time, data: data.to_vec() },
-        }
+            Event::XLogData { wal_start: start, wal_end: end, server_time_micros: time, data } => {
+                Item::Data { start, end, time, data: data.to_vec() }
+            }
+            _ => return None,
+        })
     }
 
     /// How many bytes of the server it holds.
@@ -179,10 +183,10 @@ mod tests {
 
     #[test]
     fn lines() {
-        let commit = Item::of(Event::Commit { lsn: Lsn(16), end_lsn: Lsn(1 << 32), commit_time: 0 });
+        let commit = Item::of(Event::Commit { lsn: Lsn(16), end_lsn: Lsn(1 << 32), commit_time_micros: 0 }).unwrap();
         assert_eq!(commit.text(), "commit 0/10 end 1/0 at 2000-01-01T00:00:00.000000Z");
         assert_eq!(commit.json(), r#"{"event":"commit","lsn":"0/10","end_lsn":"1/0","time":"2000-01-01T00:00:00.000000Z"}"#);
-        let message = Item::of(Event::Message { transactional: true, lsn: Lsn(1), prefix: b"a\"\n\x01\xff", content: b"\x00\xfe" });
+        let message = Item::of(Event::Message { transactional: true, lsn: Lsn(1), prefix: b"a\"\n\x01\xff", content: b"\x00\xfe" }).unwrap();
         assert_eq!(
             message.json(),
             "{\"event\":\"message\",\"transactional\":true,\"lsn\":\"0/1\",\"prefix\":\"a\\\"\\n\\u0001\u{fffd}\",\"content\":\"00fe\"}"

@@ -1,11 +1,11 @@
 //! One connection's stream: bytes go into the run, what it writes is sent, its events go to the consumer.
 use crate::consumer::Outbox;
-use crate::failure::{Failure, FAILED};
+use crate::failure::{tell, Failure, FAILED};
+use crate::ffi;
 use crate::link::Link;
 use crate::print::Item;
-use crate::startup::message;
-use crate::sys;
-use rufflesquash::{Input, Lsn, Moment, NextStep, Queue, Refusal, Run, Settings, State, STEP_OUTPUT};
+use crate::startup::Talk;
+use rufflesquash::{Input, Lsn, Moment, NextStep, Refusal, Run, Settings, State, STEP_OUTPUT};
 use std::time::{Duration, Instant, SystemTime, UNIX_EPOCH};
 
 const PIECE: usize = 131_072;
@@ -26,7 +26,7 @@ impl Clock {
     }
 
     // Microseconds from 2000-01-01.
-    fn client_time() -> i64 {
+    fn client_time_micros() -> i64 {
         let since = SystemTime::now().duration_since(UNIX_EPOCH).unwrap_or_default();
         since.as_micros() as i64 - 946_684_800_000_000
     }
@@ -57,9 +57,12 @@ pub struct Session<'a> {
 
 impl<'a> Session<'a> {
     /// The run and the query that it has already written are ready; the query is sent here.
-    pub fn new(mut link: Link<'a>, settings: Settings, opened: (Run, &[u8]), payload: &'a mut [u8], clock: Clock) -> Result<Session<'a>, Failure> {
+    pub fn new(talk: Talk<'a>, settings: Settings, opened: (Run, &[u8]), payload: &'a mut [u8], clock: Clock) -> Result<Session<'a>, Failure> {
+        let (mut link, mut input) = talk.end();
         link.send(opened.1)?;
-        Ok(Session { link, settings, run: opened.0, payload, clock, input: vec![0; PIECE], at: 0, filled: 0, ended: false })
+        let filled = input.len();
+        input.resize(PIECE, 0);
+        Ok(Session { link, settings, run: opened.0, payload, clock, input, at: 0, filled, ended: false })
     }
 
     /// Until the stream ends: by the stop position or a stop request well, otherwise with the failure.
@@ -85,7 +88,8 @@ impl<'a> Session<'a> {
                 Err(failure) => {
                     // The connection is still good where the run refused what came: what is printed is confirmed.
                     if failure.status > FAILED {
-                        self.close(outbox, &message(b'c', b""), totals);
+                        let written = rufflesquash::write_copy_done(&mut out).unwrap_or(0);
+                        self.close(outbox, &out[..written], totals);
                     }
                     return Err(failure);
                 }
@@ -98,7 +102,7 @@ impl<'a> Session<'a> {
             if written > 0 {
                 totals.last_status = self.run.last_sent().map(|status| status.position);
             }
-            if self.run.state() == State::Opening && sys::stop_requested() {
+            if self.run.state() == State::Opening && ffi::stop_requested() {
                 return Err(Failure::cut("stopped while the stream was opened"));
             }
             self.pause(outbox);
@@ -109,8 +113,8 @@ impl<'a> Session<'a> {
     fn step(&mut self, outbox: &mut Outbox, out: &mut [u8]) -> Result<usize, Failure> {
         let input = Input {
             moment: self.clock.now(),
-            client_time: Clock::client_time(),
-            stop: sys::stop_requested() || outbox.failed(),
+            client_time_micros: Clock::client_time_micros(),
+            stop: ffi::stop_requested() || outbox.failed(),
             queue: outbox.queue(),
             ended: self.ended,
         };
@@ -119,7 +123,8 @@ impl<'a> Session<'a> {
         self.at += step.taken;
         let (refusal, written) = (step.refusal, step.written);
         if let Some(event) = step.event {
-            outbox.hand_on(Item::of(event));
+            let item = Item::of(event).ok_or_else(|| Failure::new(FAILED, "the library hands on an event that follow cannot print"))?;
+            outbox.hand_on(item);
         }
         match refusal {
             None => Ok(written),
@@ -155,30 +160,24 @@ impl<'a> Session<'a> {
             self.link.wait(false, Some(until.saturating_duration_since(Instant::now())));
         }
         if let Err(failure) = self.say_goodbye(outbox.position(), copy_done, totals) {
-            eprintln!("follow: {failure}; what was printed last may be sent again");
+            tell(format_args!("{failure}; what was printed last may be sent again"));
         }
     }
 
     fn say_goodbye(&mut self, done: Lsn, copy_done: &[u8], totals: &mut Totals) -> Result<(), Failure> {
+        let mut out = [0; STEP_OUTPUT];
+        let unwritten = |refusal| Failure::refused(refusal, self.settings.max_message_size);
         if totals.last_status.unwrap_or_default() < done {
-            self.link.send(&self.last_status(done))?;
+            // An ended run sends no status any more.
+            let n = rufflesquash::write_status(done, Clock::client_time_micros(), false, &mut out).map_err(unwritten)?;
+            self.link.send(&out[..n])?;
             totals.last_status = Some(done);
         }
         self.link.send(copy_done)?;
-        self.link.send(&message(b'X', b""))?;
+        let n = rufflesquash::write_terminate(&mut out).map_err(unwritten)?;
+        self.link.send(&out[..n])?;
         // The server closes once it has read all of that.
         self.link.read_out(CLOSING);
         Ok(())
-    }
-
-    // A run that is already open begins with a status: here the one that an ended run no longer sends.
-    fn last_status(&self, done: Lsn) -> [u8; STEP_OUTPUT] {
-        let mut out = [0; STEP_OUTPUT];
-        let settings = Settings { max_message_size: 0, ..self.settings };
-        if let Ok(mut run) = Run::already_open(&settings, done) {
-            let input = Input { moment: self.clock.now(), client_time: Clock::client_time(), stop: false, queue: Queue::Free, ended: false };
-            run.step(&input, b"", &mut [], &mut out);
-        }
-        out
     }
 }

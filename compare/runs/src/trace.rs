@@ -22,7 +22,7 @@ pub enum Line {
 pub type Metrics = [u64; 7];
 
 #[derive(Clone, Debug, Default, PartialEq)]
-pub struct Record {
+pub struct Trace {
     /// Each with its moment, in milliseconds from the beginning.
     pub lines: Vec<(u64, Line)>,
     /// After each round; after the end of a run no more.
@@ -34,7 +34,7 @@ pub struct Record {
 
 pub const STATUS: usize = 39;
 
-/// A status's client time: eight bytes behind the header, the letter and three positions. None where it is no status.
+/// A status's client time: eight bytes after the header, the letter and three positions. None where it is no status.
 pub fn client_time(write: &[u8]) -> Option<i64> {
     (write.len() == STATUS && write[0] == b'd').then(|| i64::from_be_bytes(write[30..38].try_into().unwrap()))
 }
@@ -43,7 +43,7 @@ pub fn put_client_time(status: &mut [u8], time: i64) {
     status[30..38].copy_from_slice(&time.to_be_bytes());
 }
 
-impl Record {
+impl Trace {
     /// The client times of all statuses, in order.
     pub fn client_times(&self) -> Vec<i64> {
         self.lines.iter().filter_map(|(_, line)| if let Line::Write(w) = line { client_time(w) } else { None }).collect()

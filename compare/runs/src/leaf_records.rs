@@ -7,7 +7,7 @@ pub use inputs::{random, short};
 pub use lines::OriginalLeaves;
 
 use crate::draw::Draw;
-use crate::leaves;
+use crate::rust_leaves;
 use crate::text::hex;
 use inputs::lengthened;
 use std::io::{Read, Write};
@@ -37,7 +37,7 @@ pub struct Record<'a> {
 
 const HEAD: usize = 10;
 
-/// The records that stand one behind the other.
+/// The records that stand one after the other.
 pub fn records(mut bytes: &[u8]) -> impl Iterator<Item = Record<'_>> {
     std::iter::from_fn(move || {
         let head = bytes.get(..HEAD)?;
@@ -123,7 +123,7 @@ impl Leaves for Program {
 fn with_texts(line: &str) -> String {
     let lossy = |part: &str| match part {
         "n" | "-" => part.to_string(),
-        _ => hex(leaves::lossy(&crate::text::unhex(part).unwrap_or_default()).as_bytes()),
+        _ => hex(rust_leaves::lossy(&crate::text::unhex(part).unwrap_or_default()).as_bytes()),
     };
     let parts: Vec<&str> = line.split(' ').collect();
     let texts = match parts[..] {
@@ -235,9 +235,19 @@ impl Gathering<'_> {
         }
     }
 
-    /// The short inputs, then random ones until there were as many as wished; how many of each kind.
+    /// The short inputs, then random ones until there were as many as wished; how many of each kind. Of fewer than there are short ones half are
+    /// short, the first of each kind and one of so many; where none are wished the short ones are played alone.
     fn all(mut self, count: u64, seed: u64) -> [u64; 256] {
-        short(&mut |kind, input| self.add(kind, input));
+        let mut there = 0;
+        short(&mut |_, _| there += 1);
+        let every = if count == 0 { 1 } else { (2 * there / count).max(1) };
+        let mut place = seed;
+        short(&mut |kind, input| {
+            if count >= there || place % every == 0 || self.counts[kind as usize] == 0 {
+                self.add(kind, input);
+            }
+            place += 1;
+        });
         let mut draw = Draw::new(seed);
         while self.done < count && self.open {
             let (kind, input) = random(&mut draw);
@@ -248,7 +258,7 @@ impl Gathering<'_> {
     }
 }
 
-/// Compares the short inputs, then random ones until there were as many as wished; how many of each kind, or the first difference. The second
+/// Compares short inputs, then random ones until there were as many as wished; how many of each kind, or the first difference. The second
 /// side works beside the first.
 pub fn compare_leaves(first: &mut dyn Leaves, second: &mut (dyn Leaves + Send), count: u64, seed: u64) -> Result<Vec<(u8, u64)>, String> {
     let (counts, found) = std::thread::scope(|scope| {

@@ -1,16 +1,16 @@
 //! Scenarios as scripts of the program `replay`, with the lines that playing them must print.
 //!
-//! Events, bytes, waiting times, metrics and the refusal at the end are the Rust's: a scenario is recorded only where the model's record of it
+//! Events, bytes, waiting times, metrics and the refusal at the end are the Rust's: a scenario is recorded only where the model's trace of it
 //! is the Rust's in all of them. What the Rust has not (the state and the bytes taken after each step, the payload buffer's sum, a prefix
 //! before it is made lossy) is the model's.
 
 use crate::compare::compare;
 use crate::modelled::Modelled;
 use crate::original::Original;
-use crate::record::{Metrics, STATUS};
 use crate::scenario::{Happening, Scenario};
 use crate::stepped::{Answer, Stepped, Steps};
 use crate::text::position;
+use crate::trace::{Metrics, STATUS};
 use model::sum;
 use rufflesquash::{Input, Moment, Queue};
 use std::fmt::Write;
@@ -90,7 +90,7 @@ impl Steps for Recorder {
         let out = &mut self.script;
         out.push(b'S');
         out.extend(input.moment.0.to_be_bytes());
-        out.extend(input.client_time.to_be_bytes());
+        out.extend(input.client_time_micros.to_be_bytes());
         out.extend([input.stop as u8, queue]);
         out.extend((unread.len() as u32).to_be_bytes());
         out.push(input.ended as u8);
@@ -131,8 +131,8 @@ pub fn side() -> Stepped<Recorder> {
     Stepped::new("model")
 }
 
-/// Plays a scenario on the Rust and records it; the script and its lines. None where the model differs.
-pub fn record(first: &mut Original, second: &mut Stepped<Recorder>, scenario: &Scenario) -> Option<(Vec<u8>, String)> {
+/// Plays a scenario on the Rust; its script and the lines of it. None where the model differs.
+pub fn script(first: &mut Original, second: &mut Stepped<Recorder>, scenario: &Scenario) -> Option<(Vec<u8>, String)> {
     if compare(first, second, scenario).is_some() {
         return None;
     }

@@ -1,9 +1,9 @@
 //! The Rust's answers, as the lines that the program `leaves` prints.
 
 use super::{records, room, texts, Leaves, Record};
-use crate::leaves::{self, Answer, Query, Row, Told};
-use crate::record::Event;
+use crate::rust_leaves::{self, Answer, Query, Row, Told};
 use crate::text::position;
+use crate::trace::Event;
 use model::sum;
 use std::io::Write;
 
@@ -88,7 +88,7 @@ fn startup(input: &[u8]) -> Vec<u8> {
     let version = i32::from_be_bytes(input[..4].try_into().unwrap());
     let all: Vec<String> = texts(&input[4..]).into_iter().map(utf8).collect();
     let pairs: Vec<(&str, &str)> = all.chunks_exact(2).map(|p| (p[0].as_str(), p[1].as_str())).collect();
-    leaves::write_startup(version, &pairs)
+    rust_leaves::write_startup(version, &pairs)
 }
 
 fn original_line(record: &Record, out: &mut Vec<u8>) {
@@ -96,32 +96,34 @@ fn original_line(record: &Record, out: &mut Vec<u8>) {
     let written = |text: &[u8], out: &mut Vec<u8>| put_written(text, record, out);
     match record.kind {
         b'p' => {
-            let answer = leaves::parse_position(input).expect("the Rust takes well-formed text alone");
-            put_answer(answer, out, |p, out| out.extend_from_slice(leaves::display_position(p).as_bytes()))
+            let answer = rust_leaves::parse_position(input).expect("the Rust takes well-formed text alone");
+            put_answer(answer, out, |p, out| out.extend_from_slice(rust_leaves::display_position(p).as_bytes()))
         }
-        b'd' => written(leaves::display_position(number_at(input, 0)).as_bytes(), out),
-        b'l' => written(leaves::lossy(input).as_bytes(), out),
-        b'e' => written(&leaves::error_text(input), out),
+        b'd' => written(rust_leaves::display_position(number_at(input, 0)).as_bytes(), out),
+        b'l' => written(rust_leaves::lossy(input).as_bytes(), out),
+        b'e' => written(&rust_leaves::error_text(input), out),
         b'f' => {
             out.push(b'0');
-            put_columns(&leaves::error_fields(input).into_iter().map(|f| f.map(String::into_bytes)).collect(), out)
+            put_columns(&rust_leaves::error_fields(input).into_iter().map(|f| f.map(String::into_bytes)).collect(), out)
         }
-        b'a' => put_answer(leaves::auth_request(input), out, |(code, rest), out| {
+        b'a' => put_answer(rust_leaves::auth_request(input), out, |(code, rest), out| {
             let _ = write!(out, "{code} ");
             put_hex(rest, out);
         }),
-        b'c' => put_answer(leaves::copy_data(input), out, put_copy_data),
-        b'b' => put_answer(leaves::boundary(input), out, |event, out| out.extend_from_slice(event.map_or("n".to_string(), |e| e.line()).as_bytes())),
-        b'r' => put_answer(leaves::data_row(input), out, |row, out| {
+        b'c' => put_answer(rust_leaves::copy_data(input), out, put_copy_data),
+        b'b' => {
+            put_answer(rust_leaves::boundary(input), out, |event, out| out.extend_from_slice(event.map_or("n".to_string(), |e| e.line()).as_bytes()))
+        }
+        b'r' => put_answer(rust_leaves::data_row(input), out, |row, out| {
             let _ = write!(out, "{}", row.len());
             put_columns(&row, out);
         }),
-        b'q' => written(&leaves::write_simple_query(&utf8(input)), out),
-        b'y' => written(&leaves::write_data(input), out),
-        b't' => written(&leaves::write_status(number_at(input, 0), number_at(input, 8) as i64, input[16] != 0), out),
-        b'z' => written(&leaves::write_done(), out),
-        b'x' => written(&leaves::write_terminate(), out),
-        b'o' => written(leaves::option_value(texts(input).into_iter().map(utf8).collect()).as_bytes(), out),
+        b'q' => written(&rust_leaves::write_simple_query(&utf8(input)), out),
+        b'y' => written(&rust_leaves::write_data(input), out),
+        b't' => written(&rust_leaves::write_status(number_at(input, 0), number_at(input, 8) as i64, input[16] != 0), out),
+        b'z' => written(&rust_leaves::write_done(), out),
+        b'x' => written(&rust_leaves::write_terminate(), out),
+        b'o' => written(rust_leaves::option_value(texts(input).into_iter().map(utf8).collect()).as_bytes(), out),
         b's' => written(&startup(input), out),
         b'g' => reader_line(record, out),
         b'm' => query_line(input, out),
@@ -136,7 +138,7 @@ fn reader_line(record: &Record, out: &mut Vec<u8>) {
     let mut buffer = vec![record.fill; record.room];
     let mut rest = server;
     out.pop();
-    for told in leaves::read(server, limit, piece, record.input[4] != 0) {
+    for told in rust_leaves::read(server, limit, piece, record.input[4] != 0) {
         match told {
             Told::Whole(tag, payload) => {
                 let _ = write!(out, " W {tag} {}", payload.len());
@@ -167,13 +169,13 @@ fn query_line(server: &[u8], out: &mut Vec<u8>) {
         put_columns(row, out);
         out.extend_from_slice(b" | ");
     };
-    let end = leaves::simple_query(server, QUERY_LIMIT);
+    let end = rust_leaves::simple_query(server, QUERY_LIMIT);
     if let Query::Rows(rows) = &end {
         rows.iter().for_each(|row| put_row(row, out));
     } else {
-        for told in leaves::read(server, QUERY_LIMIT, server.len().max(1), false) {
+        for told in rust_leaves::read(server, QUERY_LIMIT, server.len().max(1), false) {
             match told {
-                Told::Whole(b'D', payload) => match leaves::data_row(&payload) {
+                Told::Whole(b'D', payload) => match rust_leaves::data_row(&payload) {
                     Ok(row) => put_row(&row, out),
                     Err(_) => break,
                 },

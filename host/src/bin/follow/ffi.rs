@@ -1,9 +1,13 @@
-//! The three C functions that std lacks: waiting for several things at once, and signals.
+//! The C functions that std lacks, behind safe ones: waiting for several things at once, signals, and the descriptors as the process found them. No
+//! other file of the program has unsafe code.
+#![allow(unsafe_code)]
+
+use std::fs::File;
 use std::io::{self, Read};
-use std::os::fd::{AsRawFd, IntoRawFd};
+use std::os::fd::{AsFd, AsRawFd, IntoRawFd};
 use std::os::raw::{c_int, c_ulong, c_void};
 use std::os::unix::net::UnixStream;
-use std::sync::atomic::{AtomicBool, AtomicI32, Ordering};
+use std::sync::atomic::{AtomicBool, AtomicI32, AtomicU8, Ordering};
 use std::time::Duration;
 
 #[repr(C)]
@@ -17,12 +21,52 @@ const POLLIN: i16 = 1;
 const POLLOUT: i16 = 4;
 const SIGINT: c_int = 2;
 const SIGTERM: c_int = 15;
+const F_GETFD: c_int = 1;
+const F_GETFL: c_int = 3;
+const O_ACCMODE: c_int = 3;
+const O_RDONLY: c_int = 0;
 
 extern "C" {
     fn poll(fds: *mut PollFd, count: c_ulong, timeout: c_int) -> c_int;
     fn signal(number: c_int, handler: extern "C" fn(c_int)) -> *mut c_void;
     fn write(fd: c_int, bytes: *const u8, len: usize) -> isize;
+    fn fcntl(fd: c_int, command: c_int, ...) -> c_int;
     fn _exit(status: c_int) -> !;
+}
+
+/// A bit for each of the descriptors 0 to 2 that was closed when the process began.
+static CLOSED: AtomicU8 = AtomicU8::new(0);
+
+// std opens /dev/null in place of a closed descriptor before it calls `main`, and nothing tells that from the user's own `> /dev/null` then. The C
+// library calls the functions of .init_array before that.
+#[used]
+#[link_section = ".init_array"]
+static AT_START: extern "C" fn() = look_at_descriptors;
+
+extern "C" fn look_at_descriptors() {
+    for fd in 0..3 {
+        // SAFETY: only asks for the descriptor's flags, which fails where it is closed.
+        if unsafe { fcntl(fd, F_GETFD) } < 0 {
+            CLOSED.fetch_or(1 << fd, Ordering::SeqCst);
+        }
+    }
+}
+
+/// Whether a descriptor, 0 to 2, was closed when the process began.
+pub fn closed_at_start(fd: c_int) -> bool {
+    CLOSED.load(Ordering::SeqCst) & (1 << fd) != 0
+}
+
+/// Whether a descriptor was opened for reading alone.
+pub fn read_only(fd: c_int) -> bool {
+    // SAFETY: only asks for the flags of the open file.
+    let flags = unsafe { fcntl(fd, F_GETFL) };
+    flags >= 0 && flags & O_ACCMODE == O_RDONLY
+}
+
+/// Standard output as a file: std's own handle takes a write to a descriptor that cannot be written for done.
+pub fn standard_output() -> io::Result<File> {
+    Ok(io::stdout().as_fd().try_clone_to_owned()?.into())
 }
 
 static STOP: AtomicBool = AtomicBool::new(false);

@@ -1,7 +1,7 @@
 //! The leaves of the Rust as plain functions over bytes.
 
 use crate::original::{event_of, number_of};
-use crate::record::Event;
+use crate::trace::Event;
 use bytes::Bytes;
 use original::client::worker::reach;
 use original::error::PgWireError;
@@ -15,7 +15,7 @@ use std::pin::{pin, Pin};
 use std::task::{Context, Poll, Waker};
 use tokio::io::{AsyncRead, AsyncWrite, ReadBuf};
 
-/// An answer, or document 01's number of the refusal.
+/// An answer, or the number of the refusal (SCOPE 7.1).
 pub type Answer<T> = Result<T, u8>;
 
 fn numbered<T>(answer: Result<T, PgWireError>) -> Answer<T> {
@@ -172,7 +172,7 @@ pub enum Told {
     Refused(u8),
 }
 
-/// Reads server bytes that come in pieces of a size; goes on behind refusal 6, stops at any other. Without the end it stops where the
+/// Reads server bytes that come in pieces of a size; goes on after refusal 6, stops at any other. Without the end it stops where the
 /// bytes do.
 pub fn read(server: &[u8], limit: usize, piece: usize, ended: bool) -> Vec<Told> {
     let mut stream = Script::new(server, piece);
@@ -224,7 +224,7 @@ impl AsyncRead for Script<'_> {
         if std::mem::take(&mut self.rests) {
             return Poll::Pending;
         }
-        // A piece may be taken in parts; behind its last byte the stream rests.
+        // A piece may be taken in parts; after its last byte the stream rests.
         let n = (self.piece - self.from % self.piece).min(left).min(buf.remaining());
         buf.put_slice(&self.server[self.from..self.from + n]);
         self.from += n;

@@ -1,0 +1,1051 @@
+/* Reads and checks every word that rufflesquash.h documents, from C: of settings, runs, answers, events, metrics, cells, readers, queries and
+ * parts, on inputs whose numbers differ from word to word, so that two words that change places are seen. The expected numbers are read off the
+ * header and the PostgreSQL documentation. host/test builds and runs it; it prints what differs, and its last line is how many checks were made. */
+#include "rufflesquash.h"
+#include <inttypes.h>
+#include <stdio.h>
+#include <string.h>
+
+#define R(name) RUFFLESQUASH_##name
+#define LEN(array) (sizeof(array) / sizeof *(array))
+
+static unsigned checks, wrong;
+
+static void same_at(int line, const char *what, uint64_t actual, uint64_t expected) {
+    checks++;
+    if (actual != expected) {
+        wrong++;
+        printf("words.c:%d: %s is %" PRIu64 " (%" PRIX64 "), not %" PRIu64 " (%" PRIX64 ")\n", line, what, actual, actual, expected, expected);
+    }
+}
+
+static void bytes_at(int line, const char *what, const void *actual, const void *expected, size_t len) {
+    checks++;
+    if (len != 0 && memcmp(actual, expected, len) != 0) {
+        wrong++;
+        printf("words.c:%d: the bytes of %s differ\n", line, what);
+    }
+}
+
+#define SAME(actual, expected) same_at(__LINE__, #actual, (uint64_t)(actual), (uint64_t)(expected))
+#define BYTES(actual, expected, len) bytes_at(__LINE__, #actual, actual, expected, len)
+/* All words of an answer. */
+#define WORDS(actual, ...) words_at(__LINE__, #actual, actual, LEN(actual), (const uint64_t[]){__VA_ARGS__}, LEN(((const uint64_t[]){__VA_ARGS__})))
+
+/* Words that are not named are 0. */
+static void words_at(int line, const char *what, const uint64_t *actual, size_t len, const uint64_t *expected, size_t named) {
+    for (size_t i = 0; i < len || i < named; i++) {
+        char name[64];
+        snprintf(name, sizeof name, "%s[%zu]", what, i);
+        same_at(line, name, i < len ? actual[i] : 0, i < named ? expected[i] : 0);
+    }
+}
+
+/* ---- bytes of a server */
+
+struct text {
+    uint8_t at[512];
+    size_t len;
+};
+
+static void put(struct text *t, const void *bytes, size_t len) {
+    memcpy(t->at + t->len, bytes, len);
+    t->len += len;
+}
+
+static void put_number(struct text *t, uint64_t n, int bytes) {
+    while (bytes-- > 0) t->at[t->len++] = (uint8_t)(n >> (8 * bytes));
+}
+
+static void put_message(struct text *t, char tag, const struct text *body) {
+    put(t, &tag, 1);
+    put_number(t, body->len + 4, 4);
+    put(t, body->at, body->len);
+}
+
+/* CopyData with XLogData around the plugin's data. */
+static struct text xlog_data(uint64_t start, uint64_t end, int64_t time, const struct text *data) {
+    struct text body = {.len = 0}, message = {.len = 0};
+    put(&body, "w", 1);
+    put_number(&body, start, 8);
+    put_number(&body, end, 8);
+    put_number(&body, (uint64_t)time, 8);
+    put(&body, data->at, data->len);
+    put_message(&message, 'd', &body);
+    return message;
+}
+
+static struct text keepalive(uint64_t end, int64_t time, uint8_t reply) {
+    struct text body = {.len = 0}, message = {.len = 0};
+    put(&body, "k", 1);
+    put_number(&body, end, 8);
+    put_number(&body, (uint64_t)time, 8);
+    put_number(&body, reply, 1);
+    put_message(&message, 'd', &body);
+    return message;
+}
+
+static struct text status(uint64_t position, int64_t time, uint8_t reply) {
+    struct text body = {.len = 0}, message = {.len = 0};
+    put(&body, "r", 1);
+    for (int i = 0; i < 3; i++) put_number(&body, position, 8);
+    put_number(&body, (uint64_t)time, 8);
+    put_number(&body, reply, 1);
+    put_message(&message, 'd', &body);
+    return message;
+}
+
+static struct text plain(char tag, const char *payload, size_t len) {
+    struct text body = {.len = 0}, message = {.len = 0};
+    put(&body, payload, len);
+    put_message(&message, tag, &body);
+    return message;
+}
+
+/* ---- a run that is fed */
+
+#define MS 1000000u
+#define LIMIT 200
+#define FILL 0xAA
+#define CLIENT_TIME (-9)
+
+static const uint64_t settings[R(SETTINGS_WORDS)] = {
+    [R(SETTINGS_STATUS_INTERVAL_NANOS)] = 10 * MS,
+    [R(SETTINGS_IDLE_WAKEUP_INTERVAL_NANOS)] = 30 * MS,
+    [R(SETTINGS_MAX_MESSAGE_BYTES)] = LIMIT,
+    [R(SETTINGS_HAS_STOP)] = 1,
+    [R(SETTINGS_STOP_AT_LSN)] = 0x900000009,
+    [R(SETTINGS_TIMING)] = 1,
+    [R(SETTINGS_BINARY)] = 1,
+};
+
+static uint64_t run[R(RUN_WORDS)], answer[R(ANSWER_WORDS)];
+static uint8_t payload[LIMIT + 8], out[64];
+static uint64_t moment, queue;
+static bool stop, ended;
+
+/* One step or advance with these bytes, a microsecond later; the words that the header documents are held to their other readers. */
+static void call(bool several, const uint8_t *unread, size_t len) {
+    uint64_t metrics[R(METRICS_WORDS)], last[R(STATUS_WORDS)];
+    moment += 1000;
+    memset(out, FILL, sizeof out);
+    memset(answer, FILL, sizeof answer);
+    (several ? rufflesquash_advance : rufflesquash_step)(run, moment, CLIENT_TIME, stop, queue, ended, unread, len, payload, sizeof payload, out,
+                                                         sizeof out, answer);
+    for (size_t i = answer[R(ANSWER_WRITTEN)]; i < sizeof out; i++) SAME(out[i], FILL);
+    SAME(rufflesquash_state(run), run[R(RUN_STATE)]);
+    SAME(rufflesquash_position(run), run[R(RUN_APPLIED)]);
+    SAME(run[R(RUN_TIMED)], 1);
+    if (answer[R(ANSWER_REFUSAL)] == 0) SAME(run[R(RUN_LAST_MOMENT)], moment);
+    rufflesquash_metrics(run, metrics);
+    for (size_t i = 0; i < LEN(metrics); i++) SAME(metrics[i], run[R(RUN_EVENTS_FORWARDED) + i]);
+    rufflesquash_last_sent(run, last);
+    for (size_t i = 0; i < LEN(last); i++) SAME(last[i], run[R(RUN_STATUS_SENT) + i]);
+    for (size_t i = 0; i < LEN(settings); i++) SAME(run[i], settings[i]);
+    for (size_t i = R(RUN_SPARE); i < R(RUN_WORDS); i++) SAME(run[i], 0);
+}
+
+static void step(const uint8_t *unread, size_t len) {
+    call(false, unread, len);
+}
+
+static void begin_run(uint64_t start) {
+    memset(run, FILL, sizeof run);
+    memset(payload, FILL, sizeof payload);
+    moment = 5 * MS, queue = R(QUEUE_FREE), stop = false, ended = false;
+    SAME(rufflesquash_already_open(settings, start, run), 0);
+}
+
+/* A run that has sent its first status and waits: its moment is that of the step that began the wait. */
+static void begin_waiting(uint64_t start) {
+    begin_run(start);
+    step(NULL, 0);
+    step(NULL, 0);
+    SAME(rufflesquash_state(run), R(STATE_WAITING));
+}
+
+/* Steps over these bytes until an event, bytes to send or a refusal; how many bytes were taken. */
+static size_t feed(const struct text *t) {
+    size_t at = 0;
+    for (int i = 0; i < 20; i++) {
+        step(t->at + at, t->len - at);
+        at += answer[R(ANSWER_TAKEN)];
+        if (answer[R(ANSWER_REFUSAL)] != 0 || answer[R(ANSWER_EVENT)] != 0 || answer[R(ANSWER_WRITTEN)] != 0) break;
+    }
+    return at;
+}
+
+/* ---- runs */
+
+static const struct rufflesquash_bytes names[] = {{(const uint8_t *)"a'b", 3}, {(const uint8_t *)"c", 1}};
+static const char query[] =
+    "START_REPLICATION SLOT slot LOGICAL 16/B374D848 (proto_version '1', publication_names 'a''b,c', messages 'true', binary 'true')";
+
+static void opening(void) {
+    const struct text expected = plain('Q', query, sizeof query);
+    uint8_t room[512];
+    uint64_t written = 7;
+    memset(run, FILL, sizeof run);
+    memset(room, FILL, sizeof room);
+    SAME(rufflesquash_open(settings, (const uint8_t *)"slot", 4, names, 2, 0x16B374D848, 0x77, run, room, sizeof room, &written), 0);
+    SAME(written, expected.len);
+    BYTES(room, expected.at, expected.len);
+    SAME(room[written], FILL);
+    /* A fresh run: settings, the state, the start, whether it is timed; all else is 0. */
+    WORDS(run, 10 * MS, 30 * MS, LIMIT, 1, 0x900000009, 1, 1, R(STATE_OPENING), 0, 0, 0, 0, 0, 0, 0, 0, 0, 0, 0, 0x77, 0, 0, 1);
+    SAME(run[R(RUN_APPLIED)], 0x77);
+    SAME(run[R(RUN_TIMED)], 1);
+    SAME(rufflesquash_already_open(settings, 0x78, run), 0);
+    WORDS(run, 10 * MS, 30 * MS, LIMIT, 1, 0x900000009, 1, 1, R(STATE_TURN), 0, 0, 0, 0, 0, 0, 0, 0, 0, 0, 0, 0x78, 0, 0, 1);
+}
+
+/* Each flag by itself: binary is seen in the query, timing in the run. */
+static void flags_of_settings(void) {
+    const struct text expected = plain('Q', query, sizeof query);
+    uint8_t room[512];
+    uint64_t written, flags[R(SETTINGS_WORDS)], other[R(RUN_WORDS)];
+    memcpy(flags, settings, sizeof settings);
+    flags[R(SETTINGS_BINARY)] = 0;
+    SAME(rufflesquash_open(flags, (const uint8_t *)"slot", 4, names, 2, 0x16B374D848, 0x77, other, room, sizeof room, &written), 0);
+    SAME(written, expected.len - 15);
+    SAME(other[R(RUN_BINARY)], 0);
+    SAME(other[R(RUN_TIMED)], 1);
+    flags[R(SETTINGS_BINARY)] = 1, flags[R(SETTINGS_TIMING)] = 0, flags[R(SETTINGS_HAS_STOP)] = 0;
+    SAME(rufflesquash_open(flags, (const uint8_t *)"slot", 4, names, 2, 0x16B374D848, 0x77, other, room, sizeof room, &written), 0);
+    BYTES(room, expected.at, expected.len);
+    SAME(other[R(RUN_TIMING)], 0);
+    SAME(other[R(RUN_TIMED)], 0);
+    SAME(other[R(RUN_HAS_STOP)], 0);
+    SAME(other[R(RUN_BINARY)], 1);
+}
+
+/* Refused, run and out are as they were and written is 0. */
+static void refused_openings(void) {
+    const struct text expected = plain('Q', query, sizeof query);
+    uint8_t room[512];
+    uint64_t written, before[R(RUN_WORDS)], long_interval[R(SETTINGS_WORDS)];
+    memset(room, FILL, sizeof room);
+    memcpy(before, run, sizeof run);
+    memset(room, FILL, sizeof room);
+    for (int i = R(SETTINGS_STATUS_INTERVAL_NANOS); i <= R(SETTINGS_IDLE_WAKEUP_INTERVAL_NANOS); i++) {
+        memcpy(long_interval, settings, sizeof settings);
+        long_interval[i] = UINT64_C(86400000000001);
+        written = 7;
+        SAME(rufflesquash_open(long_interval, (const uint8_t *)"slot", 4, names, 2, 1, 2, run, room, sizeof room, &written), 1);
+        SAME(written, 0);
+        SAME(rufflesquash_already_open(long_interval, 2, run), 1);
+    }
+    SAME(rufflesquash_open(settings, (const uint8_t *)"slot", 4, names, 2, 0x16B374D848, 2, run, room, expected.len - 1, &written), 4);
+    SAME(written, 0);
+    SAME(room[0], FILL);
+    BYTES(run, before, sizeof run);
+}
+
+static void opening_is_skipped_and_accepted(void) {
+    struct text bytes = plain('N', "notice", 6), accepted = plain('W', "\0\0\0", 3);
+    uint64_t written;
+    uint8_t room[512];
+    moment = 5 * MS, queue = R(QUEUE_FREE), stop = false, ended = false;
+    SAME(rufflesquash_open(settings, NULL, 0, NULL, 0, 0, 0, run, room, sizeof room, &written), 0);
+    uint64_t next[R(NEXT_WORDS)];
+    rufflesquash_next_step(run, sizeof payload, R(QUEUE_FREE), next);
+    WORDS(next, R(NEXT_ON_INPUT));
+    step(bytes.at, bytes.len);
+    WORDS(answer, 0, bytes.len);
+    SAME(run[R(RUN_STATE)], R(STATE_OPENING));
+    step(accepted.at, accepted.len);
+    WORDS(answer, 0, accepted.len);
+    SAME(run[R(RUN_STATE)], R(STATE_TURN));
+}
+
+/* The states in turn, each word of the run that a state has, and a status with its waiting time. */
+static void states(void) {
+    uint64_t next[R(NEXT_WORDS)];
+    begin_run(0x10);
+    rufflesquash_next_step(run, sizeof payload, R(QUEUE_FREE), next);
+    WORDS(next, R(NEXT_AT_ONCE));
+    step(NULL, 0);
+    const struct text first = status(0x10, CLIENT_TIME, 0);
+    WORDS(answer, 0, 0, 39);
+    BYTES(out, first.at, first.len);
+    const uint64_t sent = moment;
+    SAME(run[R(RUN_STATE)], R(STATE_DRAIN));
+    SAME(run[R(RUN_STATUS_SENT)], 1);
+    SAME(run[R(RUN_STATUS_POSITION)], 0x10);
+    SAME(run[R(RUN_STATUS_AT)], sent);
+    SAME(run[R(RUN_LAST_APPLIED_LSN)], 0x10);
+    step(NULL, 0);
+    WORDS(answer, 0);
+    SAME(run[R(RUN_STATE)], R(STATE_WAITING));
+    SAME(run[R(RUN_WAIT_BEGAN)], moment);
+    rufflesquash_next_step(run, sizeof payload, R(QUEUE_FREE), next);
+    WORDS(next, R(NEXT_FROM), moment + 30 * MS);
+}
+
+/* A report, in the words of the run's cell, and the status that confirms it; a lower report changes nothing. */
+static void reports(void) {
+    uint64_t next[R(NEXT_WORDS)], before[R(RUN_WORDS)];
+    begin_waiting(0x10);
+    const uint64_t sent = run[R(RUN_STATUS_AT)], reported = moment + 5;
+    memcpy(before, run, sizeof run);
+    rufflesquash_report(run, 0x44, reported);
+    rufflesquash_report(run, 0x33, reported + 7);
+    before[R(RUN_APPLIED)] = 0x44, before[R(RUN_SIGNALLED)] = 1, before[R(RUN_PENDING_SINCE)] = reported;
+    BYTES(run, before, sizeof run);
+    SAME(run[R(RUN_APPLIED)], 0x44);
+    SAME(run[R(RUN_SIGNALLED)], 1);
+    SAME(run[R(RUN_PENDING_SINCE)], reported);
+    SAME(rufflesquash_position(run), 0x44);
+    step(NULL, 0);
+    SAME(run[R(RUN_STATE)], R(STATE_TURN));
+    SAME(run[R(RUN_SIGNALLED)], 1);
+    SAME(run[R(RUN_PENDING)], 0);
+    /* A new wait clears the signal and fixes that a status is pending. */
+    step(NULL, 0);
+    step(NULL, 0);
+    SAME(run[R(RUN_STATE)], R(STATE_WAITING));
+    SAME(run[R(RUN_SIGNALLED)], 0);
+    SAME(run[R(RUN_PENDING)], 1);
+    rufflesquash_next_step(run, sizeof payload, R(QUEUE_FREE), next);
+    WORDS(next, R(NEXT_FROM), sent + 10 * MS);
+    moment = sent + 10 * MS - 1000;
+    step(NULL, 0);
+    const struct text second = status(0x44, CLIENT_TIME, 0);
+    WORDS(answer, 0, 0, 39, 1, moment - reported);
+    BYTES(out, second.at, second.len);
+    SAME(run[R(RUN_STATE)], R(STATE_TURN));
+    SAME(run[R(RUN_PENDING_SINCE)], 0);
+    uint64_t last[R(STATUS_WORDS)], metrics[R(METRICS_WORDS)];
+    rufflesquash_last_sent(run, last);
+    WORDS(last, 1, 0x44, moment);
+    rufflesquash_metrics(run, metrics);
+    WORDS(metrics, 0, 2, 0, 0, 0, 0x44, 0);
+}
+
+/* The words of a message that is read by pieces, within a wait. */
+static void pieces(void) {
+    const struct text message = keepalive(0x30, -5, 0);
+    begin_waiting(0x10);
+    step((const uint8_t *)"d\x01\x02\x03", 4);
+    for (uint64_t i = 0; i < 5; i++) SAME(run[R(RUN_HEADER_0) + i], "d\x01\x02\x03"[i]);
+    begin_waiting(0x10);
+    step(message.at, 3);
+    WORDS(answer, 0, 3);
+    for (int i = 0; i < 3; i++) SAME(run[R(RUN_HEADER_0) + i], message.at[i]);
+    SAME(run[R(RUN_FILLED)], 3);
+    step(message.at + 3, 7);
+    WORDS(answer, 0, 7);
+    for (int i = 0; i < 5; i++) SAME(run[R(RUN_HEADER_0) + i], message.at[i]);
+    SAME(run[R(RUN_FILLED)], 10);
+    SAME(run[R(RUN_PAYLOAD_LEN)], message.len - 5);
+    SAME(run[R(RUN_READER_REFUSED)], 0);
+    SAME(run[R(RUN_STATE)], R(STATE_WAITING));
+    BYTES(payload, message.at + 5, 5);
+    SAME(payload[5], FILL);
+    step(message.at + 10, message.len - 10);
+    SAME(run[R(RUN_STATE)], R(STATE_HANDLING));
+    SAME(run[R(RUN_WHOLE_TAG)], 'd');
+    SAME(run[R(RUN_WHOLE_LEN)], message.len - 5);
+    SAME(run[R(RUN_WHOLE_IN_WAIT)], 1);
+    step(NULL, 0);
+    SAME(run[R(RUN_STATE)], R(STATE_OFFERING));
+    for (size_t i = 0; i < 7; i++) SAME(run[R(RUN_EVENT) + i], ((uint64_t[]){R(EVENT_KEEP_ALIVE), 0x30, (uint64_t)-5, 0, 0, 0, 0})[i]);
+    SAME(run[R(RUN_STALLED)], 0);
+    SAME(run[R(RUN_LAST_WAL_END)], 0x30);
+    step(NULL, 0);
+    WORDS(answer, 0, 0, 0, 0, 0, R(EVENT_KEEP_ALIVE), 0x30, (uint64_t)-5, 0);
+    SAME(run[R(RUN_EVENTS_FORWARDED)], 1);
+}
+
+/* ---- events */
+
+static void begins(void) {
+    struct text data = {.len = 0};
+    put(&data, "B", 1);
+    /* Below the stop position, so that the run goes on. */
+    put_number(&data, 0x855667788, 8);
+    put_number(&data, (uint64_t)-3, 8);
+    put_number(&data, 0xFFFFFFFE, 4);
+    const struct text message = xlog_data(0x51, 0x52, 53, &data);
+    begin_waiting(0x10);
+    SAME(feed(&message), message.len);
+    WORDS(answer, 0, 0, 0, 0, 0, R(EVENT_BEGIN), 0x855667788, (uint64_t)-3, 0xFFFFFFFE);
+    SAME(run[R(RUN_LAST_WAL_END)], 0x52);
+}
+
+static void events(void) {
+    struct text data = {.len = 0}, message;
+    begin_waiting(0x10);
+    data.len = 0;
+    put(&data, "C\x07", 2);
+    put_number(&data, 0x61, 8);
+    put_number(&data, 0x62, 8);
+    put_number(&data, (uint64_t)-63, 8);
+    message = xlog_data(0x51, 0x53, 53, &data);
+    SAME(feed(&message), message.len);
+    WORDS(answer, 0, 0, 0, 0, 0, R(EVENT_COMMIT), 0x61, 0x62, (uint64_t)-63);
+    for (int flags = 0; flags < 2; flags++) {
+        data.len = 0;
+        put(&data, "M", 1);
+        put_number(&data, (uint64_t)flags, 1);
+        put_number(&data, 0x71, 8);
+        put(&data, "prefix", 7);
+        put_number(&data, 4, 4);
+        put(&data, "\x01\x02\x03\x04", 4);
+        message = xlog_data(0x51, 0x54, 53, &data);
+        SAME(feed(&message), message.len);
+        WORDS(answer, 0, 0, 0, 0, 0, R(EVENT_MESSAGE), (uint64_t)flags, 0x71, 35, 6, 46, 4);
+        BYTES(payload + answer[R(ANSWER_EVENT_3)], "prefix", 6);
+        BYTES(payload + answer[R(ANSWER_EVENT_5)], "\x01\x02\x03\x04", 4);
+    }
+    data.len = 0;
+    put(&data, "Insert", 6);
+    message = xlog_data(0x81, 0x82, -83, &data);
+    SAME(feed(&message), message.len);
+    WORDS(answer, 0, 0, 0, 0, 0, R(EVENT_XLOG_DATA), 0x81, 0x82, (uint64_t)-83, 25, 6);
+    BYTES(payload + answer[R(ANSWER_EVENT_4)], "Insert", 6);
+    SAME(run[R(RUN_LAST_WAL_END)], 0x82);
+    SAME(run[R(RUN_EVENTS_FORWARDED)], 4);
+}
+
+/* A keepalive that asks is answered before its event. */
+static void reply(void) {
+    const struct text message = keepalive(0x30, 5, 1), expected = status(0x10, CLIENT_TIME, 1);
+    begin_waiting(0x10);
+    feed(&message);
+    WORDS(answer, 0, 0, 39);
+    BYTES(out, expected.at, expected.len);
+    step(NULL, 0);
+    WORDS(answer, 0, 0, 0, 0, 0, R(EVENT_KEEP_ALIVE), 0x30, 5, 1);
+    uint64_t metrics[R(METRICS_WORDS)];
+    rufflesquash_metrics(run, metrics);
+    WORDS(metrics, 1, 2, 1, 0, 0, 0x10, 0x30);
+}
+
+/* A stall, in words of the run, its counters and the next step. */
+static void stall(void) {
+    const struct text message = keepalive(0x31, 5, 0);
+    uint64_t next[R(NEXT_WORDS)];
+    begin_waiting(0x10);
+    queue = R(QUEUE_FULL);
+    for (size_t at = 0; run[R(RUN_STALLED)] == 0 && at <= message.len; at += answer[R(ANSWER_TAKEN)]) step(message.at + at, message.len - at);
+    const uint64_t began = moment;
+    SAME(run[R(RUN_STATE)], R(STATE_OFFERING));
+    SAME(run[R(RUN_STALLED)], 1);
+    SAME(run[R(RUN_STALL_BEGAN)], began);
+    SAME(run[R(RUN_STALL_COUNT)], 1);
+    rufflesquash_next_step(run, sizeof payload, R(QUEUE_FREE), next);
+    WORDS(next, R(NEXT_AT_ONCE));
+    rufflesquash_next_step(run, sizeof payload, R(QUEUE_FULL), next);
+    WORDS(next, R(NEXT_FROM), run[R(RUN_STATUS_AT)] + 10 * MS);
+    moment += 7 * 1000;
+    queue = R(QUEUE_FREE);
+    step(NULL, 0);
+    WORDS(answer, 0, 0, 0, 0, 0, R(EVENT_KEEP_ALIVE), 0x31, 5, 0);
+    SAME(run[R(RUN_STALL_MICROS_TOTAL)], 8);
+    uint64_t metrics[R(METRICS_WORDS)];
+    rufflesquash_metrics(run, metrics);
+    WORDS(metrics, 1, 1, 0, 1, 8, 0x10, 0x31);
+    /* Every number but 0 and 1 is a closed queue, which drops. */
+    for (uint64_t closed = R(QUEUE_CLOSED); closed < 4; closed++) {
+        begin_waiting(0x10);
+        queue = closed;
+        for (size_t at = 0, i = 0; i < 8; i++, at += answer[R(ANSWER_TAKEN)]) step(message.at + at, message.len - at);
+        SAME(run[R(RUN_EVENTS_FORWARDED)], 0);
+        SAME(run[R(RUN_LAST_WAL_END)], 0x31);
+    }
+}
+
+static struct text at_the_stop(void) {
+    struct text data = {.len = 0};
+    put(&data, "Insert", 6);
+    return xlog_data(0x800000009, 0x90000000A, 5, &data);
+}
+
+/* The stop position: an event, then StoppedAt with CopyDone, and the end. */
+static void stopping(void) {
+    const struct text message = at_the_stop();
+    uint64_t next[R(NEXT_WORDS)];
+    begin_waiting(0x10);
+    feed(&message);
+    WORDS(answer, 0, 0, 0, 0, 0, R(EVENT_XLOG_DATA), 0x800000009, 0x90000000A, 5, 25, 6);
+    SAME(run[R(RUN_STATE)], R(STATE_OFFERING));
+    SAME(run[R(RUN_EVENT)], R(EVENT_STOPPED_AT));
+    SAME(run[R(RUN_EVENT_1)], 0x90000000A);
+    step(NULL, 0);
+    WORDS(answer, 0, 0, 5, 0, 0, R(EVENT_STOPPED_AT), 0x90000000A);
+    BYTES(out, "c\0\0\0\x04", 5);
+    SAME(rufflesquash_state(run), R(STATE_ENDED));
+    rufflesquash_next_step(run, sizeof payload, R(QUEUE_FREE), next);
+    WORDS(next, R(NEXT_NEVER));
+    uint64_t before[R(RUN_WORDS)];
+    memcpy(before, run, sizeof run);
+    step(NULL, 0);
+    WORDS(answer, 2);
+    BYTES(run, before, sizeof run);
+    /* A stop request ends a wait. */
+    begin_waiting(0x10);
+    stop = true;
+    step(NULL, 0);
+    WORDS(answer, 0, 0, 5);
+    BYTES(out, "c\0\0\0\x04", 5);
+}
+
+/* What an offer remembers of the stop position while its event waits. */
+static void stop_is_remembered(void) {
+    const struct text message = at_the_stop();
+    begin_waiting(0x10);
+    queue = R(QUEUE_FULL);
+    for (size_t at = 0, i = 0; i < 4; i++, at += answer[R(ANSWER_TAKEN)]) step(message.at + at, message.len - at);
+    SAME(run[R(RUN_STOPS)], 1);
+    SAME(run[R(RUN_REACHED)], 0x90000000A);
+}
+
+/* Each refusal of a step stands in its word; 2 to 5 change nothing. */
+static void refusals(void) {
+    uint64_t before[R(RUN_WORDS)];
+    begin_run(0x10);
+    memcpy(before, run, sizeof run);
+    rufflesquash_step(run, 1, 0, false, 0, false, NULL, 0, payload, LIMIT - 1, out, 38, answer);
+    WORDS(answer, 3);
+    rufflesquash_step(run, 0, 0, false, 0, false, NULL, 0, payload, LIMIT, out, 38, answer);
+    WORDS(answer, 4);
+    rufflesquash_step(run, 0, 0, false, 0, false, NULL, 0, payload, LIMIT, out, 39, answer);
+    WORDS(answer, 5);
+    rufflesquash_advance(run, UINT64_C(1) << 63, 0, false, 0, false, NULL, 0, payload, LIMIT, out, 39, answer);
+    WORDS(answer, 5);
+    BYTES(run, before, sizeof run);
+}
+
+static void refused_messages(void) {
+    static const struct {
+        const char *bytes;
+        size_t len, taken;
+        uint64_t refusal;
+    } messages[] = {
+        {"d\0\0\0\x03", 5, 5, 6},   {"d\0\0\0\xCD", 5, 5, 7},   {"d\0\0\0\x04", 5, 5, 10},
+        {"d\0\0\0\x05w", 6, 6, 11}, {"d\0\0\0\x05k", 6, 6, 12}, {"d\0\0\0\x05x", 6, 6, 13},
+    };
+    for (size_t i = 0; i < LEN(messages); i++) {
+        struct text message = {.len = 0};
+        put(&message, messages[i].bytes, messages[i].len);
+        begin_waiting(0x10);
+        SAME(feed(&message), messages[i].taken);
+        SAME(answer[R(ANSWER_REFUSAL)], messages[i].refusal);
+        SAME(rufflesquash_state(run), R(STATE_ENDED));
+    }
+}
+
+static void refused_boundaries(void) {
+    static const struct {
+        const char *data;
+        size_t len;
+        uint64_t refusal;
+    } boundaries[] = {
+        {"C", 1, 14},
+        {"B\0\0\0\0\0\0\0\0\0\0\0\0\0\0\0\0", 17, 15},
+        {"B", 1, 16},
+        {"M\0\0\0\0\0\0\0\0\0p", 11, 17},
+        {"M\0\0\0\0\0\0\0\0\0\0\0\0\0\x01", 15, 18},
+    };
+    for (size_t i = 0; i < LEN(boundaries); i++) {
+        struct text data = {.len = 0};
+        put(&data, boundaries[i].data, boundaries[i].len);
+        const struct text message = xlog_data(1, 2, 3, &data);
+        begin_waiting(0x10);
+        feed(&message);
+        WORDS(answer, boundaries[i].refusal);
+    }
+}
+
+static void input_that_ends(void) {
+    begin_waiting(0x10);
+    ended = true;
+    step(NULL, 0);
+    WORDS(answer, 8);
+    begin_waiting(0x10);
+    step((const uint8_t *)"d\0\0\0\x09x", 6);
+    ended = true;
+    step(NULL, 0);
+    WORDS(answer, 9);
+}
+
+static void server_errors(void) {
+    static const char error[] = "SERROR\0C42P01\0Mno slot\0";
+    const struct text message = plain('E', error, sizeof error);
+    uint64_t part[R(ERROR_WORDS)];
+    begin_waiting(0x10);
+    rufflesquash_error_part(run, sizeof payload, part);
+    WORDS(part, 0);
+    feed(&message);
+    WORDS(answer, 19);
+    rufflesquash_error_part(run, sizeof payload, part);
+    WORDS(part, 1, sizeof error);
+    BYTES(payload, error, sizeof error);
+    rufflesquash_error_part(run, 9, part);
+    WORDS(part, 1, 9);
+    rufflesquash_error_part(run, 0, part);
+    WORDS(part, 1);
+}
+
+/* `advance` answers what its steps answer, with all that they took. */
+static void several_steps(void) {
+    struct text data = {.len = 0};
+    put(&data, "Insert", 6);
+    const struct text message = xlog_data(0x81, 0x82, -83, &data), first = status(0x10, CLIENT_TIME, 0), second = status(0x44, CLIENT_TIME, 0);
+    uint64_t drained[R(RUN_WORDS)], by_steps[R(RUN_WORDS)];
+    begin_run(0x10);
+    call(true, NULL, 0);
+    WORDS(answer, 0, 0, 39);
+    BYTES(out, first.at, first.len);
+    SAME(run[R(RUN_DRAINED)], 0);
+    /* The same run by steps. */
+    const uint64_t began = moment;
+    memcpy(drained, run, sizeof run);
+    for (size_t at = 0, i = 0; i < 4; i++, at += answer[R(ANSWER_TAKEN)], moment = began) step(message.at + at, message.len - at);
+    memcpy(by_steps, run, sizeof run);
+    memcpy(run, drained, sizeof run);
+    memset(payload, FILL, sizeof payload);
+    call(true, message.at, message.len);
+    BYTES(run, by_steps, sizeof run);
+    WORDS(answer, 0, message.len, 0, 0, 0, R(EVENT_XLOG_DATA), 0x81, 0x82, (uint64_t)-83, 25, 6);
+    BYTES(payload, message.at + 5, message.len - 5);
+    SAME(payload[message.len - 5], FILL);
+    SAME(run[R(RUN_DRAINED)], 1);
+    SAME(run[R(RUN_STATE)], R(STATE_DRAIN));
+    step(message.at, 4);
+    SAME(run[R(RUN_STATE)], R(STATE_TURN));
+    WORDS(answer, 0);
+    /* Turn, drain, and a wait that takes them. */
+    call(true, message.at, 4);
+    SAME(run[R(RUN_STATE)], R(STATE_WAITING));
+    WORDS(answer, 0, 4);
+    /* A status with its waiting time. */
+    begin_waiting(0x10);
+    rufflesquash_report(run, 0x44, moment + 3);
+    const uint64_t reported = moment + 3;
+    moment = run[R(RUN_STATUS_AT)] + 10 * MS;
+    call(true, NULL, 0);
+    WORDS(answer, 0, 0, 39, 1, moment - reported);
+    BYTES(out, second.at, second.len);
+}
+
+/* ---- words that no call made */
+
+static uint64_t random_word(void) {
+    static uint64_t seed = 88172645463325252;
+    seed ^= seed << 13, seed ^= seed >> 7, seed ^= seed << 17;
+    return seed * 0x2545F4914F6CDD1D;
+}
+
+static void inside(uint64_t from, uint64_t len, uint64_t end) {
+    SAME(from <= end, 1);
+    SAME(len <= end - from, 1);
+}
+
+typedef void stepping(uint64_t *, uint64_t, int64_t, bool, uint64_t, bool, const uint8_t *, size_t, uint8_t *, size_t, uint8_t *, size_t, uint64_t *);
+
+/* Parts lie within the buffer whatever words a call is given; spare words change nothing and come out as 0. */
+static void made_up_words(void) {
+    for (int i = 0; i < 20000; i++) {
+        uint64_t other[R(RUN_WORDS)], others[R(ANSWER_WORDS)], part[R(ERROR_WORDS)];
+        for (size_t w = 0; w < R(RUN_WORDS); w++) run[w] = random_word() >> (random_word() % 64);
+        run[R(RUN_MAX_MESSAGE_BYTES)] = random_word() % (sizeof payload + 1);
+        run[R(RUN_LAST_MOMENT)] = run[R(RUN_STATE)] = R(STATE_OFFERING);
+        run[R(RUN_EVENT)] = R(EVENT_MESSAGE) + (random_word() & 1);
+        memcpy(other, run, sizeof run);
+        for (size_t w = R(RUN_SPARE); w < R(RUN_WORDS); w++) other[w] = ~run[w];
+        const size_t room = run[R(RUN_MAX_MESSAGE_BYTES)];
+        stepping *const move = random_word() & 1 ? rufflesquash_advance : rufflesquash_step;
+        move(run, 1000, 0, false, R(QUEUE_FREE), false, NULL, 0, payload, room, out, sizeof out, answer);
+        move(other, 1000, 0, false, R(QUEUE_FREE), false, NULL, 0, payload, room, out, sizeof out, others);
+        BYTES(answer, others, sizeof answer);
+        BYTES(run, other, sizeof run);
+        for (size_t w = R(RUN_SPARE); w < R(RUN_WORDS); w++) SAME(run[w], 0);
+        SAME(answer[R(ANSWER_REFUSAL)], 0);
+        if (answer[R(ANSWER_EVENT)] == R(EVENT_MESSAGE)) {
+            inside(answer[R(ANSWER_EVENT_3)], answer[R(ANSWER_EVENT_4)], room);
+            inside(answer[R(ANSWER_EVENT_5)], answer[R(ANSWER_EVENT_6)], room);
+        } else {
+            SAME(answer[R(ANSWER_EVENT)], R(EVENT_XLOG_DATA));
+            inside(answer[R(ANSWER_EVENT_4)], answer[R(ANSWER_EVENT_5)], room);
+        }
+        for (size_t w = 0; w < R(RUN_WORDS); w++) run[w] = random_word() >> (random_word() % 64);
+        run[R(RUN_STATE)] = R(STATE_ENDED), run[R(RUN_WHOLE_TAG)] = 'E';
+        rufflesquash_error_part(run, room, part);
+        inside(0, part[R(ERROR_LEN)], room);
+    }
+}
+
+/* ---- texts and positions */
+
+static void texts(void) {
+    uint8_t room[64];
+    uint64_t n = 9;
+    memset(room, FILL, sizeof room);
+    SAME(rufflesquash_lossy((const uint8_t *)"a\xE2\x82z", 4, room, sizeof room, &n), 0);
+    SAME(n, 5);
+    BYTES(room, "a\xEF\xBF\xBDz\xAA", 6);
+    SAME(rufflesquash_error_text((const uint8_t *)"C42P01\0Mno slot\0", 17, room, sizeof room, &n), 0);
+    SAME(n, 24);
+    BYTES(room, "no slot (SQLSTATE 42P01)\xAA", 25);
+    SAME(rufflesquash_display_position(0x16B374D848, room, sizeof room, &n), 0);
+    SAME(n, 11);
+    BYTES(room, "16/B374D848", 11);
+    SAME(rufflesquash_display_position(UINT64_MAX, room, 17, &n), 0);
+    SAME(n, 17);
+    BYTES(room, "FFFFFFFF/FFFFFFFF", 17);
+    SAME(rufflesquash_display_position(UINT64_MAX, room, 16, &n), 4);
+    SAME(n, 0);
+    SAME(rufflesquash_lossy((const uint8_t *)"abc", 3, room, 2, &n), 4);
+    SAME(n, 0);
+    SAME(rufflesquash_error_text((const uint8_t *)"Mno slot\0", 10, room, 2, &n), 4);
+    SAME(n, 0);
+    BYTES(room, "FFFFFFFF/FFFFFFFF", 17);
+    static uint8_t too_long[1048577];
+    n = 9;
+    SAME(rufflesquash_lossy(too_long, sizeof too_long, room, 0, &n), 25);
+    SAME(n, 0);
+    n = 9;
+    SAME(rufflesquash_error_text(too_long, sizeof too_long, room, 0, &n), 25);
+    SAME(n, 0);
+}
+
+static void position_texts(void) {
+    uint64_t n;
+    SAME(rufflesquash_parse_position((const uint8_t *)"16/B374D848", 11, &n), 0);
+    SAME(n, 0x16B374D848);
+    static const struct {
+        const char *text;
+        uint64_t refusal;
+    } refused[] = {{"16B374D848", 22}, {"x/1", 23}, {"1/x", 24}};
+    for (size_t i = 0; i < LEN(refused); i++) {
+        n = 9;
+        SAME(rufflesquash_parse_position((const uint8_t *)refused[i].text, strlen(refused[i].text), &n), refused[i].refusal);
+        SAME(n, 0);
+    }
+}
+
+/* ---- a progress cell */
+
+static void cells(void) {
+    uint64_t cell[R(CELL_WORDS)];
+    rufflesquash_cell_new(0x11, true, cell);
+    WORDS(cell, 0x11, 0, 0, 1);
+    SAME(rufflesquash_cell_raise(cell, 0x11, 4), 0);
+    WORDS(cell, 0x11, 0, 0, 1);
+    SAME(rufflesquash_cell_raise(cell, 0x22, 5), 1);
+    WORDS(cell, 0x22, 1, 5, 1);
+    SAME(rufflesquash_cell_raise(cell, 0x33, 6), 0);
+    WORDS(cell, 0x33, 1, 5, 1);
+    SAME(rufflesquash_cell_load(cell), 0x33);
+    SAME(rufflesquash_cell_pending_since(cell), 5);
+    SAME(rufflesquash_cell_take_signal(cell), 0x33);
+    WORDS(cell, 0x33, 0, 5, 1);
+    /* What was sent is below the position: the moment at which it was read is pending from now on. */
+    SAME(rufflesquash_cell_take_pending(cell, 0x32, 8), 5);
+    WORDS(cell, 0x33, 0, 8, 1);
+    SAME(rufflesquash_cell_take_pending(cell, 0x33, 9), 8);
+    WORDS(cell, 0x33, 0, 0, 1);
+    rufflesquash_cell_carry_pending(cell, 7);
+    rufflesquash_cell_carry_pending(cell, 6);
+    rufflesquash_cell_carry_pending(cell, 10);
+    WORDS(cell, 0x33, 0, 6, 1);
+    SAME(cell[R(CELL_APPLIED)], 0x33);
+    SAME(cell[R(CELL_PENDING_SINCE)], 6);
+    rufflesquash_cell_new(0x12, false, cell);
+    SAME(cell[R(CELL_TIMED)], 0);
+    SAME(rufflesquash_cell_raise(cell, 0x23, 5), 1);
+    WORDS(cell, 0x23, 1, 0, 0);
+    SAME(cell[R(CELL_SIGNALLED)], 1);
+    rufflesquash_cell_carry_pending(cell, 7);
+    SAME(rufflesquash_cell_pending_since(cell), 0);
+}
+
+/* ---- messages before and after the stream */
+
+static void writers(void) {
+    static const struct rufflesquash_bytes texts[] = {{(const uint8_t *)"user", 4}, {(const uint8_t *)"me", 2}, {(const uint8_t *)"a", 1}, {NULL, 0}};
+    static const char startup[] = "\0\0\0\x14\0\x03\0\0user\0me\0a\0\0";
+    const struct text select = plain('Q', "SELECT 1", 9), first = status(0x16B374D848, -7, 0), second = status(0x16B374D848, -7, 1);
+    const struct {
+        const void *bytes;
+        size_t len;
+    } all[] = {
+        {startup, sizeof startup}, {select.at, select.len}, {"c\0\0\0\x04", 5}, {"X\0\0\0\x04", 5}, {first.at, first.len}, {second.at, second.len},
+    };
+    for (size_t i = 0; i < LEN(all); i++) {
+        for (int spare = 1; spare >= -1; spare--) {
+            uint8_t room[64];
+            uint64_t n = 9, refusal = 99;
+            const size_t len = all[i].len + (size_t)spare;
+            memset(room, FILL, sizeof room);
+            switch (i) {
+            case 0: refusal = rufflesquash_write_startup(196608, texts, LEN(texts), room, len, &n); break;
+            case 1: refusal = rufflesquash_write_query((const uint8_t *)"SELECT 1", 8, room, len, &n); break;
+            case 2: refusal = rufflesquash_write_copy_done(room, len, &n); break;
+            case 3: refusal = rufflesquash_write_terminate(room, len, &n); break;
+            default: refusal = rufflesquash_write_status(0x16B374D848, -7, i == 5, room, len, &n); break;
+            }
+            SAME(refusal, spare < 0 ? 4 : 0);
+            SAME(n, spare < 0 ? 0 : all[i].len);
+            BYTES(room, all[i].bytes, n);
+            for (size_t j = n; j < sizeof room; j++) SAME(room[j], FILL);
+        }
+    }
+}
+
+static void writers_of_long_texts(void) {
+    static uint8_t too_long[1048577];
+    const struct rufflesquash_bytes one = {too_long, sizeof too_long};
+    uint8_t room[8];
+    uint64_t n = 9;
+    SAME(rufflesquash_write_query(too_long, sizeof too_long, room, 0, &n), 25);
+    SAME(n, 0);
+    n = 9;
+    SAME(rufflesquash_write_startup(196608, &one, 1, room, 0, &n), 25);
+    SAME(n, 0);
+}
+
+static void readers(void) {
+    const struct text message = plain('T', "abcdefg", 7);
+    uint64_t reader[R(READER_WORDS)] = {0}, read[R(READ_WORDS)];
+    uint8_t room[8];
+    memset(room, FILL, sizeof room);
+    rufflesquash_read(reader, sizeof room, (const uint8_t *)"T\x01\x02\x03", 4, false, room, sizeof room, read);
+    WORDS(reader, 'T', 1, 2, 3, 0, 4);
+    memset(reader, 0, sizeof reader);
+    rufflesquash_read(reader, sizeof room, message.at, 3, false, room, sizeof room, read);
+    WORDS(read, 0, 3);
+    WORDS(reader, 'T', 0, 0, 0, 0, 3);
+    rufflesquash_read(reader, sizeof room, message.at + 3, 4, false, room, sizeof room, read);
+    WORDS(read, 0, 4);
+    WORDS(reader, 'T', 0, 0, 0, 11, 7, 7, 0);
+    SAME(reader[R(READER_HEADER_0)], 'T');
+    SAME(reader[R(READER_HEADER_4)], 11);
+    SAME(reader[R(READER_FILLED)], 7);
+    SAME(reader[R(READER_PAYLOAD_LEN)], 7);
+    BYTES(room, "ab\xAA\xAA\xAA\xAA\xAA\xAA", 8);
+    rufflesquash_read(reader, sizeof room, message.at + 7, message.len - 7, true, room, sizeof room, read);
+    WORDS(read, 0, 5, 1, 'T', 7);
+    BYTES(room, "abcdefg\xAA", 8);
+    WORDS(reader, 0);
+    rufflesquash_read(reader, sizeof room, NULL, 0, true, room, sizeof room, read);
+    WORDS(read, 8);
+}
+
+static void refused_reads(void) {
+    static const struct {
+        const char *bytes;
+        size_t room, taken;
+        uint64_t refusal;
+    } refused[] = {{"T\0\0\0\x0B", 7, 0, 3}, {"T\0\0\0\x03", 8, 5, 6}, {"T\0\0\0\x0D", 8, 5, 7}};
+    const struct text message = plain('T', "abcdefg", 7);
+    uint64_t reader[R(READER_WORDS)], read[R(READ_WORDS)];
+    uint8_t room[8];
+    for (size_t i = 0; i < LEN(refused); i++) {
+        memset(reader, 0, sizeof reader);
+        rufflesquash_read(reader, sizeof room, (const uint8_t *)refused[i].bytes, 5, false, room, refused[i].room, read);
+        WORDS(read, refused[i].refusal, refused[i].taken);
+        /* After 7 the reader is shut, after 6 it is at a new header. */
+        WORDS(reader, 0, 0, 0, 0, 0, 0, 0, refused[i].refusal == 7);
+        rufflesquash_read(reader, sizeof room, message.at, message.len, false, room, sizeof room, read);
+        WORDS(read, refused[i].refusal == 7 ? 7 : 0, refused[i].refusal == 7 ? 0 : 12, refused[i].refusal != 7, refused[i].refusal == 7 ? 0 : 'T',
+              refused[i].refusal == 7 ? 0 : 7);
+    }
+    memset(reader, 0, sizeof reader);
+    rufflesquash_read(reader, sizeof room, message.at, 6, false, room, sizeof room, read);
+    rufflesquash_read(reader, sizeof room, NULL, 0, true, room, sizeof room, read);
+    WORDS(read, 9);
+}
+
+static void queries(void) {
+    static const uint8_t row[] = {0, 3, 0, 0, 0, 3, 'o', 'n', 'e', 0xFF, 0xFF, 0xFF, 0xFF, 0, 0, 0, 0};
+    uint64_t query[R(QUERY_WORDS)] = {0}, fold[R(FOLD_WORDS)];
+    uint8_t error[8];
+    memset(error, FILL, sizeof error);
+    rufflesquash_query_message(query, 'T', NULL, 0, error, sizeof error, fold);
+    WORDS(fold, R(FOLD_MORE));
+    rufflesquash_query_message(query, 'D', row, sizeof row, error, sizeof error, fold);
+    WORDS(fold, R(FOLD_ROW), 3);
+    WORDS(query, 0);
+    rufflesquash_query_message(query, 'Z', (const uint8_t *)"I", 1, error, sizeof error, fold);
+    WORDS(fold, R(FOLD_READY));
+    rufflesquash_query_message(query, 'E', (const uint8_t *)"Mfive\0", 7, error, sizeof error, fold);
+    WORDS(fold, R(FOLD_MORE));
+    WORDS(query, 1, 7, 7, 0);
+    BYTES(error, "Mfive\0\0\xAA", 8);
+    rufflesquash_query_message(query, 'E', (const uint8_t *)"Mthirteen is", 13, error, sizeof error, fold);
+    WORDS(query, 1, 8, 13, 0);
+    SAME(query[R(QUERY_FAILED)], 1);
+    SAME(query[R(QUERY_KEPT)], 8);
+    SAME(query[R(QUERY_ERROR_LEN)], 13);
+    BYTES(error, "Mthirtee", 8);
+    query[R(QUERY_SPARE)] = 77;
+    rufflesquash_query_message(query, 'Z', (const uint8_t *)"I", 1, error, sizeof error, fold);
+    WORDS(fold, R(FOLD_FAILED), 8, 13);
+    WORDS(query, 0);
+    rufflesquash_query_message(query, 'D', row, sizeof row - 1, error, sizeof error, fold);
+    WORDS(fold, R(FOLD_REFUSED), 20);
+    WORDS(query, 0);
+}
+
+static void rows(void) {
+    static const uint8_t row[] = {0, 3, 0, 0, 0, 3, 'o', 'n', 'e', 0xFF, 0xFF, 0xFF, 0xFF, 0, 0, 0, 0};
+    static const uint64_t expected[][3] = {
+        {R(COLUMN_VALUE), 6, 3}, {R(COLUMN_NULL), 0, 0}, {R(COLUMN_VALUE), 17, 0}, {R(COLUMN_ABSENT), 0, 0}, {R(COLUMN_ABSENT), 0, 0}};
+    uint64_t column[R(COLUMN_WORDS)], columns = 9;
+    SAME(rufflesquash_data_row(row, sizeof row, &columns), 0);
+    SAME(columns, 3);
+    for (size_t i = 0; i < LEN(expected); i++) {
+        SAME(rufflesquash_column(row, sizeof row, i < 4 ? i : SIZE_MAX, column), 0);
+        WORDS(column, expected[i][0], expected[i][1], expected[i][2]);
+    }
+    SAME(rufflesquash_data_row(row, sizeof row - 1, &columns), 20);
+    SAME(columns, 0);
+    SAME(rufflesquash_column(row, sizeof row - 1, 0, column), 20);
+    WORDS(column, 0);
+}
+
+static void requests_and_errors(void) {
+    static const char letters[] = "SCMDHPWstcdnFLR";
+    uint64_t request[R(AUTH_WORDS)], part[R(FIELD_WORDS)];
+    rufflesquash_auth_request((const uint8_t *)"\0\0\0\x05salt", 8, request);
+    WORDS(request, 0, 5, 4, 4);
+    rufflesquash_auth_request((const uint8_t *)"\xFF\xFF\xFF\xFE!", 5, request);
+    WORDS(request, 0, (uint64_t)-2, 4, 1);
+    rufflesquash_auth_request((const uint8_t *)"\0\0\0", 3, request);
+    WORDS(request, 21);
+    /* All fields, each as long as its number and twice, of which the last counts. */
+    uint8_t error[512];
+    size_t n = 0, from[15];
+    for (int again = 0; again < 2; again++) {
+        for (size_t i = 0; i < 15; i++) {
+            error[n++] = (uint8_t)letters[i];
+            from[i] = n;
+            for (size_t j = 0; j < i; j++) error[n++] = 'x';
+            error[n++] = 0;
+        }
+    }
+    error[n++] = 0;
+    for (size_t i = 0; i < 15; i++) {
+        rufflesquash_error_field(error, n, i, part);
+        WORDS(part, 1, from[i], i);
+    }
+    rufflesquash_error_field(error, n, 15, part);
+    WORDS(part, 0);
+    rufflesquash_error_field((const uint8_t *)"Mno\0", 5, R(FIELD_CODE), part);
+    WORDS(part, 0);
+    static const size_t numbers[] = {
+        R(FIELD_SEVERITY),  R(FIELD_CODE),       R(FIELD_MESSAGE), R(FIELD_DETAIL), R(FIELD_HINT),
+        R(FIELD_POSITION),  R(FIELD_WHERE),      R(FIELD_SCHEMA),  R(FIELD_TABLE),  R(FIELD_COLUMN),
+        R(FIELD_DATA_TYPE), R(FIELD_CONSTRAINT), R(FIELD_FILE),    R(FIELD_LINE),   R(FIELD_ROUTINE),
+    };
+    for (size_t i = 0; i < 15; i++) SAME(numbers[i], i);
+}
+
+static void kinds(void) {
+    /* By number, from 0. */
+    static const char *of = "nuuuuuptiippppppppp" /* to 18 */ "spplllu";
+    static const uint64_t numbers[128] = {
+        ['n'] = R(KIND_NONE),      ['u'] = R(KIND_USAGE),  ['i'] = R(KIND_IO),
+        ['p'] = R(KIND_PROTOCOL),  ['s'] = R(KIND_SERVER), ['t'] = R(KIND_MESSAGE_TOO_LARGE),
+        ['l'] = R(KIND_PARSE_LSN),
+    };
+    SAME(strlen(of), 26);
+    for (uint64_t i = 0; i < 26; i++) {
+        SAME(rufflesquash_refusal_kind(i), numbers[(int)of[i]]);
+        SAME(rufflesquash_refusal_is_transient(i), i == 8 || i == 9);
+    }
+    SAME(rufflesquash_refusal_kind(26), R(KIND_NONE));
+    SAME(rufflesquash_refusal_kind(UINT64_MAX), R(KIND_NONE));
+    SAME(rufflesquash_refusal_is_transient(UINT64_MAX), 0);
+}
+
+/* A null pointer with length 0, in every place of a buffer. */
+static void null_pointers(void) {
+    static const uint64_t no_limit[R(SETTINGS_WORDS)] = {0};
+    uint64_t n = 9;
+    const struct rufflesquash_bytes none = {NULL, 0};
+    uint8_t room[128];
+    SAME(rufflesquash_open(settings, NULL, 0, NULL, 0, 0, 0, run, NULL, 0, &n), 4);
+    SAME(rufflesquash_open(settings, NULL, 0, &none, 1, 0, 0, run, room, sizeof room, &n), 0);
+    SAME(rufflesquash_already_open(no_limit, 0, run), 0);
+    rufflesquash_step(run, 1, 0, false, 0, false, NULL, 0, NULL, 0, NULL, 0, answer);
+    WORDS(answer, 4);
+    rufflesquash_step(run, 1, 0, false, 0, false, NULL, 0, NULL, 0, room, sizeof room, answer);
+    WORDS(answer, 0, 0, 39);
+    rufflesquash_advance(run, 1, 0, false, 0, false, NULL, 0, NULL, 0, NULL, 0, answer);
+    WORDS(answer, 4);
+    rufflesquash_advance(run, 2, 0, false, 0, false, NULL, 0, NULL, 0, room, sizeof room, answer);
+    SAME(answer[R(ANSWER_REFUSAL)], 0);
+}
+
+static void null_pointers_elsewhere(void) {
+    uint64_t n = 9, request[R(AUTH_WORDS)], part[R(FIELD_WORDS)], column[R(COLUMN_WORDS)], fold[R(FOLD_WORDS)], read[R(READ_WORDS)];
+    uint64_t query[R(QUERY_WORDS)] = {0}, reader[R(READER_WORDS)] = {0};
+    uint8_t room[128];
+    SAME(rufflesquash_lossy(NULL, 0, NULL, 0, &n), 0);
+    SAME(n, 0);
+    SAME(rufflesquash_error_text(NULL, 0, NULL, 0, &n), 4);
+    SAME(rufflesquash_display_position(0, NULL, 0, &n), 4);
+    SAME(rufflesquash_parse_position(NULL, 0, &n), 22);
+    SAME(rufflesquash_write_startup(196608, NULL, 0, NULL, 0, &n), 4);
+    SAME(rufflesquash_write_startup(196608, NULL, 0, room, sizeof room, &n), 0);
+    BYTES(room, "\0\0\0\x09\0\x03\0\0\0", 9);
+    SAME(rufflesquash_write_query(NULL, 0, NULL, 0, &n), 4);
+    SAME(rufflesquash_write_query(NULL, 0, room, sizeof room, &n), 0);
+    BYTES(room, "Q\0\0\0\x05\0", 6);
+    SAME(rufflesquash_write_copy_done(NULL, 0, &n), 4);
+    SAME(rufflesquash_write_terminate(NULL, 0, &n), 4);
+    SAME(rufflesquash_write_status(0, 0, false, NULL, 0, &n), 4);
+    rufflesquash_read(reader, 0, NULL, 0, false, NULL, 0, read);
+    WORDS(read, 0);
+    rufflesquash_query_message(query, 'E', NULL, 0, NULL, 0, fold);
+    WORDS(fold, R(FOLD_MORE));
+    SAME(rufflesquash_data_row(NULL, 0, &n), 20);
+    SAME(rufflesquash_column(NULL, 0, 0, column), 20);
+    rufflesquash_auth_request(NULL, 0, request);
+    WORDS(request, 21);
+    rufflesquash_error_field(NULL, 0, 0, part);
+    WORDS(part, 0);
+}
+
+int main(void) {
+    SAME(rufflesquash_abi(), R(ABI));
+    opening();
+    flags_of_settings();
+    refused_openings();
+    opening_is_skipped_and_accepted();
+    states();
+    reports();
+    pieces();
+    begins();
+    events();
+    reply();
+    stall();
+    stopping();
+    stop_is_remembered();
+    refusals();
+    refused_messages();
+    refused_boundaries();
+    input_that_ends();
+    server_errors();
+    several_steps();
+    made_up_words();
+    texts();
+    position_texts();
+    cells();
+    writers();
+    writers_of_long_texts();
+    readers();
+    refused_reads();
+    queries();
+    rows();
+    requests_and_errors();
+    kinds();
+    null_pointers();
+    null_pointers_elsewhere();
+    printf("%u words and texts checked from C, %u wrong\n", checks, wrong);
+    return wrong != 0;
+}
