@@ -15,7 +15,7 @@ use Rattle.wire.proofs.Laws.{by-test, impossible, length-put, tail-whole}
 use Rattle.stream.specs.Message.{lengthField}
 use Rattle.stream.proofs.Front.{length-field-append}
 use Rattle.framing.specs.declared.MessageReader.{MessageReader}
-use Rattle.framing.specs.Read.{Said, whole, fresh, at-byte, Result, later, limitOf, payloadOf, judgedOf, headerOf, readOf}
+use Rattle.framing.specs.Read.{Said, whole, fresh, at-byte, Result, afterTaking, limitOf, payloadOf, judgedOf, headerOf, readOf}
 use Rattle.stream.specs.Tag.{isCopyData}
 use Rattle.framing.proofs.Laws as L
 use Rattle.lsn.specs.declared.Lsn.{Lsn}
@@ -37,10 +37,10 @@ use Rattle.worker.specs.Answer.{lent}
 use Rattle.worker.specs.Events.{dataGives}
 use Rattle.worker.specs.Events as E
 use Rattle.worker.specs.Run.{lsn, wholeOf, run, withState, withReader, withDrained, withWhole, withMetrics, accepted}
-use Rattle.worker.specs.Step.{Outcome, Lent, handing, moved, having, isEnded, badMoment, reaches, readingBy, readingOf, drainOf, givenOf, copyDataBy, handlingOf, firstBy, offeringOf, offers, offersAt, isStoppedAt, stateOf, stepOf}
+use Rattle.worker.specs.Step.{Outcome, Lent, handing, moved, having, isEnded, badMoment, reaches, readingBy, readingOf, drainOf, givenOf, copyDataBy, handlingOf, firstBy, offeringOf, offers, offersAt, isStoppedAt, stepIn, stepOf}
 use Rattle.advance.specs.declared.at_hand.AtHand.{AtHand}
 use Rattle.advance.specs.Advance.{tells, lentAfter, after, twice, advanceOf}
-use Rattle.advance.specs.AtHand.{atHand, within, wholeAt, byGiven, byCopyData, messageOf, atHandOf, isDrain, isFree, isBetween, hasRoom, appliesOf, handedRun, handedOf, Hands-on-at-once}
+use Rattle.advance.specs.AtHand.{atHand, within, wholeAt, byGiven, byCopyData, copyDataAtHand, atHandOf, isDrain, isFree, isBetween, hasRoom, appliesOf, handedRun, handedOf, Hands-on-at-once}
 
 -- ---- tests
 
@@ -166,7 +166,7 @@ module _ (s n : ℕ) (x : MessageReader) (u : List ℕ) (e : Bool) (p : List ℕ
       let k2 = w .small in
       L.length-good (limitOf s) h v p (n + 4) header-length (omega arith) (omega arith) (at-byte h 5 (n + 4 - 4)) _ refl (omega arith) payload-read
 
-  header-read : later 5 (whole 100 n, fresh, n, put p 0 (take n v)) ≡ headerOf (limitOf s) x u e p
+  header-read : afterTaking 5 (whole 100 n, fresh, n, put p 0 (take n v)) ≡ headerOf (limitOf s) x u e p
   header-read =
       let k1 = w .enough in
       let ek : 5 ≡ min (5 - x .filled) (length u) = omega arith in
@@ -219,7 +219,7 @@ twice-goes f r i l o e t = rw (e, t)
 -- ---- the four steps
 
 accepts : (r : Run) (i : Input) (l : Lent) → isEnded (r .state) ≡ false → limitOf (r .settings .«max_message_size») ≤ length (l .payload)
-    → 39 ≤ length (l .out) → badMoment r (i .moment) ≡ false → stepOf r i l ≡ stateOf (r .state) (accepted (i .moment) r) i l
+    → 39 ≤ length (l .out) → badMoment r (i .moment) ≡ false → stepOf r i l ≡ stepIn (r .state) (accepted (i .moment) r) i l
 unfolding stepOf
 accepts r i l a b c d = fourth _ _ _ _ _ _ _ _ _ a (le-ltb _ _ b) (le-ltb _ _ c) d
   where
@@ -246,11 +246,11 @@ module _ (r : Run) (i : Input) (u p o : List ℕ) (n : ℕ) (state : r .state �
   r1 = withState Reading (accepted m r)
 
   drains : stepOf r i l ≡ moved r1 l
-  unfolding stateOf drainOf
+  unfolding stepIn drainOf
   drains =
       let k = w .enough in
       accepts r i l (ap isEnded state) room out moment
-      ∙ (ap (λ (x : State). stateOf x (accepted m r) i l) state
+      ∙ (ap (λ (x : State). stepIn x (accepted m r) i l) state
       ∙ rw (lt-ltb _ _ few, le-leb 5 (length u) (omega arith)))
 
   abbrev r2 : Run
@@ -260,7 +260,7 @@ module _ (r : Run) (i : Input) (u p o : List ℕ) (n : ℕ) (state : r .state �
   q = put p 0 s
 
   reads : stepOf r1 i l ≡ having (5 + n) q (moved r2 l)
-  unfolding stateOf readingOf
+  unfolding stepIn readingOf
   reads =
       accepts r1 i l refl room out (again r m moment)
       ∙ ap (λ (x : Result). having (x .2) (x .3) (readingBy (x .0) (withReader (x .1) r1) l))
@@ -290,7 +290,7 @@ module _ (r : Run) (i : Input) (u p o : List ℕ) (n : ℕ) (state : r .state �
     module _ (e : Event) (reached : Lsn) (passes : reaches r reached ≡ false) (plain : isStoppedAt e ≡ false)
         (gives : dataGives (boundaryOf (at s 25 len)) start end time 25 len ≡ E.given e reached) where
       handles : stepOf r2 i l2 ≡ moved (r3 e reached) l2
-      unfolding stateOf handlingOf
+      unfolding stepIn handlingOf
       handles =
           let c : copyDataOf (take n q) ≡ C.w start end time 25 len = ap copyDataOf (front-put p s n s-long) ∙ told in
           let d : at q 25 len ≡ at s 25 len = rw long (part-put p s 25 n s-long (w .least) ∙ sym (rw s-long at (tail-whole s 25))) in
@@ -302,7 +302,7 @@ module _ (r : Run) (i : Input) (u p o : List ℕ) (n : ℕ) (state : r .state �
           ∙ ap (λ (x : Bool). moved (offers e x reached b) l2) passes)))
 
       offers-it : stepOf (r3 e reached) i l2 ≡ handing e (handedRun r m (atHand n (lsn end) reached e)) l2
-      unfolding stateOf offeringOf
+      unfolding stepIn offeringOf
       offers-it =
           accepts (r3 e reached) i l2 refl room2 out (again r m moment)
           ∙ (ap (λ (x : Queue). firstBy x (r3 e reached) i l2) queue
@@ -349,7 +349,7 @@ copy-data-len s (C.refused number) h = impossible cc
 -- a message at hand is that of its payload
 at-hand-is : (u : List ℕ) → eqb (atHandOf u .len) 0 ≡ false
     → (wholeAt u ≡ 0 → ⊥) × (atHandOf u ≡ byCopyData (at u 5 (wholeAt u)) (copyDataOf (at u 5 (wholeAt u))))
-unfolding atHandOf messageOf
+unfolding atHandOf copyDataAtHand
 at-hand-is u h =
     by-test (eqb (wholeAt u) 0)
     (λ a. never (rw a at h))

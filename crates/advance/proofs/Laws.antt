@@ -17,7 +17,7 @@ use Rattle.wire.proofs.FieldLaws.{field-whole, int-whole, int-within}
 use Rattle.replication.specs.CopyData.{xlogOf, keepAliveOf, copyDataOf}
 use Rattle.replication.specs.CopyData as C
 use Rattle.advance.specs.declared.at_hand.AtHand.{AtHand}
-use Rattle.advance.specs.AtHand.{nothing, byCopyData, messageOf}
+use Rattle.advance.specs.AtHand.{nothing, byCopyData, copyDataAtHand}
 
 -- a field that is cut, and one that is not
 pub field-short : (n : ℕ) (s : List ℕ) (i : ℕ) → none ≡ fieldAt n s i → length s < i + n
@@ -49,18 +49,18 @@ xlog-fields s a b z e f g =
 
 -- ---- by the letter
 
-pub no-payload : (s : List ℕ) → length s ≡ 0 → nothing ≡ messageOf s
-unfolding messageOf copyDataOf
+pub no-payload : (s : List ℕ) → length s ≡ 0 → nothing ≡ copyDataAtHand s
+unfolding copyDataAtHand copyDataOf
 no-payload [] e = refl
 no-payload (b ∷ t) e = absurd (omega arith)
 
-pub is-xlog : (s : List ℕ) → (length s ≡ 0 → ⊥) → getD s 0 0 ≡ 119 → byCopyData s (xlogOf (drop 1 s)) ≡ messageOf s
-unfolding messageOf copyDataOf
+pub is-xlog : (s : List ℕ) → (length s ≡ 0 → ⊥) → getD s 0 0 ≡ 119 → byCopyData s (xlogOf (drop 1 s)) ≡ copyDataAtHand s
+unfolding copyDataAtHand copyDataOf
 is-xlog [] n e = absurd (n refl)
 is-xlog (b ∷ t) n e = rw (eq-eqb b 119 e)
 
-pub is-other : (s : List ℕ) → (length s ≡ 0 → ⊥) → (getD s 0 0 ≡ 119 → ⊥) → nothing ≡ messageOf s
-unfolding messageOf copyDataOf
+pub is-other : (s : List ℕ) → (length s ≡ 0 → ⊥) → (getD s 0 0 ≡ 119 → ⊥) → nothing ≡ copyDataAtHand s
+unfolding copyDataAtHand copyDataOf
 is-other [] n e = absurd (n refl)
 is-other (b ∷ t) n e =
     by-test (eqb b 107)

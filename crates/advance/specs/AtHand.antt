@@ -60,12 +60,12 @@ byCopyData s (C.k end time reply) = nothing
 byCopyData s (C.refused number) = nothing
 
 -- of the payload of a CopyData message
-unfoldable pub messageOf : List ℕ → AtHand
-messageOf s = byCopyData s (copyDataOf s)
+unfoldable pub copyDataAtHand : List ℕ → AtHand
+copyDataAtHand s = byCopyData s (copyDataOf s)
 
 -- of the unread bytes
 unfoldable pub atHandOf : List ℕ → AtHand
-atHandOf u = pick (eqb (wholeAt u) 0) nothing (messageOf (at u 5 (wholeAt u)))
+atHandOf u = pick (eqb (wholeAt u) 0) nothing (copyDataAtHand (at u 5 (wholeAt u)))
 
 -- ---- whether four steps hand it on
 

@@ -7,7 +7,7 @@ ghost use Rattle.replication.specs.CopyData.{xlogOf};
 ghost use Rattle.worker.specs.Answer.{lent, outcomeBy};
 ghost use Rattle.worker.specs.Events.{givenBy};
 ghost use Rattle.worker.specs.Step.{having, handing, reaches};
-ghost use Rattle.advance.specs.AtHand.{nothing, within, wholeAt, byGiven, byCopyData, messageOf, atHandOf, isDrain, isFree, isBetween, hasRoom, appliesOf, handedRun};
+ghost use Rattle.advance.specs.AtHand.{nothing, within, wholeAt, byGiven, byCopyData, copyDataAtHand, atHandOf, isDrain, isFree, isBetween, hasRoom, appliesOf, handedRun};
 use framing::MessageReader;
 use lsn::Lsn;
 use moment::Moment;
@@ -117,7 +117,7 @@ fn xlog_data(payload: &[u8]) -> AtHand
 
 // Of the payload of a CopyData message.
 fn message(payload: &[u8]) -> AtHand
-    ensures { λ r. ⌜ (r ≡ messageOf (now (payload .entry))) × (r .len ≤ length (now (payload .entry))) ⌝ }
+    ensures { λ r. ⌜ (r ≡ copyDataAtHand (now (payload .entry))) × (r .len ≤ length (now (payload .entry))) ⌝ }
 {
     if payload.len() == 0 {
         return none();

@@ -8,7 +8,7 @@ use lib.ListN.{length, getD}
 use Rattle.error.specs.Refusal.{kinds, kindAt}
 use Rattle.query.specs.declared.simple.SimpleQuery.{SimpleQuery}
 use Rattle.words.specs.Words.{flagOf, flagWord}
-use Rattle.answers.specs.Fold.{queryOf, queryWords, Query-round-trip}
+use Rattle.answers.specs.Fold.{simpleQueryOf, queryWords, Query-round-trip}
 
 flag-back : (b : Bool) → flagOf (flagWord b) ≡ b
 flag-back true = refl
@@ -18,10 +18,10 @@ pub query-round-trip : Query-round-trip
 query-round-trip q = rw (flag-back (q .failed))
 
 pub query-words-are : (q : SimpleQuery) {f : ℕ} → f ≡ flagWord (q .failed)
-    → (_≡_ {A = List ℕ} (f ∷ q .kept ∷ q .len ∷ 0 ∷ []) (queryWords q)) × (queryOf (f ∷ q .kept ∷ q .len ∷ 0 ∷ []) ≡ q)
+    → (_≡_ {A = List ℕ} (f ∷ q .kept ∷ q .len ∷ 0 ∷ []) (queryWords q)) × (simpleQueryOf (f ∷ q .kept ∷ q .len ∷ 0 ∷ []) ≡ q)
 query-words-are q {f} e =
     let words : _≡_ {A = List ℕ} (f ∷ q .kept ∷ q .len ∷ 0 ∷ []) (queryWords q) = rw e in
-    (words, ap queryOf words ∙ query-round-trip q)
+    (words, ap simpleQueryOf words ∙ query-round-trip q)
 
 past-the-end : (l : List ℕ) (n : ℕ) → length l ≤ n → getD l n 0 ≡ 0
 past-the-end [] n h = refl

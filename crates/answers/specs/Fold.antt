@@ -8,8 +8,8 @@ use Rattle.query.specs.Fold.{Said, more, row, ready, failed, refused}
 use Rattle.words.specs.Words.{flagOf, flagWord}
 
 -- every list is read, whatever its words are; the fourth is ignored
-abbrev pub queryOf : List ℕ → SimpleQuery
-queryOf w = record { failed = flagOf (getD w 0 0); kept = getD w 1 0; len = getD w 2 0 }
+abbrev pub simpleQueryOf : List ℕ → SimpleQuery
+simpleQueryOf w = record { failed = flagOf (getD w 0 0); kept = getD w 1 0; len = getD w 2 0 }
 
 -- whether an error came, how many of its bytes are kept, how many it had, and a word for later versions
 abbrev pub queryWords : SimpleQuery → List ℕ
@@ -29,4 +29,4 @@ foldedWords x = (queryWords (x .0), foldWords (x .1), x .2)
 
 -- the words of a query stand for it
 abbrev pub Query-round-trip : Type 0
-Query-round-trip = (q : SimpleQuery) → queryOf (queryWords q) ≡ q
+Query-round-trip = (q : SimpleQuery) → simpleQueryOf (queryWords q) ≡ q

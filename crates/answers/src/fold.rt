@@ -1,7 +1,7 @@
 // The answers to a simple query, message by message. Any words are the words of some query. SCOPE 3.11.
 ghost use mathlib.Core.Path.{_≡_};
 ghost use Rattle.query.specs.Fold.{answerOutcome};
-ghost use Rattle.answers.specs.Fold.{queryOf, queryWords, foldWords};
+ghost use Rattle.answers.specs.Fold.{simpleQueryOf, queryWords, foldWords};
 use query::simple::Answer;
 use query::simple::SimpleQuery;
 use words::layout;
@@ -9,7 +9,7 @@ use words::word::flag;
 use words::word::flag_of;
 
 pub fn query_of(w: [u64; layout::QUERY_WORDS]) -> SimpleQuery
-    ensures { λ r. ⌜ r ≡ queryOf w ⌝ }
+    ensures { λ r. ⌜ r ≡ simpleQueryOf w ⌝ }
 {
     SimpleQuery {
         failed: flag_of(w[layout::QUERY_FAILED]),
@@ -20,7 +20,7 @@ pub fn query_of(w: [u64; layout::QUERY_WORDS]) -> SimpleQuery
 
 // The words stand for the query that they were made of.
 pub fn query_words(q: SimpleQuery) -> [u64; layout::QUERY_WORDS]
-    ensures { λ r. ⌜ (r ≡ queryWords q) × (queryOf r ≡ q) ⌝ }
+    ensures { λ r. ⌜ (r ≡ queryWords q) × (simpleQueryOf r ≡ q) ⌝ }
 {
     [flag(q.failed), q.kept as u64, q.len as u64, 0]
 }

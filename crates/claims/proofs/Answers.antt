@@ -1,4 +1,4 @@
--- What each end of a step answers, in the table's words: a law for each of worker's `handing`, `refusedWith`, `doneWith` and `statusOf`. Rows and
+-- What each end of a step answers, in the table's words: a law for each of worker's `handing`, `refusedWith`, `doneWith` and `feedbackOf`. Rows and
 -- Preserved take them.
 use mathlib.Core.Path.{_≡_, refl, sym, ap}
 use mathlib.Core.Bool.{Bool}
@@ -16,7 +16,7 @@ use Rattle.worker.specs.declared.Input.{Input}
 use Rattle.worker.specs.declared.Event.{Event}
 use Rattle.worker.specs.declared.Event.the-variants.{Nothing}
 use Rattle.worker.specs.declared.Run.{Run}
-use Rattle.worker.specs.Step.{Lent, doneWith, handing, moved, refusedWith, statusOf, waitedBy}
+use Rattle.worker.specs.Step.{Lent, doneWith, handing, moved, refusedWith, feedbackOf, waitedBy}
 use Rattle.worker.specs.Events as E
 use Rattle.claims.specs.Happened.{Happened, happenedOf, Parts}
 use Rattle.claims.specs.Trace.{Setup, Trace, takenBy, nothing, done, status, confirmedOf}
@@ -76,8 +76,8 @@ module _ {s : Setup} {h : Trace} {i : Input} {l : Lent} where
 
   pub status-answers : (reply : Bool) (to : State) (r : Run) → cellPosition (r .progress) ≡ confirmedOf (s .start) h
       → waitedBy r ≡ T.waitedBy s h i (status reply)
-      → Answers s h i l (writes (status reply) to) (statusOf reply to r i l)
-  unfolding statusOf
+      → Answers s h i l (writes (status reply) to) (feedbackOf reply to r i l)
+  unfolding feedbackOf
   status-answers reply to r e w =
       record {
         refusal = refl;

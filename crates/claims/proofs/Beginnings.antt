@@ -19,7 +19,7 @@ use Rattle.worker.specs.declared.State.the-variants.{Opening, Turn}
 use Rattle.worker.specs.Run.{freshRun}
 use Rattle.worker.specs.Opening.{Opened, badInterval, openOf, alreadyOpenOf}
 use Rattle.claims.specs.Beginnings.{overADay, openAnswer, Beginnings-answer}
-use Rattle.claims.specs.Calls.{Beginning, opens, is-open, isOpening, startOf, runOf}
+use Rattle.claims.specs.Calls.{Beginning, opens, is-open, isOpening, startOf, runBegun}
 
 abbrev pub first-state : Bool → State
 first-state opening = pick opening Opening Turn
@@ -67,7 +67,7 @@ module _ (s : Settings) (slot : List ℕ) (publications : List (RefT (List ℕ))
   unfolding openOf
   opens-fresh = opened-run (badInterval s)
 
-pub run-begun : (s : Settings) (b : Beginning) → runOf s b ≡ freshRun s (first-state (isOpening b)) (startOf b)
+pub run-begun : (s : Settings) (b : Beginning) → runBegun s b ≡ freshRun s (first-state (isOpening b)) (startOf b)
 unfolding alreadyOpenOf
 run-begun s (opens slot publications position start out) = opens-fresh s slot publications position start out
 run-begun s (is-open start) = refl

@@ -15,8 +15,7 @@ use Rattle.wire.specs.Bytes.{put}
 use Rattle.wire.proofs.Laws.{by-test}
 use Rattle.wire.specs.Int.{int, value}
 use Rattle.frontend.specs.Frontend.{copyData, statusBody, statusUpdate}
-use Rattle.frontend.specs.ReadBack.{confirming}
-use Rattle.frontend.specs.ReadBack.{statusOf as statusRead}
+use Rattle.frontend.specs.ReadBack.{statusOf, confirming}
 use Rattle.frontend.proofs.Laws.{length-framed, length-status}
 use Rattle.frontend.proofs.ServerReads.{status-read-back-modulo}
 use Rattle.lsn.specs.declared.Lsn.{Lsn}
@@ -41,7 +40,7 @@ length-update position time reply =
 
 -- the 39 bytes, as a server reads them
 reads-back : (position : ℕ) (time : ℤ) (reply : Bool) (out : List ℕ)
-    → statusRead (take 39 (put out 0 (statusUpdate position time reply)))
+    → statusOf (take 39 (put out 0 (statusUpdate position time reply)))
     ≡ some (confirming (position % 2 ^ 64) (int 8 (value 8 time % 2 ^ 64)) reply)
 unfolding put
 reads-back position time reply out =
@@ -49,7 +48,7 @@ reads-back position time reply out =
     let rest : List ℕ = drop (0 + length m) out in
     let n : length m ≡ 39 = length-update position time reply in
     let front : take 39 (m ++ rest) ≡ m = rw (← n) (take-append-seam m rest) in
-    ap statusRead (front ∙ sym (append-nil m)) ∙ status-read-back-modulo position time reply []
+    ap statusOf (front ∙ sym (append-nil m)) ∙ status-read-back-modulo position time reply []
 
 -- what a step wrote, and how a server reads it
 as-read : {position : ℕ} {i : Input} {l : Lent} {o : Outcome} → W.Writing position i l o → Writes position i l o
@@ -57,7 +56,7 @@ as-read (W.nothing a c) = nothing a c
 as-read (W.done a c) = done a c
 as-read {position} {i} {l} {o} (W.status reply a c) =
     status reply a c
-    (ap (λ (n : ℕ). statusRead (take n (o .out))) a ∙ ap (λ (x : List ℕ). statusRead (take 39 x)) c
+    (ap (λ (n : ℕ). statusOf (take n (o .out))) a ∙ ap (λ (x : List ℕ). statusOf (take 39 x)) c
     ∙ reads-back position (i .«client_time») reply (l .out))
 
 -- ---- any list of calls

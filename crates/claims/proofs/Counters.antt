@@ -15,7 +15,7 @@ use Rattle.claims.specs.Happened.{Happened}
 use Rattle.claims.specs.Trace.{Setup, Trace, a-step, a-report, isStatus, isReply, handedBy}
 use Rattle.claims.specs.Calls.{played, setupOf}
 use Rattle.claims.specs.Traced.{traceOf}
-use Rattle.claims.specs.Counters.{statusCount, replyCount, beginsStall, endsStall, stallCount, stallBegan, stallMicros, wrapped, metricsOf, Counters-traced}
+use Rattle.claims.specs.Counters.{statusCount, replyCount, beginsStall, endsStall, stallCount, stallBegan, stallMicros, wrapped, countersOf, Counters-traced}
 use Rattle.claims.proofs.Facts.{counted, events, statuses, replies, stalls, stall-micros, factsBy, factsOf, agree-metrics}
 use Rattle.claims.proofs.Preserved.{played-preserved}
 
@@ -61,7 +61,7 @@ micros-are (a-step i from y ∷ h) =
     picked (endsStall h i from y) (stall-micros h) (stallMicros h) (micros (sinceOf (i .moment) (stallBegan h))) (micros-are h)
 micros-are (a-report p m ∷ h) = micros-are h
 
-metrics-are : (s : Setup) (h : Trace) → factsOf s h .metrics ≡ metricsOf s h
+metrics-are : (s : Setup) (h : Trace) → factsOf s h .metrics ≡ countersOf s h
 unfolding factsOf
 metrics-are s h = rw (events-are h, statuses-are h, replies-are h, stalls-are h, micros-are h)
 

@@ -9,7 +9,7 @@ use Rattle.worker.specs.declared.State.the-variants.{Ended}
 use Rattle.worker.specs.Step.{Outcome, Lent, refusedWith, stepOf}
 use Rattle.worker.specs.Opening.{reportOf}
 use Rattle.claims.specs.Trace.{Setup, Trace, Response, takenBy}
-use Rattle.claims.specs.Calls.{Call, step, report, Played, stepped, lentTo, playOne, playAll, played, begun, runOf, setupOf}
+use Rattle.claims.specs.Calls.{Call, step, report, Played, stepped, lentTo, playOne, playAll, played, begun, runBegun, setupOf}
 use Rattle.claims.specs.Table.{limitBy, lastMessage, responseOf}
 use Rattle.claims.specs.Traced.{traceOf}
 use Rattle.claims.specs.Failed.{Shows, Error-shown}
@@ -49,7 +49,7 @@ error-shown s b bytes p cs i n out ds e =
     let x : Setup = setupOf s b bytes (length p) in
     let h : Trace = traceOf x cs in
     let y : Response = responseOf x h i n (length out) in
-    let first : Played = begun (runOf s b) p in
+    let first : Played = begun (runBegun s b) p in
     let z : Played = playAll bytes first cs in
     let w = played-preserved s b bytes p cs in
     let k = step-next x h z w i n out in

@@ -17,7 +17,7 @@ use Rattle.claims.specs.Happened.{Happened}
 use Rattle.claims.specs.Plain.{Bounds, Msg, Observation, wholeOnes, spanOf, afterByte, acceptedOnes, takenOf, plainOf}
 use Rattle.claims.specs.Begins.{NoneClosed}
 use Rattle.claims.specs.Trace.{Setup, Trace, boundsOf, observationsOf}
-use Rattle.claims.specs.Calls.{Beginning, isOpening, runOf, Call, step, report, Played, playOne, playAll, begun, played, setupOf}
+use Rattle.claims.specs.Calls.{Beginning, isOpening, runBegun, Call, step, report, Played, playOne, playAll, begun, played, setupOf}
 use Rattle.claims.specs.Traced.{traceOf}
 use Rattle.claims.specs.HandsOn.{NoQueueCloses, Hands-on, Events-begin}
 use Rattle.claims.proofs.Account.{Account, none-taken}
@@ -83,7 +83,7 @@ observed-closed bytes (report position moment ∷ cs) z q h = observed-closed by
 module _ (s : Settings) (b : Beginning) (bytes p : List ℕ) (cs : List Call) (q : NoQueueCloses cs) where
   played-closed : NoneClosed (played s b bytes p cs .observed)
   unfolding played
-  played-closed = observed-closed bytes cs (begun (runOf s b) p) q tt
+  played-closed = observed-closed bytes cs (begun (runBegun s b) p) q tt
 
   -- what the plain reading is told by the run is what it is told by the trace
   abbrev trace : Trace

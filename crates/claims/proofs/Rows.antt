@@ -44,7 +44,7 @@ use Rattle.worker.specs.declared.Event.the-variants.{Nothing, KeepAlive, Stoppe
 use Rattle.worker.specs.declared.Run.{Run}
 use Rattle.worker.specs.Run.{lsn, clock, wholeOf, offer, withState, withReader, withClock, withDrained, withWhole, withOffer, withMetrics, accepted}
 use Rattle.worker.specs.Rows.{both, unless}
-use Rattle.worker.specs.Step.{Lent, Outcome, boundaryBy, copyDataBy, doneWith, drainOf, endedWith, firstBy, handing, handlingOf, having, idleOf, intervalPassed, isReadable, isStoppedAt, moved, nextOf, offeringOf, offers, openingBy, openingOf, reaches, readBy, readingBy, readingOf, stalledBy, stalledOf, stalls, stateOf, statusDue, statusOf, turnOf, waitedBy, waitingBy, waitingOf}
+use Rattle.worker.specs.Step.{Lent, Outcome, boundaryBy, copyDataBy, doneWith, drainOf, endedWith, firstBy, handing, handlingOf, having, idleOf, intervalPassed, isReadable, isStoppedAt, moved, nextEvent, offeringOf, offers, openingBy, openingOf, reaches, readBy, readingBy, readingOf, stalledBy, stalledOf, stalls, stepIn, statusDue, feedbackOf, turnOf, waitedBy, waitingBy, waitingOf}
 use Rattle.worker.specs.Events as E
 use Rattle.claims.specs.Happened.{Happened, happenedOf, Parts}
 use Rattle.claims.specs.Happened as H
@@ -126,7 +126,7 @@ module _ (s : Setup) (trace : Trace) (z : Played) (i : Input) (n : ℕ) (out : L
 
   -- the row of a state
   abbrev pub Row : State → Type 0
-  Row x = Next x (responds x) (stateOf x (in-state x) i l)
+  Row x = Next x (responds x) (stepIn x (in-state x) i l)
 
   -- one outcome or another, where the table and the step make the same test
   pub either : {from : State} (c : Bool) {y y' : Response} {o o' : Outcome} → (c ≡ true → Next from y o) → (c ≡ false → Next from y' o')
@@ -247,7 +247,7 @@ module _ (s : Setup) (trace : Trace) (z : Played) (i : Input) (n : ℕ) (out : L
     -- ---- Opening
 
     pub opening-next : Here (Before (stop s) (s .opening)) → Row Opening
-    unfolding stateOf openingOf factsOf
+    unfolding stepIn openingOf factsOf
     opening-next b = by (x .0) refl .row
       where
         shown : (tag k : ℕ) → x .0 ≡ R.whole tag k → isError tag ≡ true
@@ -293,7 +293,7 @@ module _ (s : Setup) (trace : Trace) (z : Played) (i : Input) (n : ℕ) (out : L
       done-next st a = next refl (done-answers Nothing (in-state st) refl tt) a (goes-over i 0 b)
 
       pub turn-next : Row Turn
-      unfolding stateOf turnOf statusOf factsOf
+      unfolding stepIn turnOf feedbackOf factsOf
       turn-next =
           rw (← part (λ f. pick (f .status .sent) (leb (f .settings .«status_interval») (sinceOf (i .moment) (f .status .at))) true))
           (status-if (statusDue (in-state Turn))
@@ -302,7 +302,7 @@ module _ (s : Setup) (trace : Trace) (z : Played) (i : Input) (n : ℕ) (out : L
           (next refl (moved-answers _) (ap (λ (f : Facts). at-moment (i .moment) (with-drained 0 f)) e) stays))
 
       pub drain-next : Row Drain
-      unfolding stateOf drainOf lookedOf factsOf
+      unfolding stepIn drainOf lookedOf factsOf
       drain-next =
           rw (← part (λ f. f .drained))
           (either (both (ltb (r .drained) 256) (leb 5 (length (l .unread))))
@@ -327,7 +327,7 @@ module _ (s : Setup) (trace : Trace) (z : Played) (i : Input) (n : ℕ) (out : L
       refused-ends k h = read-refused b n i x same-read k k h (going-over _ _ (tell i k (x .2)))
 
       pub reading-next : r .drained < 256 → Row Reading
-      unfolding stateOf readingOf factsOf
+      unfolding stepIn readingOf factsOf
       reading-next d = by (x .0) refl .row
         where
           -- no counter of so few wraps
@@ -345,8 +345,8 @@ module _ (s : Setup) (trace : Trace) (z : Played) (i : Input) (n : ℕ) (out : L
               took b (R.refused k) h (refuses k) refl refl (λ v g. never-nineteen k v g) (refused-answers k _) counters-are (refused-ends k h)
 
       -- a status, and the wait ends
-      wakes : Next Waiting (writes (status false) Turn) (statusOf false Turn (in-state Waiting) i l)
-      unfolding statusOf factsOf
+      wakes : Next Waiting (writes (status false) Turn) (feedbackOf false Turn (in-state Waiting) i l)
+      unfolding feedbackOf factsOf
       wakes =
           next refl (status-answers false Turn (in-state Waiting) applied-is (waited-is false))
           (confirmed-facts r (i .moment) ∙ ap (with-status (i .moment)) e) stays
@@ -356,10 +356,10 @@ module _ (s : Setup) (trace : Trace) (z : Played) (i : Input) (n : ℕ) (out : L
       idle-next = either idle (λ a. wakes) (λ a. next refl (moved-answers _) same stays)
 
       waiting-read : (a : R.Said) → x .0 ≡ a → Read Waiting (waitingResponse idle) (waitingBy a (read-in Waiting) i l)
-      unfolding statusOf factsOf
+      unfolding feedbackOf factsOf
       waiting-read R.more h = by idle
         where
-          by : (c : Bool) → Read Waiting (waitingResponse c) (pick c (statusOf false Turn (read-in Waiting) i l) (moved (read-in Waiting) l))
+          by : (c : Bool) → Read Waiting (waitingResponse c) (pick c (feedbackOf false Turn (read-in Waiting) i l) (moved (read-in Waiting) l))
           by true =
               took b R.more h (writes (status false) Turn) refl refl (λ v g. none-nineteen 0 refl g)
               (status-answers false Turn (read-in Waiting) applied-is (waited-is false))
@@ -374,7 +374,7 @@ module _ (s : Setup) (trace : Trace) (z : Played) (i : Input) (n : ℕ) (out : L
           took b (R.refused k) h (refuses k) refl refl (λ v g. never-nineteen k v g) (refused-answers k _) counters-are (refused-ends k h)
 
       pub waiting-next : Row Waiting
-      unfolding stateOf waitingOf factsOf
+      unfolding stepIn waitingOf factsOf
       waiting-next =
           rw (← part (λ f. f .pending), ← part (λ f. f .reports .signalled), ← passed-is Waiting, ← idle-is)
           (either (i .stop) (λ a. done-next Waiting counters-are)
@@ -491,7 +491,7 @@ module _ (s : Setup) (trace : Trace) (z : Played) (i : Input) (n : ℕ) (out : L
 
       copy-data-next : (c : C.Said) → isCopyData (r .whole .tag) ≡ true → copyDataOf q ≡ c → given-now ≡ payloadGives (stop s) q c
           → Next Handling (copyDataResponse q c) (copyDataBy c (in-state Handling) i l)
-      unfolding statusOf factsOf
+      unfolding feedbackOf factsOf
       copy-data-next (C.w begin end time from len) hd hc g =
           let v : from + len ≤ length q = data-within q begin end time from len hc in
           let m : length q ≤ r .whole .len = rw length-take (min-le-left (r .whole .len) (length p)) in
@@ -519,7 +519,7 @@ module _ (s : Setup) (trace : Trace) (z : Played) (i : Input) (n : ℕ) (out : L
       back-next false g hv = next refl (moved-answers _) (rw hv same) (still i 0 (with-held w) (λ a h. handled-back _ _ _ (tell i 0 0) h g))
 
       pub handling-next : Row Handling
-      unfolding stateOf handlingOf factsOf
+      unfolding stepIn handlingOf factsOf
       handling-next =
           rw (last-message, ← part (λ f. f .in-wait))
           (either (isError (r .whole .tag))
@@ -590,7 +590,7 @@ module _ (s : Setup) (trace : Trace) (z : Played) (i : Input) (n : ℕ) (out : L
           gone-on : passing d es (i .moment) (factsBy r) ≡ passing d es (i .moment) (factsOf s trace)
           gone-on = ap (passing d es (i .moment)) e
 
-          passed-next : Next Offering (passedOn s trace taken es) (nextOf ev (withMetrics m (in-state Offering)) l)
+          passed-next : Next Offering (passedOn s trace taken es) (nextEvent ev (withMetrics m (in-state Offering)) l)
           unfolding factsOf
           passed-next =
               rw (left-is, t .ends, ← part (λ f. f .in-wait)) (by (isStoppedAt (r .offer .event)) (r .offer .stops) (r .whole .«in_wait») refl refl)
@@ -624,7 +624,7 @@ module _ (s : Setup) (trace : Trace) (z : Played) (i : Input) (n : ℕ) (out : L
         -- a free queue takes the event
         hands-next : (m : Metrics) (d : Bool) → m ≡ passing d (t .e ∷ []) (i .moment) (factsBy r) .metrics → i .queue ≡ Free → Begins false → Stops d
             → CutOff false
-            → Next Offering (handsOver s trace taken) (nextOf (r .offer .event) (withMetrics m (in-state Offering)) l)
+            → Next Offering (handsOver s trace taken) (nextEvent (r .offer .event) (withMetrics m (in-state Offering)) l)
         hands-next m d hm hq hb hs c =
             let handed : take 1 (leftOf s trace taken) ≡ t .e ∷ [] = ap (take 1) left-is in
             rw handed (passed-next (r .offer .event) m d (t .e ∷ []) hm (t .event) (rw (← same-taken) (t .parts)) (ap isFull hq) hb hs
@@ -632,7 +632,7 @@ module _ (s : Setup) (trace : Trace) (z : Played) (i : Input) (n : ℕ) (out : L
 
         -- a closed one lets it drop
         drops-next : (m : Metrics) (d : Bool) → m ≡ passing d [] (i .moment) (factsBy r) .metrics → i .queue ≡ Closed → Begins false → Stops d
-            → Next Offering (drops s trace taken) (nextOf Nothing (withMetrics m (in-state Offering)) l)
+            → Next Offering (drops s trace taken) (nextEvent Nothing (withMetrics m (in-state Offering)) l)
         drops-next m d hm hq hb hs = passed-next Nothing m d [] hm refl tt (ap isFull hq) hb hs (λ a. impossible cc)
 
         -- the event, with its stall begun
@@ -647,8 +647,8 @@ module _ (s : Setup) (trace : Trace) (z : Played) (i : Input) (n : ℕ) (out : L
         full-next : (o : Offer) (g : Bool) → stalled ≡ o → i .queue ≡ Full → Begins g → Stops false → CutOff false
             → Next Offering (writes (statusIf (isPassed s trace i)) Offering)
             (let a : Run = stalled-at o (pick g (i .moment) (r .clock .«stall_began»)) (stalling g (i .moment) (factsBy r) .metrics) in
-            pick (intervalPassed (in-state Offering)) (statusOf false Offering a i l) (moved a l))
-        unfolding statusOf factsOf
+            pick (intervalPassed (in-state Offering)) (feedbackOf false Offering a i l) (moved a l))
+        unfolding feedbackOf factsOf
         full-next o g ho hq hb hs c =
             let began : Moment = pick g (i .moment) (r .clock .«stall_began») in
             let m : Metrics = stalling g (i .moment) (factsBy r) .metrics in
@@ -723,5 +723,5 @@ module _ (s : Setup) (trace : Trace) (z : Played) (i : Input) (n : ℕ) (out : L
             by Closed f c = impossible cc
 
         pub offering-next : Row Offering
-        unfolding stateOf offeringOf factsOf
+        unfolding stepIn offeringOf factsOf
         offering-next = rw (← part (λ f. f .tries .stalled)) (either (r .offer .stalled) again-next (first-next (i .queue) refl))

@@ -23,9 +23,9 @@ pub data Beginning : Type 0 where
   is-open : Lsn → Beginning
 
 -- the run that it makes
-abbrev pub runOf : Settings → Beginning → Run
-runOf s (opens slot publications position start out) = openOf s slot publications position start out .run
-runOf s (is-open start) = alreadyOpenOf s start .1
+abbrev pub runBegun : Settings → Beginning → Run
+runBegun s (opens slot publications position start out) = openOf s slot publications position start out .run
+runBegun s (is-open start) = alreadyOpenOf s start .1
 
 -- whether it begins in Opening
 abbrev pub isOpening : Beginning → Bool
@@ -89,7 +89,7 @@ begun r payload = record { run = r; payload = payload; taken = 0; observed = [];
 
 -- the whole list
 unfoldable pub played : Settings → Beginning → List ℕ → List ℕ → List Call → Played
-played s b bytes payload cs = playAll bytes (begun (runOf s b) payload) cs
+played s b bytes payload cs = playAll bytes (begun (runBegun s b) payload) cs
 
 -- what the trace of such a list is given
 abbrev pub setupOf : Settings → Beginning → List ℕ → ℕ → Setup

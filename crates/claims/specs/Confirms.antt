@@ -10,8 +10,7 @@ use lib.IntN.{ℤ}
 use Rattle.wire.specs.Bytes.{put}
 use Rattle.wire.specs.Int.{int, value}
 use Rattle.frontend.specs.Frontend.{statusUpdate, copyDone}
-use Rattle.frontend.specs.ReadBack.{confirming}
-use Rattle.frontend.specs.ReadBack.{statusOf as statusRead}
+use Rattle.frontend.specs.ReadBack.{statusOf, confirming}
 use Rattle.lsn.specs.declared.Lsn.{Lsn}
 use Rattle.moment.specs.declared.Moment.{Moment}
 use Rattle.worker.specs.declared.Input.{Input}
@@ -19,7 +18,7 @@ use Rattle.worker.specs.declared.Run.{Run}
 use Rattle.worker.specs.declared.Settings.{Settings}
 use Rattle.worker.specs.Step.{Outcome, Lent, stepOf}
 use Rattle.worker.specs.Opening.{reportOf}
-use Rattle.claims.specs.Calls.{Beginning, startOf, runOf}
+use Rattle.claims.specs.Calls.{Beginning, startOf, runBegun}
 
 -- a call, with whatever bytes and buffers it is lent
 pub data AnyCall : Type 0 where
@@ -30,7 +29,7 @@ pub data AnyCall : Type 0 where
 -- and the reply byte
 abbrev pub ReadAs : ℕ → ℤ → Bool → Outcome → Type 0
 ReadAs position time reply o =
-    statusRead (take (o .written) (o .out)) ≡ some (confirming (position % 2 ^ 64) (int 8 (value 8 time % 2 ^ 64)) reply)
+    statusOf (take (o .written) (o .out)) ≡ some (confirming (position % 2 ^ 64) (int 8 (value 8 time % 2 ^ 64)) reply)
 
 -- what a step wrote: nothing, a CopyDone, or a status that confirms this position; the rest of the output is as it was
 pub data Writes (position : ℕ) (i : Input) (l : Lent) (o : Outcome) : Type 0 where
@@ -47,4 +46,4 @@ Confirmed largest r (report position moment ∷ cs) = Confirmed (max largest (po
 
 -- on a run that `open` or `already_open` made
 abbrev pub Confirms-largest : Type 0
-Confirms-largest = (s : Settings) (b : Beginning) (cs : List AnyCall) → Confirmed (startOf b .0) (runOf s b) cs
+Confirms-largest = (s : Settings) (b : Beginning) (cs : List AnyCall) → Confirmed (startOf b .0) (runBegun s b) cs

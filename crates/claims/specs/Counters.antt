@@ -98,8 +98,8 @@ abbrev pub wrapped : ℕ → ℕ
 wrapped n = n % 2 ^ 64
 
 -- events handed on, statuses, replies, stalls begun, stall microseconds; the position that the last status confirmed, the server's end
-abbrev pub metricsOf : Setup → Trace → Metrics
-metricsOf s h =
+abbrev pub countersOf : Setup → Trace → Metrics
+countersOf s h =
     record {
       «events_forwarded» = wrapped (length (handedBy h));
       «feedback_sent» = wrapped (statusCount h);
@@ -114,4 +114,4 @@ metricsOf s h =
 abbrev pub Counters-traced : Type 0
 Counters-traced =
     (s : Settings) (b : Beginning) (bytes payload : List ℕ) (cs : List Call)
-    → let x : Setup = setupOf s b bytes (length payload) in played s b bytes payload cs .run .metrics ≡ metricsOf x (traceOf x cs)
+    → let x : Setup = setupOf s b bytes (length payload) in played s b bytes payload cs .run .metrics ≡ countersOf x (traceOf x cs)

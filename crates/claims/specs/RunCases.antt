@@ -17,7 +17,7 @@ use Rattle.progress.specs.Progress.{raiseOf, lookedOf, reportedOf}
 use Rattle.worker.specs.declared.Settings.{Settings}
 use Rattle.worker.specs.declared.Queue.the-variants.{Free}
 use Rattle.worker.specs.Run.{lsn, freshRun}
-use Rattle.worker.specs.Step.{statusOf, openingOf, turnOf, drainOf, readingOf, waitingOf, handlingOf, stalledOf, offeringOf, stateOf, stepOf}
+use Rattle.worker.specs.Step.{feedbackOf, openingOf, turnOf, drainOf, readingOf, waitingOf, handlingOf, stalledOf, offeringOf, stepIn, stepOf}
 use Rattle.worker.specs.Opening.{alreadyOpenOf}
 use Rattle.claims.specs.Tests.{isEnded}
 use Rattle.claims.specs.Happened as H
@@ -124,7 +124,7 @@ pub record WrongTurns : Type 0 where
 
 -- all that the cases compute
 unfoldable pub computed : Unit {0}
-unfolding be beFrom beBytes put fieldAt signed unsigned framed frontOf cutFrom cutOf payloadOf judgedOf headerOf readOf copyData copyDone statusBody statusUpdate copyDataOf xlogData keepAlive boundaryOf beginBytes raiseOf lookedOf reportedOf freshRun alreadyOpenOf statusOf openingOf turnOf drainOf readingOf waitingOf handlingOf stalledOf offeringOf stateOf stepOf wholeOnes afterOpening given spanOf afterByte acceptedOnes offered takenOf plainOf playAll played steps refusals commitBytes
+unfolding be beFrom beBytes put fieldAt signed unsigned framed frontOf cutFrom cutOf payloadOf judgedOf headerOf readOf copyData copyDone statusBody statusUpdate copyDataOf xlogData keepAlive boundaryOf beginBytes raiseOf lookedOf reportedOf freshRun alreadyOpenOf feedbackOf openingOf turnOf drainOf readingOf waitingOf handlingOf stalledOf offeringOf stepIn stepOf wholeOnes afterOpening given spanOf afterByte acceptedOnes offered takenOf plainOf playAll played steps refusals commitBytes
 computed = tt
 
 -- each by computing the definitions

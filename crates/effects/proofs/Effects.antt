@@ -36,7 +36,7 @@ use Rattle.worker.specs.declared.Event.the-variants.{Nothing, KeepAlive, Stoppe
 use Rattle.worker.specs.declared.Run.{Run}
 use Rattle.worker.specs.Run.{lsn, withReader, withDrained, withMetrics, accepted}
 use Rattle.worker.specs.Rows.{both, unless}
-use Rattle.worker.specs.Step.{Lent, Outcome, back, badMoment, boundaryBy, copyDataBy, doneWith, drainOf, firstBy, handing, handlingOf, having, idleOf, intervalPassed, isEnded, isReadable, isStoppedAt, keepAliveOf, moved, nextOf, offeringOf, offers, openingBy, openingOf, readBy, readingBy, readingOf, refusedWith, stalledBy, stalledOf, stalls, stallEnded, stateOf, statusDue, statusOf, stepOf, takesPending, turnOf, waitingBy, waitingOf, waitingRead}
+use Rattle.worker.specs.Step.{Lent, Outcome, back, badMoment, boundaryBy, copyDataBy, doneWith, drainOf, firstBy, handing, handlingOf, having, idleOf, intervalPassed, isEnded, isReadable, isStoppedAt, keepAliveBy, moved, nextEvent, offeringOf, offers, openingBy, openingOf, readBy, readingBy, readingOf, refusedWith, stalledBy, stalledOf, stalls, stallEnded, stepIn, statusDue, feedbackOf, stepOf, takesPending, turnOf, waitingBy, waitingOf, waitingRead}
 use Rattle.effects.specs.Effects.{Writing, nothing, done, status, Effects, Step-effects}
 
 -- ---- a read
@@ -107,8 +107,8 @@ module _ (i : Input) (l : Lent) where
       by (done a c) = done a c
       by (status reply a c) = status reply a c
 
-  status-keeps : (reply : Bool) (to : State) (r : Run) → K r (statusOf reply to r i l)
-  unfolding statusOf
+  status-keeps : (reply : Bool) (to : State) (r : Run) → K r (feedbackOf reply to r i l)
+  unfolding feedbackOf
   status-keeps reply to r =
       record { taken = none; preserved = reported-position (takesPending r) (r .progress) (r .clock .last); writes = status reply refl refl }
 
@@ -171,7 +171,7 @@ module _ (i : Input) (l : Lent) where
   boundary-by B.no-boundary start end time from len r = moved-keeps _
   boundary-by (B.refused n) start end time from len r = refused-keeps _ _
 
-  keep-alive : (end : ℕ) (time : ℤ) (reply : Bool) (r : Run) → K r (keepAliveOf end time reply r i l)
+  keep-alive : (end : ℕ) (time : ℤ) (reply : Bool) (r : Run) → K r (keepAliveBy end time reply r i l)
   keep-alive end time reply r =
       let offered : Run = offers (KeepAlive (lsn end) time reply) false (lsn 0) r in
       either reply (status-keeps true Offering (withMetrics (withReply (offered .metrics)) offered)) (moved-keeps _)
@@ -188,7 +188,7 @@ module _ (i : Input) (l : Lent) where
       either (isError (r .whole .tag)) (refused-keeps _ _)
       (either (isCopyData (r .whole .tag)) (copy-data-by (copyDataOf (take (r .whole .len) (l .payload))) r) (moved-keeps _))
 
-  next-keeps : (e : Event) (r : Run) → K r (nextOf e r l)
+  next-keeps : (e : Event) (r : Run) → K r (nextEvent e r l)
   next-keeps e r = either (isStoppedAt (r .offer .event)) (done-keeps e r) (by (r .offer .stops))
     where
       by : (b : Bool) → K r (handing e (pick b (offers (StoppedAt (r .offer .reached)) false (lsn 0) r) (back r)) l)
@@ -213,8 +213,8 @@ module _ (i : Input) (l : Lent) where
   unfolding offeringOf
   offering-keeps r = either (r .offer .stalled) (stalled-keeps r) (first-by (i .queue) r)
 
-  state-keeps : (s : State) (r : Run) → K r (stateOf s r i l)
-  unfolding stateOf
+  state-keeps : (s : State) (r : Run) → K r (stepIn s r i l)
+  unfolding stepIn
   state-keeps Opening r = opening-keeps r
   state-keeps Turn r = turn-keeps r
   state-keeps Drain r = drain-keeps r

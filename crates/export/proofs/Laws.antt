@@ -24,7 +24,7 @@ use Rattle.worker.specs.Events.{saidBy}
 use Rattle.worker.specs.Opening as O
 use Rattle.worker.specs.Opening.{openOf, alreadyOpenOf, reportOf}
 use Rattle.worker.specs.Step.{Lent, Outcome}
-use Rattle.words.specs.Step.{clipped, answerOf, steppedWords, openedWords, alreadyOpenWords}
+use Rattle.words.specs.Step.{clipped, answerWords, steppedWords, openedWords, alreadyOpenWords}
 use Rattle.words.specs.Words.{runOf, wordsOf}
 use Rattle.answers.specs.Next.{nextWords}
 use Rattle.answers.specs.Parts.{errorWords}
@@ -35,7 +35,7 @@ module _ {r z : Run} (pr : r ≡ z) where
       → i ≡ j
       → outcomeBy s p o ≡ f r i l
       → (ws ≡ wordsOf (s .run)) × (runOf ws ≡ s .run)
-      → answer ≡ answerOf (verdictNumber (s .verdict)) (s .taken) (s .written) (waitedOption (s .waited)) (clipped (length p) (saidBy (s .event)))
+      → answer ≡ answerWords (verdictNumber (s .verdict)) (s .taken) (s .written) (waitedOption (s .waited)) (clipped (length p) (saidBy (s .event)))
       → ((ws, answer, p, o) ≡ steppedWords (f z j l)) × (runOf ws ≡ f z j l .run)
   made f {i} {j} l s {p} {o} pi e pw pa =
       let h : outcomeBy s p o ≡ f z j l = e ∙ ap (λ (x : Run). f x i l) pr ∙ ap (λ (x : Input). f z x l) pi in

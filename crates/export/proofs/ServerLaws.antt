@@ -12,7 +12,7 @@ use Rattle.query.specs.declared.simple.SimpleQuery.{SimpleQuery}
 use Rattle.query.specs.declared.simple.Step.{Step}
 use Rattle.query.specs.Fold.{Said, answerOutcome, messageOf}
 use Rattle.words.specs.Words.{readerOf, readerWords}
-use Rattle.answers.specs.Fold.{queryOf, queryWords, foldWords, foldedWords}
+use Rattle.answers.specs.Fold.{simpleQueryOf, queryWords, foldWords, foldedWords}
 use Rattle.answers.specs.Parts.{fieldWords}
 use Rattle.answers.specs.Read.{readWords, resultWords}
 
@@ -27,9 +27,9 @@ read {r} {z} pr setting u e p x {q} h pw pa =
 
 pub folded : {r z : SimpleQuery} → r ≡ z → (tag : ℕ) (payload error : List ℕ) (x : Step) {q ws a : List ℕ}
     → (x .query, answerOutcome (x .answer), q) ≡ messageOf r tag payload error
-    → (ws ≡ queryWords (x .query)) × (queryOf ws ≡ x .query)
+    → (ws ≡ queryWords (x .query)) × (simpleQueryOf ws ≡ x .query)
     → a ≡ foldWords (answerOutcome (x .answer))
-    → ((ws, a, q) ≡ foldedWords (messageOf z tag payload error)) × (queryOf ws ≡ messageOf z tag payload error .0)
+    → ((ws, a, q) ≡ foldedWords (messageOf z tag payload error)) × (simpleQueryOf ws ≡ messageOf z tag payload error .0)
 folded {r} {z} pr tag payload error x {q} h pw pa =
     let g : (x .query, answerOutcome (x .answer), q) ≡ messageOf z tag payload error = h ∙ ap (λ (y : SimpleQuery). messageOf y tag payload error) pr in
     (rw (← g, pw .0, pa), pw .1 ∙ ap (λ (y : SimpleQuery × Said × List ℕ). y .0) g)

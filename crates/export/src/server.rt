@@ -8,7 +8,7 @@ ghost use Rattle.messages.specs.Fields.{fieldsOf, indexed};
 ghost use Rattle.query.specs.Fold.{messageOf};
 ghost use Rattle.query.specs.Row.{columnsOf, countOf, columnOf};
 ghost use Rattle.words.specs.Words.{readerOf};
-ghost use Rattle.answers.specs.Fold.{queryOf, foldedWords};
+ghost use Rattle.answers.specs.Fold.{simpleQueryOf, foldedWords};
 ghost use Rattle.answers.specs.Kinds.{transientAt};
 ghost use Rattle.answers.specs.Parts.{authWords, columnReply, fieldWords};
 ghost use Rattle.answers.specs.Read.{resultWords};
@@ -57,8 +57,8 @@ pub extern "C" fn rufflesquash_query_message(
     error: &mut [u8],
     answer: &mut [u64; layout::FOLD_WORDS],
 )
-    ensures { λ _. ⌜ (now (query .exit), now (answer .exit), now (error .exit)) ≡ foldedWords (messageOf (queryOf (now (query .entry))) tag (now (payload .entry)) (now (error .entry))) ⌝ }
-    ensures preserved { λ _. ⌜ queryOf (now (query .exit)) ≡ messageOf (queryOf (now (query .entry))) tag (now (payload .entry)) (now (error .entry)) .0 ⌝ }
+    ensures { λ _. ⌜ (now (query .exit), now (answer .exit), now (error .exit)) ≡ foldedWords (messageOf (simpleQueryOf (now (query .entry))) tag (now (payload .entry)) (now (error .entry))) ⌝ }
+    ensures preserved { λ _. ⌜ simpleQueryOf (now (query .exit)) ≡ messageOf (simpleQueryOf (now (query .entry))) tag (now (payload .entry)) (now (error .entry)) .0 ⌝ }
 {
     let before = query_of(*query);
     let step = before.message(tag, payload, error);

@@ -13,7 +13,7 @@ use Rattle.wire.specs.Int.{isNegative}
 use Rattle.wire.proofs.Laws.{by-test, impossible}
 use Rattle.stream.specs.Message.{lengthField}
 use Rattle.framing.specs.declared.MessageReader.{MessageReader}
-use Rattle.framing.specs.Read.{Said, whole, limitOf, at-byte, Result, later, unfinished, payloadOf, judgedOf, headerOf, readOf}
+use Rattle.framing.specs.Read.{Said, whole, limitOf, at-byte, Result, afterTaking, unfinished, payloadOf, judgedOf, headerOf, readOf}
 use Rattle.framing.specs.Cases.{Short-buffer-is-refused, Whole-is-within}
 use Rattle.framing.proofs.Laws.{pick-both}
 

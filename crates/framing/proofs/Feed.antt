@@ -20,7 +20,7 @@ use Rattle.stream.proofs.Laws.{cut-append, cut-ending, cut-in-header, cut-in-pa
 use Rattle.stream.specs.Message.{whole as whole-at}
 use Rattle.stream.specs.Cut.{refused as bad}
 use Rattle.framing.specs.declared.MessageReader.{MessageReader}
-use Rattle.framing.specs.Read.{Said, more, whole, refused, fresh, shut, at-byte, limitOf, Result, later, unfinished, payloadOf, judgedOf, headerOf, readOf}
+use Rattle.framing.specs.Read.{Said, more, whole, refused, fresh, shut, at-byte, limitOf, Result, afterTaking, unfinished, payloadOf, judgedOf, headerOf, readOf}
 use Rattle.framing.specs.Feed.{told, span, stored, itemOf, Holds, Stands, standsBy, Reads, Offer, Fed, feedOne, feedAll, Fed-is-cut, Read-is-cut}
 use Rattle.framing.proofs.Laws.{pick-both, header-more, length-negative, length-short, length-over, length-good, payload-there, payload-more, payload-whole}
 
@@ -43,7 +43,7 @@ read-shut setting r u e p h g = simp (le-ltb _ _ h, g)
 
 header-judged : (limit : ℕ) (r : MessageReader) (u : List ℕ) (e : Bool) (p : List ℕ) (k : ℕ) (h : List ℕ)
     → k ≡ min (5 - r .filled) (length u) → h ≡ put (r .header) (r .filled) (take k u) → 5 ≤ r .filled + k
-    → headerOf limit r u e p ≡ later k (judgedOf limit h (drop k u) p)
+    → headerOf limit r u e p ≡ afterTaking k (judgedOf limit h (drop k u) p)
 unfolding headerOf
 header-judged limit r u e p k h ek eh l = rw (← ek, ← eh) (simp (le-ltb _ _ l))
 
@@ -262,7 +262,7 @@ module _ (setting : ℕ) (rest u : List ℕ) (e : Bool) (r : MessageReader) (p :
     behind-five : drop k u ≡ drop 5 s
     behind-five = sym (drop-seam rest u 5 (omega arith))
 
-    judged : x ≡ later k (judgedOf limit (take 5 s) (drop 5 s) p)
+    judged : x ≡ afterTaking k (judgedOf limit (take 5 s) (drop 5 s) p)
     judged =
         let n = length-append rest u in
         let f = H .filled in
@@ -275,7 +275,7 @@ module _ (setting : ℕ) (rest u : List ℕ) (e : Bool) (r : MessageReader) (p :
         let a : take 5 hd ≡ rest ++ take k u = rw z at (head-is l (take k u) (omega arith)) in
         let eh : take 5 s ≡ hd = sym (first-five k refl) ∙ (sym a ∙ take-all 5 hd (omega arith)) in
         read-in-header setting r u e p big (H .going) (omega arith)
-        ∙ (header-judged limit r u e p k (take 5 s) ek eh (omega arith) ∙ ap (λ (t : List ℕ). later k (judgedOf limit (take 5 s) t p)) behind-five)
+        ∙ (header-judged limit r u e p k (take 5 s) ek eh (omega arith) ∙ ap (λ (t : List ℕ). afterTaking k (judgedOf limit (take 5 s) t p)) behind-five)
 
     field : lengthField s ≡ lengthField (take 5 s)
     field = sym (length-field-take s)
@@ -290,7 +290,7 @@ module _ (setting : ℕ) (rest u : List ℕ) (e : Bool) (r : MessageReader) (p :
     bad-step : (refused 6, fresh, 0, p) ≡ judgedOf limit (take 5 s) (drop 5 s) p → frontOf limit s ≡ bad-length
         → frontOf limit (take 5 s) ≡ bad-length → Local limit rest u e p x
     bad-step j f g =
-        local limit rest u e p x _ _ _ _ _ (cut-bad-length limit s f) (judged ∙ ap (later k) (sym j)) refl alone alone-within (sym (put-none p 0))
+        local limit rest u e p x _ _ _ _ _ (cut-bad-length limit s f) (judged ∙ ap (afterTaking k) (sym j)) refl alone alone-within (sym (put-none p 0))
         _ (ap (cutOf limit) (first-five (k + 0) alone) ∙ cut-bad-alone limit (take 5 s) five-long g) (fresh-holds p) refl
 
     negative-step : half 4 ≤ lengthField s → Local limit rest u e p x
@@ -314,7 +314,7 @@ module _ (setting : ℕ) (rest u : List ℕ) (e : Bool) (r : MessageReader) (p :
           let g : limit < lengthField (take 5 s) - 4 = rw (← field) o in
           let w : frontOf limit (take 5 s) ≡ too-large = over-front limit (take 5 s) (omega (arith, five-long)) c d g in
           local limit rest u e p x _ _ _ _ _ (cut-too-large limit s (over-front limit s h a b o))
-          (judged ∙ ap (later k) (sym (length-over limit (take 5 s) (drop 5 s) p (lengthField s) field a b shut refl o))) refl alone alone-within (sym (put-none p 0))
+          (judged ∙ ap (afterTaking k) (sym (length-over limit (take 5 s) (drop 5 s) p (lengthField s) field a b shut refl o))) refl alone alone-within (sym (put-none p 0))
           _ (ap (cutOf limit) (first-five (k + 0) alone) ∙ cut-too-large limit (take 5 s) w) refl refl
 
       module _ (b : 4 ≤ lengthField s) (c : lengthField s - 4 ≤ limit) where
@@ -327,9 +327,9 @@ module _ (setting : ℕ) (rest u : List ℕ) (e : Bool) (r : MessageReader) (p :
         behind-len : length (drop 5 s) ≡ length s - 5
         behind-len = length-drop 5 s
 
-        judged-good : (y : Result) → payloadOf (at-byte (take 5 s) 5 n) (drop 5 s) false p ≡ y → x ≡ later k y
+        judged-good : (y : Result) → payloadOf (at-byte (take 5 s) 5 n) (drop 5 s) false p ≡ y → x ≡ afterTaking k y
         judged-good y q =
-            judged ∙ ap (later k) (sym (length-good limit (take 5 s) (drop 5 s) p (lengthField s) field a b (at-byte (take 5 s) 5 n) _ refl c refl) ∙ q)
+            judged ∙ ap (afterTaking k) (sym (length-good limit (take 5 s) (drop 5 s) p (lengthField s) field a b (at-byte (take 5 s) 5 n) _ refl c refl) ∙ q)
 
         payload-step : length s < lengthField s + 1 → Local limit rest u e p x
         payload-step d =

@@ -13,7 +13,7 @@ use Rattle.wire.specs.Bytes.{pick, put, copied}
 use Rattle.wire.specs.Int.{half, isNegative}
 use Rattle.stream.specs.Message.{lengthField}
 use Rattle.framing.specs.declared.MessageReader.{MessageReader}
-use Rattle.framing.specs.Read.{Said, whole, refused, fresh, shut, at-byte, Result, later, unfinished, payloadOf, judgedOf, headerOf}
+use Rattle.framing.specs.Read.{Said, whole, refused, fresh, shut, at-byte, Result, afterTaking, unfinished, payloadOf, judgedOf, headerOf}
 
 -- a source no longer than its destination is copied whole
 pub copied-all : (d src q : List ℕ) (r : ℕ) → length src ≤ length d → (r, q) ≡ copied d src → q ≡ put d 0 src
@@ -74,11 +74,11 @@ module _ (limit : ℕ) (r : MessageReader) (u : List ℕ) (e : Bool) (p : List �
   unfolding headerOf
   header-more s f es ef l = rw (es, ef, ← ek, ← eh) (simp (lt-ltb _ _ l))
 
-  pub header-whole : (m : ℕ) (s : Result) → length u ≤ m + k → s ≡ judgedOf limit h (take m (drop k u)) p → 5 ≤ r .filled + k → later k s ≡ headerOf limit r u e p
+  pub header-whole : (m : ℕ) (s : Result) → length u ≤ m + k → s ≡ judgedOf limit h (take m (drop k u)) p → 5 ≤ r .filled + k → afterTaking k s ≡ headerOf limit r u e p
   unfolding headerOf
   header-whole m s w es l =
       let t : take m (drop k u) ≡ drop k u = take-all m (drop k u) (simp length-drop (omega arith)) in
-      rw (← ek, ← eh) (simp (le-ltb _ _ l) (ap (later k) (es ∙ ap (λ (x : List ℕ). judgedOf limit h x p) t)))
+      rw (← ek, ← eh) (simp (le-ltb _ _ l) (ap (afterTaking k) (es ∙ ap (λ (x : List ℕ). judgedOf limit h x p) t)))
 
 -- ---- how much is taken
 

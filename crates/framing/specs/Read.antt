@@ -47,8 +47,8 @@ abbrev pub Result : Type 0
 Result = Said × MessageReader × ℕ × List ℕ
 
 -- k bytes were taken before
-abbrev pub later : ℕ → Result → Result
-later k s = (s .0, s .1, k + s .2, s .3)
+abbrev pub afterTaking : ℕ → Result → Result
+afterTaking k s = (s .0, s .1, k + s .2, s .3)
 
 -- an unfinished message with so many bytes unread: the input's end counts only where there are none
 abbrev pub unfinished : ℕ → ℕ → Bool → Said
@@ -81,7 +81,7 @@ headerOf limit r u e p =
     let k : ℕ = min (5 - r .filled) (length u) in
     let h : List ℕ = put (r .header) (r .filled) (take k u) in
     pick (ltb (r .filled + k) 5) (unfinished 8 (length u) e, at-byte h (r .filled + k) (r .«payload_len»), k, p)
-    (later k (judgedOf limit h (drop k u) p))
+    (afterTaking k (judgedOf limit h (drop k u) p))
 
 -- a read of the unread bytes u, with a setting of the limit: 3, then a remembered 7, then what the message lacks
 unfoldable pub readOf : ℕ → MessageReader → List ℕ → Bool → List ℕ → Result

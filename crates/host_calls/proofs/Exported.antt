@@ -75,7 +75,7 @@ all-calls bytes {h} {z = z} (c ∷ cs) s (next d ds) =
     let rest : List (List ℕ) = answersAll bytes (mixOne bytes z (callOf c)) (callsOf cs) in
     (y .0, y .1 ∙ ap (λ (l : List (List ℕ)). l ++ rest) (x .1) ∙ append-assoc (h .answers) (answersOne bytes z (callOf c)) rest)
 
-opened-run : {settings before words : List ℕ} (b : Beginning) → Opened settings before words b → runOf words ≡ C.runOf (settingsOf settings) b
+opened-run : {settings before words : List ℕ} (b : Beginning) → Opened settings before words b → runOf words ≡ C.runBegun (settingsOf settings) b
 opened-run b (by-open e k) = k refl
 opened-run b (already e k) = k refl
 

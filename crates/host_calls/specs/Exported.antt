@@ -126,4 +126,4 @@ abbrev pub Exported-stand : Type 0
 Exported-stand =
     (settings before words bytes payload : List ℕ) (b : Beginning) → Opened settings before words b
     → (cs : List HostCall) (g : Held) → CalledAll bytes (record { words = words; payload = payload; taken = 0; answers = [] }) cs g
-    → StandsFor bytes payload (C.runOf (settingsOf settings) b) cs g
+    → StandsFor bytes payload (C.runBegun (settingsOf settings) b) cs g

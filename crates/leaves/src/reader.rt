@@ -1,4 +1,10 @@
 // A reader on its own, fed by pieces.
+ghost use mathlib.Core.Path.{_≡_};
+ghost use mathlib.Core.List.{[], _∷_, _++_};
+ghost use Prim.Native.Nat.{_-_};
+ghost use lib.Dec.{eqb};
+ghost use Rattle.wire.specs.Bytes.{pick};
+ghost use Rattle.lines.specs.Line.{pieces, numberTexts};
 use framing::Answer;
 use framing::MessageReader;
 use lines::fields;
@@ -15,22 +21,33 @@ struct Feed {
     refused: bool,
 }
 
-fn less(a: usize, b: usize) -> usize {
+// A difference that stops at 0.
+fn less(a: usize, b: usize) -> usize
+    ensures { λ r. ⌜ r ≡ a - b ⌝ }
+{
     if a < b { 0 } else { a - b }
 }
 
 // What is left of a piece, or a new one.
-fn piece(left: usize, size: usize) -> usize {
+fn piece(left: usize, size: usize) -> usize
+    ensures { λ r. ⌜ r ≡ pick (eqb left 0) size left ⌝ }
+{
     if left == 0 { size } else { left }
 }
 
-fn whole(line: &mut [u8], at: usize, tag: u8, n: usize) -> usize {
+// ` W`, the tag and the payload's length.
+fn whole(line: &mut [u8], at: usize, tag: u8, n: usize) -> usize
+    ensures { λ r. ⌜ (r, now (line .exit)) ≡ pieces (now (line .entry)) at (((32 ∷ 87 ∷ []) ∷ []) ++ (numberTexts tag ++ numberTexts n)) ⌝ }
+{
     let a = wire::store::place(line, at, b" W");
     let b = lines::number(line, a, tag as u64);
     lines::number(line, b, n as u64)
 }
 
-fn refused(line: &mut [u8], at: usize, refusal: u8) -> usize {
+// ` R` and the refusal's number.
+fn refused(line: &mut [u8], at: usize, refusal: u8) -> usize
+    ensures { λ r. ⌜ (r, now (line .exit)) ≡ pieces (now (line .entry)) at (((32 ∷ 82 ∷ []) ∷ []) ++ numberTexts refusal) ⌝ }
+{
     let a = wire::store::place(line, at, b" R");
     lines::number(line, a, refusal as u64)
 }
@@ -69,10 +86,13 @@ fn one_read(
     let n = least(left, bytes.len() - at);
     let reader = f.reader;
     let s = reader.read(setting, &bytes[at..at + n], false, payload);
-    let taken = least(s.taken, n);
+    let taken = s.taken;
     let answer = s.answer;
     let next = s.reader;
     let after = told(line, f.line, answer);
+    if n < taken {
+        return beyond(next, at, lines::outside(line, after));
+    }
     let go = goes_on(answer);
     Feed {
         reader: next,
@@ -81,6 +101,18 @@ fn one_read(
         line: after,
         go,
         refused: !go,
+    }
+}
+
+// A read that says that it took more than it was offered is the last one.
+fn beyond(reader: MessageReader, at: usize, line: usize) -> Feed {
+    Feed {
+        reader,
+        at,
+        left: 0,
+        line,
+        go: false,
+        refused: true,
     }
 }
 

@@ -15,7 +15,7 @@ struct Line {
     go: bool,
 }
 
-// In a refusal's place: a whole message that does not lie within the payload buffer.
+// In a refusal's place: a whole message that does not lie within the payload buffer, or more bytes taken than were offered.
 const OUTSIDE: u8 = 255;
 
 // What a read answered: a whole message, or the refusal, 0 where the bytes end before.
@@ -63,7 +63,11 @@ fn message(tag: u8, len: usize, room: usize) -> Heard {
     }
 }
 
-fn heard_of(answer: framing::Answer, room: usize) -> Heard {
+// What a read answered that was offered that many bytes and says how many it took.
+fn heard_of(answer: framing::Answer, room: usize, offered: usize, taken: usize) -> Heard {
+    if offered < taken {
+        return unfinished(OUTSIDE);
+    }
     match answer {
         framing::Answer::More => unfinished(0),
         framing::Answer::Whole(tag, len) => message(tag, len, room),
@@ -145,7 +149,7 @@ fn one_message(
     let r = reader.read(65536, &bytes[at..], false, payload);
     let answer = r.answer;
     let next = r.reader;
-    let h = heard_of(answer, payload.len());
+    let h = heard_of(answer, payload.len(), bytes.len() - at, r.taken);
     if !h.whole {
         let last = stopped(ended(line, l.at, h.refusal));
         return Session {

@@ -1,4 +1,8 @@
-// Kinds of records whose line is a writer's: the refusal, how many bytes were written, the sum of the output, and the bytes.
+// Kinds of records whose line is a writer's: the refusal, how many bytes were written, the sum of the output, and the bytes; of a lossy text its
+// marks, too.
+ghost use mathlib.Core.Path.{_≡_};
+ghost use mathlib.Core.List.{_++_};
+ghost use Rattle.lines.specs.Line.{pieces, numberTexts, sumOf, partTexts};
 use crate::names;
 use error::Written;
 use lines::fields;
@@ -10,13 +14,15 @@ pub(crate) struct Answer {
     pub(crate) good: bool,
     pub(crate) refusal: u8,
     pub(crate) count: usize,
+    pub(crate) marks: usize,
 }
 
-fn wrote(count: usize) -> Answer {
+fn wrote(count: usize, marks: usize) -> Answer {
     Answer {
         good: true,
         refusal: 0,
         count,
+        marks,
     }
 }
 
@@ -25,6 +31,7 @@ fn refused(refusal: u8) -> Answer {
         good: true,
         refusal,
         count: 0,
+        marks: 0,
     }
 }
 
@@ -33,19 +40,20 @@ pub(crate) fn malformed() -> Answer {
         good: false,
         refusal: 0,
         count: 0,
+        marks: 0,
     }
 }
 
 pub(crate) fn written(w: Written) -> Answer {
     match w {
-        Written::Wrote(n) => wrote(n),
+        Written::Wrote(n) => wrote(n, 0),
         Written::Refused(r) => refused(r.number()),
     }
 }
 
 fn shown(w: Lossy) -> Answer {
     match w {
-        Lossy::Wrote(n) => wrote(n),
+        Lossy::Wrote { bytes, marks } => wrote(bytes, marks),
         Lossy::Refused(r) => refused(r.number()),
     }
 }
@@ -95,7 +103,12 @@ fn write(kind: u8, input: &[u8], out: &mut [u8]) -> Answer {
     }
 }
 
-fn spelled(line: &mut [u8], refusal: u8, count: usize, out: &[u8]) -> usize {
+// The refusal, how many bytes were written, the sum of the whole output, and the bytes that were written.
+fn spelled(line: &mut [u8], refusal: u8, count: usize, out: &[u8]) -> usize
+    ensures { λ r. ⌜ (r, now (line .exit))
+        ≡ pieces (now (line .entry)) 1
+        (numberTexts refusal ++ (numberTexts count ++ (numberTexts (sumOf (now (out .entry))) ++ partTexts (now (out .entry)) 0 count))) ⌝ }
+{
     let a = lines::number(line, 1, refusal as u64);
     let b = lines::number(line, a, count as u64);
     let c = lines::number(line, b, lines::sum(out));
@@ -104,8 +117,12 @@ fn spelled(line: &mut [u8], refusal: u8, count: usize, out: &[u8]) -> usize {
 
 pub(crate) fn after_fields(kind: u8, input: &[u8], out: &mut [u8], line: &mut [u8]) -> usize {
     let a = write(kind, input, out);
-    if a.good {
-        return spelled(line, a.refusal, a.count, out);
+    if !a.good {
+        return 0;
     }
-    0
+    let at = spelled(line, a.refusal, a.count, out);
+    match kind {
+        b'l' | b'e' => lines::number(line, at, a.marks as u64),
+        _ => at,
+    }
 }

@@ -8,7 +8,7 @@ use lib.Dec.{leb, ltb, eqb}
 use Rattle.wire.specs.Bytes.{pick, put}
 use Rattle.wire.specs.Int.{isNegative}
 use Rattle.framing.specs.Read as F
-use Rattle.framing.specs.Read.{Said, Result, fresh, shut, at-byte, limitOf, unfinished, payloadOf, judgedOf, headerOf, readOf, later}
+use Rattle.framing.specs.Read.{Said, Result, fresh, shut, at-byte, limitOf, unfinished, payloadOf, judgedOf, headerOf, readOf, afterTaking}
 use Rattle.framing.specs.declared.MessageReader.{MessageReader}
 use Rattle.messages.specs.Fields.{absent, fieldsOf}
 use Rattle.messages.proofs.AuthLayout.{auth-is-within as auth-within}
@@ -80,7 +80,7 @@ header-within limit r u e p =
     let k : ℕ = min (5 - r .filled) (length u) in
     let h : List ℕ = put (r .header) (r .filled) (take k u) in
     chosen (length p) (ltb (r .filled + k) 5) (unfinished 8 (length u) e, at-byte h (r .filled + k) (r .«payload_len»), k, p)
-    (later k (judgedOf limit h (drop k u) p)) (not-yet (length p) 8 (length u) e) (judged-within limit h (drop k u) p)
+    (afterTaking k (judgedOf limit h (drop k u) p)) (not-yet (length p) 8 (length u) e) (judged-within limit h (drop k u) p)
 
 pub message-is-within : Message-is-within
 unfolding readOf

@@ -6,7 +6,7 @@ use borrow.Author.Tests.{ne-eqb}
 use Rattle.wire.specs.Field.{signed, unsigned}
 use Rattle.meaning.specs.Words.{Flags, Times, Queue-words, State-words, Settings-words, Event-words, Offered-words, Answer-words, Metrics-words, Status-words, Cell-words, Reader-words, Run-words, Words-run}
 use Rattle.words.specs.Step.{queueOf}
-use Rattle.words.specs.Words.{flagOf, stateOf, eventOf, partsOf}
+use Rattle.words.specs.Words.{flagOf, stateOf, eventOf, eventWithParts}
 
 -- a number at or above another is not one below it
 differs : (k : ℕ) {n m : ℕ} → m ≤ n → k < m → n ≡ k → ⊥
@@ -60,7 +60,7 @@ event-words = (
 )
 
 pub offered-words : Offered-words
-unfolding eventOf partsOf
+unfolding eventOf eventWithParts
 offered-words a b c d e f = (
   refl,
   refl,

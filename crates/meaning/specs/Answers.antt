@@ -17,7 +17,7 @@ use Rattle.query.specs.Fold as Q
 use Rattle.query.specs.Row.{columnsOf, columnOf}
 use Rattle.schedule.specs.NextStep.{atOnce, from, onInput, never}
 use Rattle.words.specs.Words.{flagOf, flagWord}
-use Rattle.answers.specs.Fold.{queryOf, queryWords, foldWords}
+use Rattle.answers.specs.Fold.{simpleQueryOf, queryWords, foldWords}
 use Rattle.answers.specs.Kinds.{transientAt}
 use Rattle.answers.specs.Next.{nextWords}
 use Rattle.answers.specs.Parts.{authWords, columnReply, fieldWords, errorWords}
@@ -53,9 +53,9 @@ Fold-words =
 -- whether an error came, how many of its bytes are kept, how many it had; words that are all 0 are a query of which no message came
 abbrev pub Query-words : Type 0
 Query-words =
-    ((a b c d : ℕ) → queryOf (a ∷ b ∷ c ∷ d ∷ []) ≡ record { failed = flagOf a; kept = b; len = c })
+    ((a b c d : ℕ) → simpleQueryOf (a ∷ b ∷ c ∷ d ∷ []) ≡ record { failed = flagOf a; kept = b; len = c })
     × ((a : Bool) (b c : ℕ) → queryWords (record { failed = a; kept = b; len = c }) ≡ flagWord a ∷ b ∷ c ∷ 0 ∷ [])
-    × (queryOf (0 ∷ 0 ∷ 0 ∷ 0 ∷ []) ≡ Q.fresh)
+    × (simpleQueryOf (0 ∷ 0 ∷ 0 ∷ 0 ∷ []) ≡ Q.fresh)
 
 -- refusal; 0 absent, 1 null, 2 a value; its place; its length
 abbrev pub Column-words : Type 0

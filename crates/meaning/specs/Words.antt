@@ -18,7 +18,7 @@ use Rattle.worker.specs.declared.State.{State}
 use Rattle.worker.specs.declared.State.the-variants.{Opening, Turn, Drain, Reading, Waiting, Handling, Offering, Ended}
 use Rattle.worker.specs.Events.{nothing, keepAlive, begin, commit, message, xlogData, stoppedAt, saidBy}
 use Rattle.worker.specs.Run.{stateNumber, lsn, clock, lastStatus, wholeOf, offer, run}
-use Rattle.words.specs.Step.{queueOf, answerOf}
+use Rattle.words.specs.Step.{queueOf, answerWords}
 use Rattle.words.specs.Words.{moment, flagOf, flagWord, byteOf, stateOf, eventOf, eventWords, settingsOf, readerOf, readerWords, cellOf, cellWords, lastStatusWords, metricsWords, runOf, wordsOf}
 
 -- ---- one word
@@ -92,9 +92,9 @@ Offered-words =
 abbrev pub Answer-words : Type 0
 Answer-words =
     (refusal taken written wait start end : ℕ) (time : ℤ) (from len : ℕ)
-    → (answerOf refusal taken written (some wait) (xlogData start end time from len)
+    → (answerWords refusal taken written (some wait) (xlogData start end time from len)
     ≡ refusal ∷ taken ∷ written ∷ 1 ∷ wait ∷ 5 ∷ start ∷ end ∷ value 8 time ∷ from ∷ len ∷ 0 ∷ [])
-    × (answerOf refusal taken written none (xlogData start end time from len)
+    × (answerWords refusal taken written none (xlogData start end time from len)
     ≡ refusal ∷ taken ∷ written ∷ 0 ∷ 0 ∷ 5 ∷ start ∷ end ∷ value 8 time ∷ from ∷ len ∷ 0 ∷ [])
 
 -- ---- views

@@ -13,7 +13,7 @@ use Rattle.worker.specs.declared.Stepped.{Stepped}
 use Rattle.worker.specs.Answer.{verdictNumber, lent}
 use Rattle.worker.specs.Step.{Outcome, isEnded, stepOf}
 use Rattle.playing.specs.declared.Playing.{Playing}
-use Rattle.playing.specs.Playing.{inputOf, Plays, playing, refilledOf, eventLine, toldBy, toldOf, stepped}
+use Rattle.playing.specs.Playing.{inputOf, Plays, playing, refilledOf, eventLine, toldBy, toldOf, goesOn, stepped}
 
 pub picked : (b : Bool) (p q : Playing) → b ≡ true → p ≡ pick b p q
 picked true p q e = refl
@@ -40,20 +40,23 @@ unfolding stepped
 plays-next p q r n bytes payload out x y e f h =
     rw (ap (λ (t : Playing × List ℕ × List ℕ). t .0 .run) f) (Plays.next {r = q .run} (q .ended) _ (rw (refilled-run p q n e) h))
 
-told-by : (over : Bool) (n : ℕ) (d : List ℕ) → toldBy over n d .0 ≡ not over
-told-by true n d = refl
-told-by false n d = refl
+told-by : (beyond over : Bool) (n : ℕ) (d : List ℕ) → toldBy beyond over n d .0 ≡ goesOn beyond over
+told-by true over n d = refl
+told-by false true n d = refl
+told-by false false n d = refl
 
--- a run goes on unless it has ended
-pub told-go : (s : Stepped) (payload d l : List ℕ) (go : Bool) → (go, l) ≡ toldOf s payload d → go ≡ not (isEnded (s .run .state))
-told-go s payload d l go e =
-    ap (λ (x : Bool × List ℕ). x .0) e ∙ told-by (isEnded (s .run .state)) (verdictNumber (s .verdict)) (eventLine (s .event) payload d)
+-- a run goes on unless it has ended, or took more than it was offered
+pub told-go : (s : Stepped) (offered : ℕ) (payload d l : List ℕ) (go : Bool) → (go, l) ≡ toldOf s offered payload d
+    → go ≡ goesOn (ltb offered (s .taken)) (isEnded (s .run .state))
+told-go s offered payload d l go e =
+    ap (λ (x : Bool × List ℕ). x .0) e
+    ∙ told-by (ltb offered (s .taken)) (isEnded (s .run .state)) (verdictNumber (s .verdict)) (eventLine (s .event) payload d)
 
 -- a step's answer with the places around it
 pub step-is : (p : Playing) (bytes payload out : List ℕ) (to from taken : ℕ) (go : Bool) (i : Input) (o : Outcome)
     → to ≡ min (p .to) (length bytes) → from ≡ min (p .from) to → i ≡ inputOf (p .ended)
     → o ≡ stepOf (p .run) i (lent (at bytes from (to - from)) payload out)
-    → taken ≡ min (o .taken) (to - from) → go ≡ not (isEnded (o .run .state))
+    → taken ≡ min (o .taken) (to - from) → go ≡ goesOn (ltb (to - from) (o .taken)) (isEnded (o .run .state))
     → (playing (o .run) (from + taken) to (p .ended) go, o .payload, o .out) ≡ stepped p bytes payload out
 unfolding stepped
 step-is p bytes payload out to from taken go i o e1 e2 e3 e4 e5 e6 = rw (← e1, ← e2, ← e3, ← e4, e5, e6)

@@ -18,7 +18,7 @@ use Rattle.worker.specs.declared.Stepped.{Stepped}
 use Rattle.worker.specs.Answer.{verdictNumber, lent}
 use Rattle.worker.specs.Run.{lsn, freshRun}
 use Rattle.worker.specs.Step.{Outcome, Lent, isEnded, stepOf}
-use Rattle.playing.specs.Spelling.{eventTexts, endTextsOf}
+use Rattle.playing.specs.Spelling.{eventTexts, endTextsOf, endOutside}
 use Rattle.playing.specs.declared.Playing.{Playing}
 
 -- a limit of 65,536 and no stop position; the longest intervals
@@ -64,16 +64,27 @@ eventLine e payload d =
     let a : ℕ × List ℕ = pieces d 0 (eventTexts true payload e) in
     pick (eqb (a .0) 0) (a .1) (pieces (a .1) (a .0) endTexts .1)
 
--- whether the run goes on after a step, and the line buffer after the step's lines
-abbrev pub toldBy : Bool → ℕ → List ℕ → Bool × List ℕ
-toldBy over n d = pick over (false, pieces d 0 (endTextsOf n) .1) (true, d)
+-- whether the run goes on after a step, and the line buffer after the step's lines. A step that says that it took more than it was offered is the
+-- last one
+abbrev pub toldBy : Bool → Bool → ℕ → List ℕ → Bool × List ℕ
+toldBy beyond over n d = pick beyond (false, pieces d 0 endOutside .1) (pick over (false, pieces d 0 (endTextsOf n) .1) (true, d))
 
-abbrev pub toldOf : Stepped → List ℕ → List ℕ → Bool × List ℕ
-toldOf s payload d = toldBy (isEnded (s .run .state)) (verdictNumber (s .verdict)) (eventLine (s .event) payload d)
+-- .. of a step that was offered so many bytes
+abbrev pub toldOf : Stepped → ℕ → List ℕ → List ℕ → Bool × List ℕ
+toldOf s offered payload d =
+    toldBy (ltb offered (s .taken)) (isEnded (s .run .state)) (verdictNumber (s .verdict)) (eventLine (s .event) payload d)
+
+-- the run goes on: it took no more than it was offered, and has not ended
+abbrev pub goesOn : Bool → Bool → Bool
+goesOn beyond over = pick beyond false (not over)
 
 -- the step over the unread part of the buffer, as far as that lies within it
 abbrev pub steppedTo : ℕ → ℕ → Playing → Outcome → Playing × List ℕ × List ℕ
-steppedTo from to p o = (playing (o .run) (from + min (o .taken) (to - from)) to (p .ended) (not (isEnded (o .run .state))), o .payload, o .out)
+steppedTo from to p o = (
+  playing (o .run) (from + min (o .taken) (to - from)) to (p .ended) (goesOn (ltb (to - from) (o .taken)) (isEnded (o .run .state))),
+  o .payload,
+  o .out,
+)
 
 abbrev pub steppedFrom : ℕ → ℕ → Playing → List ℕ → List ℕ → List ℕ → Playing × List ℕ × List ℕ
 steppedFrom from to p bytes payload out = steppedTo from to p (stepOf (p .run) (inputOf (p .ended)) (lent (at bytes from (to - from)) payload out))

@@ -63,3 +63,7 @@ eventTexts brief payload (StoppedAt reached) = stoppedTexts reached
 -- the last line: `END` and the refusal's number
 abbrev pub endTextsOf : ℕ → List (List ℕ)
 endTextsOf n = (69 ∷ 78 ∷ 68 ∷ []) ∷ (numberTexts n ++ endTexts)
+
+-- .. or `END outside`, where the last step says that it took more bytes than it was offered
+abbrev pub endOutside : List (List ℕ)
+endOutside = (69 ∷ 78 ∷ 68 ∷ []) ∷ (outsideTexts ++ endTexts)

@@ -5,7 +5,7 @@ ghost use mathlib.Core.Path.{_≡_};
 ghost use Rattle.worker.specs.Answer.{verdictNumber};
 ghost use Rattle.worker.specs.Step.{isEnded};
 ghost use Rattle.lines.specs.Line.{pieces};
-ghost use Rattle.playing.specs.Spelling.{endTextsOf};
+ghost use Rattle.playing.specs.Spelling.{endTextsOf, endOutside};
 ghost use Rattle.playing.specs.Playing.{eventSettings, begun, refilledOf, inputOf, eventLine, toldOf, stepped, Plays};
 use lsn::Lsn;
 use moment::Moment;
@@ -130,14 +130,29 @@ fn tell_end(verdict: Verdict, line: &mut [u8])
     lines::print(line, c);
 }
 
-// The lines of a step: its event's, and the last one. Whether the run goes on.
-fn told(s: Stepped, payload: &[u8], line: &mut [u8]) -> bool
-    ensures { λ r. ⌜ (r, now (line .exit)) ≡ toldOf s (now (payload .entry)) (now (line .entry)) ⌝ }
+// Prints the last line of a run that says that it took more than it was offered.
+fn tell_outside(line: &mut [u8])
+    ensures { λ _. ⌜ now (line .exit) ≡ pieces (now (line .entry)) 0 endOutside .1 ⌝ }
+{
+    let a = wire::store::place(line, 0, b"END");
+    let b = lines::outside(line, a);
+    let c = lines::end(line, b);
+    lines::print(line, c);
+}
+
+// The lines of a step that was offered that many bytes: its event's, and the last one. Whether the run goes on.
+fn told(s: Stepped, offered: usize, payload: &[u8], line: &mut [u8]) -> bool
+    ensures { λ r. ⌜ (r, now (line .exit)) ≡ toldOf s offered (now (payload .entry)) (now (line .entry)) ⌝ }
 {
     let event = s.event;
     let run = s.run;
     let verdict = s.verdict;
+    let taken = s.taken;
     tell_event(event, payload, line);
+    if offered < taken {
+        tell_outside(line);
+        return false;
+    }
     if is_over(run) {
         tell_end(verdict, line);
         return false;
@@ -152,9 +167,10 @@ fn step(p: Playing, bytes: &[u8], payload: &mut [u8], out: &mut [u8], line: &mut
     let to = least(p.to, bytes.len());
     let from = least(p.from, to);
     let s = worker::steps::step(run, input(p.ended), &bytes[from..to], payload, out);
-    let taken = least(s.taken, to - from);
+    let offered = to - from;
+    let taken = least(s.taken, offered);
     let next = s.run;
-    let go = told(s, payload, line);
+    let go = told(s, offered, payload, line);
     Playing {
         run: next,
         from: from + taken,

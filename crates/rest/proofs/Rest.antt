@@ -35,7 +35,7 @@ use Rattle.worker.specs.declared.State.{State}
 use Rattle.worker.specs.declared.State.the-variants.{Opening, Turn, Drain, Reading, Waiting, Handling, Offering, Ended}
 use Rattle.worker.specs.Rows.{both, unless}
 use Rattle.worker.specs.Run.{lsn, withState, wholeOf, withDrained, withMetrics, withReader, withWhole, accepted}
-use Rattle.worker.specs.Step.{Lent, Outcome, afterEvent, back, badMoment, boundaryBy, copyDataBy, doneWith, drainOf, drops, endedWith, handing, handsOn, handlingOf, having, idleOf, intervalPassed, isEnded, isStoppedAt, moved, nextOf, offeringOf, offers, openingBy, openingOf, reaches, readingBy, readingOf, stallEnded, stalledOf, stalls, stateOf, statusDue, statusOf, stepOf, turnOf, waitingOf, waits}
+use Rattle.worker.specs.Step.{Lent, Outcome, afterEvent, back, badMoment, boundaryBy, copyDataBy, doneWith, drainOf, drops, endedWith, handing, handsOn, handlingOf, having, idleOf, intervalPassed, isEnded, isStoppedAt, moved, nextEvent, offeringOf, offers, openingBy, openingOf, reaches, readingBy, readingOf, stallEnded, stalledOf, stalls, stepIn, statusDue, feedbackOf, stepOf, turnOf, waitingOf, waits}
 use Rattle.schedule.specs.NextStep.{Next, atOnce, byClock, dueOf, idleMoment, beyond, isWhole, nextStepOf, offeringNext, openingNext, readingNext, stateNext, statusMoment, waitingNext}
 use Rattle.schedule.specs.Promise.{quiet, noByte, quietStep, Accepts}
 use Rattle.schedule.proofs.Clock.{in-range, passed-by}
@@ -64,7 +64,7 @@ module _ (m : Moment) (time : ℤ) (q : Queue) (p out : List ℕ) where
 
   -- the run that a step in state x leaves
   abbrev after : State → Run → Run
-  after x r = stateOf x (accepted m r) i l .run
+  after x r = stepIn x (accepted m r) i l .run
 
   -- ---- what holds of each run on the way: both intervals are above 0, and its steps are accepted
   record Fit (r : Run) : Type 0 where
@@ -95,7 +95,7 @@ module _ (m : Moment) (time : ℤ) (q : Queue) (p out : List ℕ) where
     stepped n x h e k =
         let a = f .accepts in
         let g : isEnded (r .state) ≡ false = ap isEnded h ∙ e in
-        let o = ap (λ (y : State). stateOf y (accepted m r) i l) h in
+        let o = ap (λ (y : State). stepIn y (accepted m r) i l) h in
         inr (simp (g, le-ltb _ _ (a .payload-fits), le-ltb _ _ (a .status-fits), a .good-moment) (subst (λ (y : Outcome). Rest n (y .run)) (sym o) k))
 
     within : m .0 < beyond
@@ -160,7 +160,7 @@ module _ (m : Moment) (time : ℤ) (q : Queue) (p out : List ℕ) where
 
   drain-last : (r : Run) → Fit r → r .state ≡ Drain → r .drained ≡ 0 → leb (r .settings .«status_interval») (sinceOf m (r .status .at)) ≡ false
       → Rest 1 r
-  unfolding stateOf drainOf lookedOf nextStepOf stateNext waitingNext
+  unfolding stepIn drainOf lookedOf nextStepOf stateNext waitingNext
   drain-last r f h d s =
       let w : Run = waits (accepted m r) in
       stepped r f 0 Drain h refl
@@ -178,17 +178,17 @@ module _ (m : Moment) (time : ℤ) (q : Queue) (p out : List ℕ) where
 
   -- the run after a status, and after none
   abbrev sent : Run → Run
-  sent r = statusOf false Drain (withDrained 0 (accepted m r)) i l .run
+  sent r = feedbackOf false Drain (withDrained 0 (accepted m r)) i l .run
 
   abbrev unsent : Run → Run
   unsent r = withState Drain (withDrained 0 (accepted m r))
 
   turn-rests : (r : Run) → Fit r → r .state ≡ Turn → Rest 2 r
-  unfolding stateOf turnOf statusOf
+  unfolding stepIn turnOf feedbackOf
   turn-rests r f h = stepped r f 1 Turn h refl (by (r .status .sent) (intervalPassed (accepted m r)) refl refl)
     where
       by : (a b : Bool) → r .status .sent ≡ a → intervalPassed (accepted m r) ≡ b
-          → Rest 1 (pick {A = Outcome} (pick a b true) (statusOf false Drain (withDrained 0 (accepted m r)) i l)
+          → Rest 1 (pick {A = Outcome} (pick a b true) (feedbackOf false Drain (withDrained 0 (accepted m r)) i l)
           (moved (withState Drain (withDrained 0 (accepted m r))) l) .run)
       by true true ea eb = drain-last (sent r) (again r f (sent r) refl refl) refl refl (not-passed _ (f .status))
       by true false ea eb = drain-last (unsent r) (again r f (unsent r) refl refl) refl refl eb
@@ -197,10 +197,10 @@ module _ (m : Moment) (time : ℤ) (q : Queue) (p out : List ℕ) where
   -- ---- Waiting
 
   abbrev woken : Run → Run
-  woken r = statusOf false Turn (accepted m r) i l .run
+  woken r = feedbackOf false Turn (accepted m r) i l .run
 
   waiting-rests : (r : Run) → Fit r → r .state ≡ Waiting → Rest 3 r
-  unfolding stateOf waitingOf statusOf
+  unfolding stepIn waitingOf feedbackOf
   waiting-rests r f h =
       stepped r f 2 Waiting h refl
       (by (both (r .pending) (intervalPassed (accepted m r))) (unless (r .pending) (cellSignal (r .progress)))
@@ -209,9 +209,9 @@ module _ (m : Moment) (time : ℤ) (q : Queue) (p out : List ℕ) where
       by : (a b c : Bool) → both (r .pending) (intervalPassed (accepted m r)) ≡ a → unless (r .pending) (cellSignal (r .progress)) ≡ b
           → leb (r .settings .«idle_wakeup_interval») (sinceOf m (r .clock .«wait_began»)) ≡ c
           → Rest 2
-          (pick {A = Outcome} a (statusOf false Turn (accepted m r) i l)
+          (pick {A = Outcome} a (feedbackOf false Turn (accepted m r) i l)
           (pick {A = Outcome} b (moved (withState Turn (accepted m r)) l)
-          (pick {A = Outcome} c (statusOf false Turn (accepted m r) i l) (moved (accepted m r) l))) .run)
+          (pick {A = Outcome} c (feedbackOf false Turn (accepted m r) i l) (moved (accepted m r) l))) .run)
       by true b c ea eb ec = turn-rests (woken r) (again r f (woken r) refl refl) refl
       by false true c ea eb ec = turn-rests (withState Turn (accepted m r)) (again r f (withState Turn (accepted m r)) refl refl) refl
       by false false true ea eb ec = turn-rests (woken r) (again r f (woken r) refl refl) refl
@@ -220,7 +220,7 @@ module _ (m : Moment) (time : ℤ) (q : Queue) (p out : List ℕ) where
   -- ---- Drain
 
   drain-rests : (r : Run) → Fit r → r .state ≡ Drain → Rest 4 r
-  unfolding stateOf drainOf lookedOf
+  unfolding stepIn drainOf lookedOf
   drain-rests r f h = stepped r f 3 Drain h refl (by (ltb (r .drained) 256) (eqb (r .drained) 0))
     where
       waited : Rest 3 (waits (accepted m r))
@@ -263,7 +263,7 @@ module _ (m : Moment) (time : ℤ) (q : Queue) (p out : List ℕ) where
     closed-is hq = rw hq refl
 
     abbrev full-by : Run → Outcome
-    full-by x = pick (intervalPassed x) (statusOf false Offering x i l) (moved x l)
+    full-by x = pick (intervalPassed x) (feedbackOf false Offering x i l) (moved x l)
 
     full-is : q ≡ Full → offeringOf now i l ≡ pick (r .offer .stalled) (full-by now) (full-by (stalls now))
     unfolding offeringOf stalledOf
@@ -275,20 +275,20 @@ module _ (m : Moment) (time : ℤ) (q : Queue) (p out : List ℕ) where
   full-calm x f h hq k = rw (h, hq) (clock-calm x f (statusMoment x) (status-ahead x f k))
 
   -- a status was sent now
-  sent-calm : (r x : Run) → Fit r → x .settings ≡ r .settings → x .clock .last ≡ m → q ≡ Full → Calm (statusOf false Offering x i l .run)
-  unfolding statusOf
+  sent-calm : (r x : Run) → Fit r → x .settings ≡ r .settings → x .clock .last ≡ m → q ≡ Full → Calm (feedbackOf false Offering x i l .run)
+  unfolding feedbackOf
   sent-calm r x f hs hc hq =
-      let y : Run = statusOf false Offering x i l .run in
+      let y : Run = feedbackOf false Offering x i l .run in
       let g : Fit y = again r f y hs hc in
       full-calm y g refl hq (rw hc (not-passed _ (g .status)))
 
   full-rests : (r : Run) → Fit r → r .state ≡ Offering → q ≡ Full → Rest 1 r
-  unfolding stateOf
+  unfolding stepIn
   full-rests r f h hq = by (intervalPassed (accepted m r)) refl
     where
       sent-by : (b a : Bool) → a ≡ true
-          → Calm (pick {A = Outcome} b (pick {A = Outcome} a (statusOf false Offering (accepted m r) i l) (moved (accepted m r) l))
-          (pick {A = Outcome} a (statusOf false Offering (stalls (accepted m r)) i l) (moved (stalls (accepted m r)) l)) .run)
+          → Calm (pick {A = Outcome} b (pick {A = Outcome} a (feedbackOf false Offering (accepted m r) i l) (moved (accepted m r) l))
+          (pick {A = Outcome} a (feedbackOf false Offering (stalls (accepted m r)) i l) (moved (stalls (accepted m r)) l)) .run)
       sent-by true true e = sent-calm r (accepted m r) f refl refl hq
       sent-by false true e = sent-calm r (stalls (accepted m r)) f refl refl hq
       sent-by b false e = impossible cc
@@ -300,7 +300,7 @@ module _ (m : Moment) (time : ℤ) (q : Queue) (p out : List ℕ) where
           (subst (λ (o : Outcome). Calm (o .run)) (sym (full-is r f h hq)) (sent-by (r .offer .stalled) (intervalPassed (accepted m r)) ea))
 
   -- StoppedAt, handed on or dropped, ends the run
-  ended-next : (ev : Event) (x : Run) → isStoppedAt (x .offer .event) ≡ true → Calm (nextOf ev x l .run)
+  ended-next : (ev : Event) (x : Run) → isStoppedAt (x .offer .event) ≡ true → Calm (nextEvent ev x l .run)
   unfolding nextStepOf stateNext
   ended-next ev x k = by (isStoppedAt (x .offer .event)) k
     where
@@ -313,7 +313,7 @@ module _ (m : Moment) (time : ℤ) (q : Queue) (p out : List ℕ) where
   counted x = withMetrics (withEvent (x .metrics)) x
 
   stopped-rests : (r : Run) → Fit r → r .state ≡ Offering → isStoppedAt (r .offer .event) ≡ true → Rest 1 r
-  unfolding stateOf
+  unfolding stepIn
   stopped-rests r f h k = by q refl
     where
       freely : (b : Bool) → Calm (pick {A = Outcome} b (handsOn (stallEnded (accepted m r)) l) (handsOn (accepted m r) l) .run)
@@ -330,7 +330,7 @@ module _ (m : Moment) (time : ℤ) (q : Queue) (p out : List ℕ) where
       by Full hq = full-rests r f h hq
 
   -- an event was handed on or dropped: the run ends, offers StoppedAt, or goes back
-  passed-rests : (ev : Event) (x : Run) → Fit x → Rest 4 (nextOf ev x l .run)
+  passed-rests : (ev : Event) (x : Run) → Fit x → Rest 4 (nextEvent ev x l .run)
   unfolding nextStepOf stateNext
   passed-rests ev x f = by (isStoppedAt (x .offer .event)) (x .offer .stops)
     where
@@ -344,7 +344,7 @@ module _ (m : Moment) (time : ℤ) (q : Queue) (p out : List ℕ) where
       by false false = back-rests x f (x .whole .«in_wait»)
 
   offering-rests : (r : Run) → Fit r → r .state ≡ Offering → Rest 5 r
-  unfolding stateOf
+  unfolding stepIn
   offering-rests r f h = by q refl
     where
       freely : (b : Bool) → Rest 4 (pick {A = Outcome} b (handsOn (stallEnded (accepted m r)) l) (handsOn (accepted m r) l) .run)
@@ -378,11 +378,11 @@ module _ (m : Moment) (time : ℤ) (q : Queue) (p out : List ℕ) where
   boundary-rests (B.refused n) start end wt place len x f = inl tt
 
   copy-data-rests : (r : Run) → Fit r → (a : C.Said) → Rest 5 (copyDataBy a (accepted m r) i l .run)
-  unfolding statusOf nextStepOf stateNext
+  unfolding feedbackOf nextStepOf stateNext
   copy-data-rests r f (C.k end t true) =
       let x : Run = withMetrics (withEnd (r .metrics) (lsn end)) (accepted m r) in
       let y : Run = offers (KeepAlive (lsn end) t true) false (lsn 0) x in
-      let z : Run = statusOf true Offering (withMetrics (withReply (y .metrics)) y) i l .run in
+      let z : Run = feedbackOf true Offering (withMetrics (withReply (y .metrics)) y) i l .run in
       offering-rests z (again r f z refl refl) refl
   copy-data-rests r f (C.k end t false) =
       let x : Run = withMetrics (withEnd (r .metrics) (lsn end)) (accepted m r) in
@@ -394,7 +394,7 @@ module _ (m : Moment) (time : ℤ) (q : Queue) (p out : List ℕ) where
   copy-data-rests r f (C.refused n) = inl tt
 
   handling-rests : (r : Run) → Fit r → r .state ≡ Handling → Rest 6 r
-  unfolding stateOf handlingOf nextStepOf stateNext
+  unfolding stepIn handlingOf nextStepOf stateNext
   handling-rests r f h = stepped r f 5 Handling h refl (by (isError (r .whole .tag)) (isCopyData (r .whole .tag)))
     where
       by : (a b : Bool)
@@ -412,7 +412,7 @@ module _ (m : Moment) (time : ℤ) (q : Queue) (p out : List ℕ) where
       pick a (R.refused 7, x, 0, p) (pick b (R.whole (getD (x .header) 0 0) (min (x .«payload_len») (length p)), fresh, 0, p) (R.more, x, 0, p))
 
   reading-rests : (r : Run) → Fit r → r .state ≡ Reading → Rest 7 r
-  unfolding stateOf readingOf nextStepOf stateNext readingNext quietRead
+  unfolding stepIn readingOf nextStepOf stateNext readingNext quietRead
   reading-rests r f h =
       stepped r f 6 Reading h refl
       (subst (λ (x : Result). Rest 6 (having (x .2) (x .3) (readingBy (x .0) (withReader (x .1) (accepted m r)) l) .run))
@@ -430,7 +430,7 @@ module _ (m : Moment) (time : ℤ) (q : Queue) (p out : List ℕ) where
       by false false ea eb = inl (rw (h, eb, ea) tt)
 
   opening-rests : (r : Run) → Fit r → r .state ≡ Opening → Rest 3 r
-  unfolding stateOf openingOf nextStepOf stateNext openingNext quietRead isWhole
+  unfolding stepIn openingOf nextStepOf stateNext openingNext quietRead isWhole
   opening-rests r f h =
       stepped r f 2 Opening h refl
       (subst (λ (x : Result). Rest 2 (having (x .2) (x .3) (openingBy (x .0) (withReader (x .1) (accepted m r)) l) .run))

@@ -30,7 +30,7 @@ use Rattle.worker.specs.declared.Run.{Run}
 use Rattle.worker.specs.declared.State.{State}
 use Rattle.worker.specs.declared.State.the-variants.{Opening, Turn, Drain, Reading, Waiting, Handling, Offering, Ended}
 use Rattle.worker.specs.Run.{lsn, withState, wholeOf, withDrained, withMetrics, withReader, withWhole, accepted}
-use Rattle.worker.specs.Step.{Lent, Outcome, back, afterEvent, boundaryBy, copyDataBy, doneWith, drainOf, endedWith, handing, handlingOf, having, idleOf, intervalPassed, isEnded, isStoppedAt, moved, offeringOf, offers, openingBy, openingOf, readingBy, readingOf, refusedWith, stallEnded, stalledOf, stalls, stateOf, statusDue, statusOf, stepOf, turnOf, waitingOf}
+use Rattle.worker.specs.Step.{Lent, Outcome, back, afterEvent, boundaryBy, copyDataBy, doneWith, drainOf, endedWith, handing, handlingOf, having, idleOf, intervalPassed, isEnded, isStoppedAt, moved, offeringOf, offers, openingBy, openingOf, readingBy, readingOf, refusedWith, stallEnded, stalledOf, stalls, stepIn, statusDue, feedbackOf, stepOf, turnOf, waitingOf}
 use Rattle.schedule.specs.NextStep.{Next, atOnce, onInput, never, beyond, byClock, idleMoment, isWhole, nextStepOf, offeringNext, openingNext, readingNext, stateNext, statusMoment, waitingNext}
 use Rattle.schedule.specs.Promise.{Moves, leaves, writes, passes, Stays, Not-both, Promised, quiet, noByte, Next-step-promised, Never-is-ended, Ended-is-never}
 use Rattle.schedule.proofs.Clock.{Timed, by-clock, in-range, one-clock, passed-by, two-clocks}
@@ -63,8 +63,8 @@ module _ (r : Run) (p out : List ℕ) (time : ℤ) (m : Moment) where
   abbrev Due : ℕ → Queue → Outcome → Type 0
   Due d q o = Timed d (m .0) r (length p) q o
 
-  status-moves : (q : Queue) (reply : Bool) (to : State) (x : Run) → Moves r (statusOf reply to x (i q) l)
-  unfolding statusOf
+  status-moves : (q : Queue) (reply : Bool) (to : State) (x : Run) → Moves r (feedbackOf reply to x (i q) l)
+  unfolding feedbackOf
   status-moves q reply to x = writes (omega arith)
 
   -- ---- Turn, Drain, Handling
@@ -94,7 +94,7 @@ module _ (r : Run) (p out : List ℕ) (time : ℤ) (m : Moment) where
   boundary-moves (B.refused n) start end wt place len x h = leaves (λ e. impossible cc)
 
   copy-data-moves : (q : Queue) (a : C.Said) (x : Run) → r .state ≡ Handling → Moves r (copyDataBy a x (i q) l)
-  unfolding statusOf
+  unfolding feedbackOf
   copy-data-moves q (C.k end t reply) x h = either reply (writes (omega arith)) (leaves (λ e. impossible cc))
   copy-data-moves q (C.w start end t place len) x h =
       boundary-moves (boundaryOf (at p place len)) start end t place len (withMetrics (withEnd (x .metrics) (lsn end)) x) h
@@ -239,8 +239,8 @@ module _ (r : Run) (p out : List ℕ) (time : ℤ) (m : Moment) where
   -- ---- a step
 
   state-promised : (q : Queue) (s : State) → r .state ≡ s → limitOf (r .settings .«max_message_size») ≤ length p → m .0 < beyond
-      → Says q (stateNext s r (length p) q) (pick (isEnded s) (refusedWith 2 r l) (stateOf s now (i q) l))
-  unfolding stateNext stateOf
+      → Says q (stateNext s r (length p) q) (pick (isEnded s) (refusedWith 2 r l) (stepIn s now (i q) l))
+  unfolding stateNext stepIn
   state-promised q Opening h fits k = opening-promised q h fits
   state-promised q Turn h fits k = turn-moves q h
   state-promised q Drain h fits k = drain-moves q h

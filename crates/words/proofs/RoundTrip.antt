@@ -21,7 +21,7 @@ use Rattle.worker.specs.declared.State.the-variants.{Opening, Turn, Drain, Read
 use Rattle.worker.specs.declared.Whole.{Whole}
 use Rattle.worker.specs.Events.{saidBy}
 use Rattle.worker.specs.Run.{stateNumber, lastStatus, wholeOf, offer, run}
-use Rattle.words.specs.Words.{flagOf, flagWord, byteOf, stateOf, eventOf, partsOf, eventWords, settingsOf, settingsWords, HeaderFits, EventFits, Cell-round-trip, Reader-round-trip, Round-trip}
+use Rattle.words.specs.Words.{flagOf, flagWord, byteOf, stateOf, eventOf, eventWithParts, eventWords, settingsOf, settingsWords, HeaderFits, EventFits, Cell-round-trip, Reader-round-trip, Round-trip}
 
 flag-back : (b : Bool) → flagOf (flagWord b) ≡ b
 flag-back true = refl
@@ -49,7 +49,7 @@ abbrev eventAt : List ℕ → Event
 eventAt w = eventOf (getD w 0 0) (getD w 1 0) (getD w 2 0) (getD w 3 0) (getD w 4 0) (getD w 5 0) (getD w 6 0)
 
 event-back : (e : Event) → EventFits e → eventAt (eventWords (saidBy e)) ≡ e
-unfolding eventOf partsOf
+unfolding eventOf eventWithParts
 event-back Nothing h = refl
 event-back (KeepAlive end time reply) h = rw (signed-unsigned (half 8) time h, flag-back reply)
 event-back (Begin final time xid) h = rw (signed-unsigned (half 8) time (h .0), xid-back xid (h .1))

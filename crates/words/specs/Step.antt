@@ -70,14 +70,14 @@ Within-is-unchanged = (n : ℕ) (e : Said) → Within n e → clipped n e ≡ e
 -- ---- answers
 
 -- refusal's number, 0 for none; taken; written; whether a wait is told, and how long; seven words of the event
-abbrev pub answerOf : ℕ → ℕ → ℕ → Option ℕ → Said → List ℕ
-answerOf refusal taken written waited e =
+abbrev pub answerWords : ℕ → ℕ → ℕ → Option ℕ → Said → List ℕ
+answerWords refusal taken written waited e =
     refusal ∷ taken ∷ written ∷ getD (waitedWords waited) 0 0 ∷ getD (waitedWords waited) 1 0 ∷ sevenOf (eventWords e)
 
 -- run, answer, payload buffer and output after a step; the event's parts lie in the payload buffer
 abbrev pub steppedWords : Outcome → List ℕ × List ℕ × List ℕ × List ℕ
 steppedWords o =
-    (wordsOf (o .run), answerOf (o .refusal) (o .taken) (o .written) (o .waited) (clipped (length (o .payload)) (o .event)), o .payload, o .out)
+    (wordsOf (o .run), answerWords (o .refusal) (o .taken) (o .written) (o .waited) (clipped (length (o .payload)) (o .event)), o .payload, o .out)
 
 -- refusal, run and bytes written, and output after opening; refused, the run's words are as they were
 abbrev pub openedWords : List ℕ → Opened → ℕ × List ℕ × ℕ × List ℕ

@@ -58,8 +58,8 @@ stateOf n =
 -- ---- an event: its kind and six numbers
 
 -- every other kind is Nothing
-unfoldable pub partsOf : ℕ → ℕ → ℕ → ℕ → ℕ → ℕ → ℕ → Event
-partsOf kind a b c d e f =
+unfoldable pub eventWithParts : ℕ → ℕ → ℕ → ℕ → ℕ → ℕ → ℕ → Event
+eventWithParts kind a b c d e f =
     pick (eqb kind 4) (Message (flagOf a) (lsn b) c d e f)
     (pick (eqb kind 5) (XLogData (lsn a) (lsn b) (int 8 c) d e)
     (pick (eqb kind 6) (StoppedAt (lsn a))
@@ -71,7 +71,7 @@ eventOf kind a b c d e f =
     pick (eqb kind 1) (KeepAlive (lsn a) (int 8 b) (flagOf c))
     (pick (eqb kind 2) (Begin (lsn a) (int 8 b) (c % 2 ^ 32))
     (pick (eqb kind 3) (Commit (lsn a) (lsn b) (int 8 c))
-    (partsOf kind a b c d e f)))
+    (eventWithParts kind a b c d e f)))
 
 -- the words of what an event says; numbers that its kind does not have are 0
 abbrev pub eventWords : Said → List ℕ
@@ -99,11 +99,11 @@ settingsOf w =
     }
 
 -- a reader of messages has eight words
-abbrev pub headerOf : List ℕ → List ℕ
-headerOf w = byteOf (getD w 0 0) ∷ byteOf (getD w 1 0) ∷ byteOf (getD w 2 0) ∷ byteOf (getD w 3 0) ∷ byteOf (getD w 4 0) ∷ []
+abbrev pub headerBytes : List ℕ → List ℕ
+headerBytes w = byteOf (getD w 0 0) ∷ byteOf (getD w 1 0) ∷ byteOf (getD w 2 0) ∷ byteOf (getD w 3 0) ∷ byteOf (getD w 4 0) ∷ []
 
 abbrev pub readerOf : List ℕ → MessageReader
-readerOf w = record { header = headerOf w; filled = getD w 5 0; «payload_len» = getD w 6 0; refused = flagOf (getD w 7 0) }
+readerOf w = record { header = headerBytes w; filled = getD w 5 0; «payload_len» = getD w 6 0; refused = flagOf (getD w 7 0) }
 
 -- .. which of a run are the words 8 to 15
 abbrev pub readerPart : List ℕ → List ℕ

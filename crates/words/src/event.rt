@@ -3,7 +3,7 @@ ghost use mathlib.Core.Path.{_≡_};
 ghost use Prim.Native.Nat.{min};
 ghost use Rattle.worker.specs.Events.{saidBy};
 ghost use Rattle.words.specs.Step.{lengthIn, clipped};
-ghost use Rattle.words.specs.Words.{eventOf, partsOf, eventWords, EventFits};
+ghost use Rattle.words.specs.Words.{eventOf, eventWithParts, eventWords, EventFits};
 use crate::layout;
 use crate::word::flag;
 use crate::word::flag_of;
@@ -49,7 +49,7 @@ pub(crate) fn event_of(kind: u64, a: u64, b: u64, c: u64, d: u64, e: u64, f: u64
 
 // Every other kind is Nothing.
 fn parts_of(kind: u64, a: u64, b: u64, c: u64, d: u64, e: u64, f: u64) -> Event
-    ensures { λ r. ⌜ r ≡ partsOf kind a b c d e f ⌝ }
+    ensures { λ r. ⌜ r ≡ eventWithParts kind a b c d e f ⌝ }
 {
     if kind == layout::EVENT_MESSAGE {
         let transactional = flag_of(a);

@@ -2,7 +2,7 @@
 ghost use mathlib.Core.Path.{_≡_};
 ghost use Rattle.worker.specs.Answer.{verdictNumber, waitedOption};
 ghost use Rattle.worker.specs.Events.{saidBy};
-ghost use Rattle.words.specs.Step.{queueOf, inputOf, waitedWords, clipped, answerOf};
+ghost use Rattle.words.specs.Step.{queueOf, inputOf, waitedWords, clipped, answerWords};
 use crate::event::clip;
 use crate::event::event_words;
 use crate::layout;
@@ -59,7 +59,7 @@ fn waited_words(waited: Waited) -> [u64; 2]
 
 // The event's parts are named as far as a payload buffer of so many bytes has them.
 pub fn answer_words(s: Stepped, payload_len: usize) -> [u64; layout::ANSWER_WORDS]
-    ensures { λ r. ⌜ r ≡ answerOf (verdictNumber (s .verdict)) (s .taken) (s .written) (waitedOption (s .waited)) (clipped «payload_len» (saidBy (s .event))) ⌝ }
+    ensures { λ r. ⌜ r ≡ answerWords (verdictNumber (s .verdict)) (s .taken) (s .written) (waitedOption (s .waited)) (clipped «payload_len» (saidBy (s .event))) ⌝ }
 {
     let verdict = s.verdict;
     let refusal = verdict_word(verdict);

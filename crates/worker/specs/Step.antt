@@ -108,8 +108,8 @@ confirmed r =
     (withProgress (pick (takesPending r) (reportedOf (r .progress) (cellPosition (r .progress)) (r .clock .last) .cell) (r .progress)) r))
 
 -- a status with a reply byte; it confirms the cell's position
-unfoldable pub statusOf : Bool → State → Run → Input → Lent → Outcome
-statusOf reply to r i l =
+unfoldable pub feedbackOf : Bool → State → Run → Input → Lent → Outcome
+feedbackOf reply to r i l =
     record {
       run = withState to (confirmed r);
       refusal = 0;
@@ -151,7 +151,7 @@ statusDue r = pick (r .status .sent) (intervalPassed r) true
 unfoldable pub turnOf : Run → Input → Lent → Outcome
 turnOf r i l =
     let none-drained : Run = withDrained 0 r in
-    pick (statusDue r) (statusOf false Drain none-drained i l)
+    pick (statusDue r) (feedbackOf false Drain none-drained i l)
     (moved (withState Drain none-drained) l)
 
 -- ---- Drain: SCOPE 6.5
@@ -190,7 +190,7 @@ readingOf r i l = let x : Result = readBy r i l in having (x .2) (x .3) (reading
 -- the idle interval since the wait's beginning ends the wait with a status
 abbrev pub idleOf : Run → Input → Lent → Outcome
 idleOf r i l =
-    pick (leb (r .settings .«idle_wakeup_interval») (sinceOf (r .clock .last) (r .clock .«wait_began»))) (statusOf false Turn r i l)
+    pick (leb (r .settings .«idle_wakeup_interval») (sinceOf (r .clock .last) (r .clock .«wait_began»))) (feedbackOf false Turn r i l)
     (moved r l)
 
 abbrev pub waitingBy : R.Said → Run → Input → Lent → Outcome
@@ -209,7 +209,7 @@ unfoldable pub waitingOf : Run → Input → Lent → Outcome
 waitingOf r i l =
     firstOf
     ((i .stop ⇒ doneWith Nothing r l)
-    ∷ (both (r .pending) (intervalPassed r) ⇒ statusOf false Turn r i l)
+    ∷ (both (r .pending) (intervalPassed r) ⇒ feedbackOf false Turn r i l)
     ∷ (unless (r .pending) (cellSignal (r .progress)) ⇒ moved (withState Turn r) l)
     ∷ (isReadable i l ⇒ waitingRead r i l)
     ∷ [])
@@ -234,10 +234,10 @@ abbrev pub offersAt : Event → Lsn → Run → Lent → Outcome
 offersAt e p r l = moved (offers e (reaches r p) p r) l
 
 -- a keepalive reaches no position; where it asks for a reply, a status with reply byte 1 goes before its event
-abbrev pub keepAliveOf : ℕ → ℤ → Bool → Run → Input → Lent → Outcome
-keepAliveOf end time reply r i l =
+abbrev pub keepAliveBy : ℕ → ℤ → Bool → Run → Input → Lent → Outcome
+keepAliveBy end time reply r i l =
     let offered : Run = offers (KeepAlive (lsn end) time reply) false (lsn 0) r in
-    pick reply (statusOf true Offering (withMetrics (withReply (offered .metrics)) offered) i l) (moved offered l)
+    pick reply (feedbackOf true Offering (withMetrics (withReply (offered .metrics)) offered) i l) (moved offered l)
 
 -- the event of an XLogData's data is offered, or their refusal ends the run
 abbrev pub givenOf : E.Given → Run → Lent → Outcome
@@ -249,7 +249,7 @@ abbrev pub boundaryBy : B.Said → ℕ → ℕ → ℤ → ℕ → ℕ → Run �
 boundaryBy b start end time from len r l = givenOf (dataGives b start end time from len) r l
 
 abbrev pub copyDataBy : C.Said → Run → Input → Lent → Outcome
-copyDataBy (C.k end time reply) r i l = keepAliveOf end time reply (withMetrics (withEnd (r .metrics) (lsn end)) r) i l
+copyDataBy (C.k end time reply) r i l = keepAliveBy end time reply (withMetrics (withEnd (r .metrics) (lsn end)) r) i l
 copyDataBy (C.w start end time from len) r i l =
     boundaryBy (boundaryOf (at (l .payload) from len)) start end time from len (withMetrics (withEnd (r .metrics) (lsn end)) r) l
 copyDataBy (C.refused n) r i l = endedWith n r l
@@ -279,14 +279,14 @@ abbrev pub afterEvent : Run → Run
 afterEvent r = pick (r .offer .stops) (offers (StoppedAt (r .offer .reached)) false (lsn 0) r) (back r)
 
 -- an event is handed on, or Nothing where it is dropped; with StoppedAt the run ends
-abbrev pub nextOf : Event → Run → Lent → Outcome
-nextOf e r l = pick (isStoppedAt (r .offer .event)) (doneWith e r l) (handing e (afterEvent r) l)
+abbrev pub nextEvent : Event → Run → Lent → Outcome
+nextEvent e r l = pick (isStoppedAt (r .offer .event)) (doneWith e r l) (handing e (afterEvent r) l)
 
 abbrev pub handsOn : Run → Lent → Outcome
-handsOn r l = nextOf (r .offer .event) (withMetrics (withEvent (r .metrics)) r) l
+handsOn r l = nextEvent (r .offer .event) (withMetrics (withEvent (r .metrics)) r) l
 
 abbrev pub drops : Run → Lent → Outcome
-drops r l = nextOf Nothing r l
+drops r l = nextEvent Nothing r l
 
 abbrev pub stallEnded : Run → Run
 stallEnded r = withMetrics (withStallEnd (r .metrics) (micros (sinceOf (r .clock .last) (r .clock .«stall_began»)))) r
@@ -298,7 +298,7 @@ stalls r =
 abbrev pub stalledBy : Queue → Run → Input → Lent → Outcome
 stalledBy Free r i l = handsOn (stallEnded r) l
 stalledBy Closed r i l = drops (stallEnded r) l
-stalledBy Full r i l = pick (intervalPassed r) (statusOf false Offering r i l) (moved r l)
+stalledBy Full r i l = pick (intervalPassed r) (feedbackOf false Offering r i l) (moved r l)
 
 -- a later try, or the first after it has begun a stall: stop comes before the queue
 unfoldable pub stalledOf : Run → Input → Lent → Outcome
@@ -316,15 +316,15 @@ offeringOf r i l = pick (r .offer .stalled) (stalledOf r i l) (firstBy (i .queue
 -- ---- one step
 
 -- the row of a state
-unfoldable pub stateOf : State → Run → Input → Lent → Outcome
-stateOf Opening r i l = openingOf r i l
-stateOf Turn r i l = turnOf r i l
-stateOf Drain r i l = drainOf r i l
-stateOf Reading r i l = readingOf r i l
-stateOf Waiting r i l = waitingOf r i l
-stateOf Handling r i l = handlingOf r i l
-stateOf Offering r i l = offeringOf r i l
-stateOf Ended r i l = refusedWith 2 r l
+unfoldable pub stepIn : State → Run → Input → Lent → Outcome
+stepIn Opening r i l = openingOf r i l
+stepIn Turn r i l = turnOf r i l
+stepIn Drain r i l = drainOf r i l
+stepIn Reading r i l = readingOf r i l
+stepIn Waiting r i l = waitingOf r i l
+stepIn Handling r i l = handlingOf r i l
+stepIn Offering r i l = offeringOf r i l
+stepIn Ended r i l = refusedWith 2 r l
 
 abbrev pub isEnded : State → Bool
 isEnded Opening = false
@@ -349,4 +349,4 @@ stepOf r i l =
     ∷ (ltb (length (l .out)) 39 ⇒ refusedWith 4 r l)
     ∷ (badMoment r (i .moment) ⇒ refusedWith 5 r l)
     ∷ [])
-    (stateOf (r .state) (accepted (i .moment) r) i l)
+    (stepIn (r .state) (accepted (i .moment) r) i l)

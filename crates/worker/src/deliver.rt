@@ -4,7 +4,7 @@ ghost use mathlib.Core.List.{List};
 ghost use Prim.Native.Nat.{ℕ, _≤_};
 ghost use lib.ListN.{length};
 ghost use Rattle.worker.specs.Answer.{lent, outcomeBy};
-ghost use Rattle.worker.specs.Step.{Lent, back, offers, reaches, offersAt, isStoppedAt, afterEvent, nextOf, handsOn, stallEnded, stalls, stalledBy, stalledOf, offeringOf};
+ghost use Rattle.worker.specs.Step.{Lent, back, offers, reaches, offersAt, isStoppedAt, afterEvent, nextEvent, handsOn, stallEnded, stalls, stalledBy, stalledOf, offeringOf};
 ghost use Rattle.worker.specs.declared.Queue.{Queue};
 use crate::Event;
 use crate::Input;
@@ -86,7 +86,7 @@ fn after_event(run: Run) -> Run
 // An event is handed on, or Nothing where it is dropped; with StoppedAt the run ends.
 fn next(event: Event, run: Run, out: &mut [u8]) -> Stepped
     requires { ⌜ 39 ≤ length (now out) ⌝ }
-    ensures { λ s. ⌜ ((u p : List ℕ) → outcomeBy s p (now (out .exit)) ≡ nextOf event run (lent u p (now (out .entry)))) ⌝ }
+    ensures { λ s. ⌜ ((u p : List ℕ) → outcomeBy s p (now (out .exit)) ≡ nextEvent event run (lent u p (now (out .entry)))) ⌝ }
 {
     let offer = run.offer;
     let offered = offer.event;

@@ -11,7 +11,7 @@ ghost use Rattle.metrics.specs.Metrics.{withEnd, withReply};
 ghost use Rattle.worker.specs.Answer.{lent, outcomeBy};
 ghost use Rattle.worker.specs.Events.{given, givenBy, dataGives};
 ghost use Rattle.worker.specs.Run.{withMetrics};
-ghost use Rattle.worker.specs.Step.{keepAliveOf, boundaryBy, copyDataBy, handlingOf};
+ghost use Rattle.worker.specs.Step.{keepAliveBy, boundaryBy, copyDataBy, handlingOf};
 ghost use Rattle.worker.specs.declared.Event.{Event};
 use crate::DataEvent;
 use crate::Event;
@@ -60,7 +60,7 @@ fn keep_alive(
     out: &mut [u8],
 ) -> Stepped
     requires { ⌜ 39 ≤ length (now out) ⌝ }
-    ensures { λ s. ⌜ ((u p : List ℕ) → outcomeBy s p (now (out .exit)) ≡ keepAliveOf («wal_end» .0) «server_time» reply run input (lent u p (now (out .entry)))) ⌝ }
+    ensures { λ s. ⌜ ((u p : List ℕ) → outcomeBy s p (now (out .exit)) ≡ keepAliveBy («wal_end» .0) «server_time» reply run input (lent u p (now (out .entry)))) ⌝ }
 {
     let event = Event::KeepAlive {
         wal_end,

@@ -8,7 +8,7 @@ ghost use Rattle.wire.specs.Bytes.{pick};
 ghost use Rattle.progress.specs.Progress.{cellPosition, reportedOf};
 ghost use Rattle.worker.specs.Answer.{lent, outcomeBy, waitedOption};
 ghost use Rattle.worker.specs.Run.{lastStatus, withLastStatus};
-ghost use Rattle.worker.specs.Step.{intervalPassed, isAbove, takesPending, waitedBy, confirmed, statusOf, statusDue};
+ghost use Rattle.worker.specs.Step.{intervalPassed, isAbove, takesPending, waitedBy, confirmed, feedbackOf, statusDue};
 use crate::Event;
 use crate::Input;
 use crate::LastStatus;
@@ -121,7 +121,7 @@ pub(crate) fn send_feedback(
     out: &mut [u8],
 ) -> Stepped
     requires { ⌜ 39 ≤ length (now out) ⌝ }
-    ensures { λ s. ⌜ ((u p : List ℕ) → outcomeBy s p (now (out .exit)) ≡ statusOf reply to run input (lent u p (now (out .entry)))) ⌝ }
+    ensures { λ s. ⌜ ((u p : List ℕ) → outcomeBy s p (now (out .exit)) ≡ feedbackOf reply to run input (lent u p (now (out .entry)))) ⌝ }
 {
     let position = run.progress.applied;
     frontend::write_status_update(position, input.client_time, reply, out);

@@ -3,7 +3,7 @@ ghost use mathlib.Core.Path.{_≡_};
 ghost use Prim.Native.Nat.{_≤_};
 ghost use lib.ListN.{length};
 ghost use Rattle.worker.specs.Answer.{lent, outcomeBy};
-ghost use Rattle.worker.specs.Step.{stateOf, isEnded, badMoment, stepOf};
+ghost use Rattle.worker.specs.Step.{stepIn, isEnded, badMoment, stepOf};
 use crate::Input;
 use crate::Run;
 use crate::State;
@@ -54,7 +54,7 @@ fn by_state(
     out: &mut [u8],
 ) -> Stepped
     requires { ⌜ 39 ≤ length (now out) ⌝ }
-    ensures { λ s. ⌜ outcomeBy s (now (payload .exit)) (now (out .exit)) ≡ stateOf state run input (lent (now (unread .entry)) (now (payload .entry)) (now (out .entry))) ⌝ }
+    ensures { λ s. ⌜ outcomeBy s (now (payload .exit)) (now (out .exit)) ≡ stepIn state run input (lent (now (unread .entry)) (now (payload .entry)) (now (out .entry))) ⌝ }
 {
     match state {
         State::Opening => opening(run, input, unread, payload),

@@ -13,7 +13,7 @@ returns c =
     let at-least = at-least2 .before in
     let p = at-least .before .before .before .before .before .before .args .p in
     step-is p _ _ _ _ _ _ _ _ _ (at-least .least .ensures) (at-least2 .least2 .ensures) (at-input .input .ensures) (at-step .step .ensures)
-    (at-least3 .least3 .ensures) (told-go (at-step .step .result) _ _ _ _ (at-told .told .ensures))
+    (at-least3 .least3 .ensures) (told-go (at-step .step .result) _ _ _ _ _ (at-told .told .ensures))
 
 pub step-spec : {M : Type 1} → statement M
 step-spec =

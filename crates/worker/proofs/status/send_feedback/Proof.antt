@@ -2,13 +2,13 @@
 use mir.Syntax.{w64}
 use mir.ValLaws.{toZ-ofZ}
 use Rattle.worker.proofs.Laws.{status-written}
-use Rattle.worker.specs.Step.{statusOf}
+use Rattle.worker.specs.Step.{feedbackOf}
 use borrow.Author.Needs.{needs}
 use Rattle.worker.proofs.status.send_feedback.Statement.{statement}
 use Rattle.worker.proofs.status.send_feedback.Tie as tie
 
 returns : tie.Need-returns
-unfolding statusOf
+unfolding feedbackOf
 returns c = λ u p.
     let at-write-status-update = c .before .before .before .before .before in
     let start = at-write-status-update .before .before .before .before .before in
