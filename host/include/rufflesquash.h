@@ -312,7 +312,7 @@ uint64_t rufflesquash_lossy(const uint8_t *text, size_t text_len, uint8_t *out, 
 uint64_t rufflesquash_error_text(const uint8_t *payload, size_t payload_len, uint8_t *out, size_t out_len, uint64_t *written);
 uint64_t rufflesquash_display_position(uint64_t position, uint8_t *out, size_t out_len, uint64_t *written);
 
-/* Answers the refusal (22, 23, 24); refused, position is 0. */
+/* Two hexadecimal numbers of 1 to 8 digits with a slash between. Answers the refusal (22, 23, 24); refused, position is 0. */
 uint64_t rufflesquash_parse_position(const uint8_t *text, size_t text_len, uint64_t *position);
 
 /* ---- a progress cell. A run has one of its own inside; these calls are for a host that keeps another. Moments are nanoseconds, 0 is none. */

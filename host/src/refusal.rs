@@ -59,8 +59,8 @@ refusals! {
     20 MalformedDataRow "a data row is malformed",
     21 AuthRequestTooShort "an authentication request is too short",
     22 MissingSlash "a position has no slash",
-    23 InvalidHighPart "the part of a position before the slash is no hexadecimal number",
-    24 InvalidLowPart "the part of a position after the slash is no hexadecimal number",
+    23 InvalidHighPart "the part of a position before the slash is not 1 to 8 hexadecimal digits",
+    24 InvalidLowPart "the part of a position after the slash is not 1 to 8 hexadecimal digits",
     25 InputTooLong "the lent inputs have more than 1,048,576 bytes together",
 }
 

@@ -15,7 +15,7 @@ pub struct Lsn(pub u64);
 pub struct Moment(pub u64);
 
 impl Lsn {
-    /// The position that a text names, as `16/B374D848`; refusals 22, 23 and 24.
+    /// The position that a text names, as `16/B374D848`: two hexadecimal numbers of 1 to 8 digits with a slash between; refusals 22, 23 and 24.
     pub fn parse(text: &[u8]) -> Result<Lsn, Refusal> {
         let (number, position) = ffi::parse_position(text);
         Refusal::checked(number).map(|()| Lsn(position))

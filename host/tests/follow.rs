@@ -110,6 +110,65 @@ fn a_cut_and_the_last_confirmation() {
     assert_eq!(output.status.code(), Some(0));
 }
 
+// A transaction and the server's CopyDone on one connection; the positions that the client confirms before its own.
+fn shut_down(listener: &TcpListener, at: u64, xid: u32) -> (String, Vec<u64>) {
+    let (mut client, _) = listener.accept().unwrap();
+    let query = let_in(&mut client);
+    client.write_all(&transaction(at, xid)).unwrap();
+    client.write_all(&message(b'c', &[])).unwrap();
+    // What comes after it is not read any more.
+    client.write_all(&transaction(at + 0x50, xid + 1)).unwrap();
+    (query, statuses(&mut client))
+}
+
+#[test]
+fn the_server_ends_the_stream() {
+    let (port, server) = serve(|listener| shut_down(&listener, 0x100, 1));
+    let output = follow(port, &["--no-loop"]);
+    let (_, positions) = server.join().unwrap();
+    assert_eq!(positions.last(), Some(&0x108));
+    let text = String::from_utf8(output.stdout).unwrap();
+    let kinds: Vec<&str> = text.lines().filter_map(|line| line.split(' ').next()).collect();
+    assert_eq!(kinds, ["begin", "data", "commit"]);
+    assert_eq!((output.status.code(), output.stderr), (Some(0), vec![]));
+}
+
+#[test]
+fn the_server_ends_the_stream_and_comes_again() {
+    let (port, server) = serve(|listener| {
+        let first = shut_down(&listener, 0x100, 1);
+        let second = shut_down(&listener, 0x200, 2);
+        let (mut client, _) = listener.accept().unwrap();
+        let query = let_in(&mut client);
+        client.write_all(&transaction(0x400, 3)).unwrap();
+        (first.1, second, query, statuses(&mut client))
+    });
+    let output = follow(port, &["--endpos", "0/408"]);
+    let (first, second, query, last) = server.join().unwrap();
+    assert_eq!((first.last(), second.1.last(), last.last()), (Some(&0x108), Some(&0x208), Some(&0x408)));
+    assert!(second.0.contains("SLOT s LOGICAL 0/108 ") && query.contains("SLOT s LOGICAL 0/208 "));
+    let text = String::from_utf8(output.stdout).unwrap();
+    let kinds: Vec<&str> = text.lines().filter_map(|line| line.split(' ').next()).collect();
+    let one = ["begin", "data", "commit"];
+    assert_eq!(kinds, [&one[..], &["resumed"], &one, &["resumed"], &one, &["stopped"]].concat());
+    let told = String::from_utf8(output.stderr).unwrap();
+    let again = |position: &str| format!("follow: the server ended the stream; again from {position} in 50 ms\n");
+    assert_eq!((output.status.code(), told), (Some(0), again("0/108") + &again("0/208")));
+}
+
+// Nothing listens on the port: a refused position is told before anything else is done.
+#[test]
+fn a_refused_position_is_told_with_one_that_is_right() {
+    for option in ["--startpos", "--endpos"] {
+        for text in ["100000000/0", "+1/2", "0/123456789", "12", "/", "1/2/3", "", " 1/2"] {
+            let output = follow(1, &[option, text]);
+            let line = String::from_utf8(output.stderr).unwrap();
+            assert_eq!((output.status.code(), line.lines().count()), (Some(2), 1), "{line}");
+            assert!(line.contains(option) && line.contains(text) && line.contains("16/B374D848"), "{line}");
+        }
+    }
+}
+
 #[test]
 fn a_message_over_the_limit_ends_with_7() {
     let (port, server) = serve(|listener| {

@@ -243,7 +243,10 @@ fn position_texts_are_refused_in_order() {
     assert_eq!(Lsn::parse(b"x/y"), Err(Refusal::InvalidHighPart));
     assert_eq!(Lsn::parse(b"/1"), Err(Refusal::InvalidHighPart));
     assert_eq!(Lsn::parse(b"1/"), Err(Refusal::InvalidLowPart));
-    assert_eq!(Lsn::parse(b"1/10000000000000000"), Err(Refusal::InvalidLowPart));
+    assert_eq!(Lsn::parse(b"1/100000000"), Err(Refusal::InvalidLowPart));
+    assert_eq!(Lsn::parse(b"100000000/0"), Err(Refusal::InvalidHighPart));
+    assert_eq!(Lsn::parse(b"+1/2"), Err(Refusal::InvalidHighPart));
+    assert_eq!(Lsn::parse(b"FFFFFFFF/ffffffff"), Ok(Lsn(u64::MAX)));
 }
 
 #[test]

@@ -5,6 +5,8 @@
 mod coverage;
 #[path = "../../../vectors/model.rs"]
 mod model;
+#[path = "../../../vectors/position.rs"]
+mod position;
 #[path = "../../../vectors/protocol.rs"]
 mod protocol;
 #[path = "../../../vectors/server.rs"]
@@ -13,5 +15,6 @@ pub mod server;
 mod shared;
 
 pub use model::{query, Answer, Event, Input, Metrics, Queue, Run, Settings, State};
+pub use position::position_of;
 pub use protocol::framed;
 pub use shared::{display, hex, sum, Draw};

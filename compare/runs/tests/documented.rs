@@ -100,6 +100,25 @@ fn a_text_over_the_bound() {
     assert!(Run::open(&limit(0), &slot.as_bytes()[1..], &[], Lsn(0), Lsn(0), &mut out).is_ok());
 }
 
+/// The Rust takes more texts than PostgreSQL's type pg_lsn, which is followed here.
+#[test]
+fn position_texts() {
+    for (text, taken, number) in [
+        (&b"+1/2"[..], 0x1_0000_0002, 23),
+        (b"000000001/0", 0x1_0000_0000, 23),
+        (b"100000000/0", 0, 23),
+        (b"0/100000000", 0x1_0000_0000, 24),
+        (b"0/+1", 1, 24),
+    ] {
+        assert_eq!(rust_leaves::parse_position(text), Some(Ok(taken)));
+        assert_eq!(project(b'p', text), format!("p {number}"));
+    }
+    // 24 becomes 23: the sign comes first.
+    assert_eq!(rust_leaves::parse_position(b"+0/"), Some(Err(24)));
+    assert_eq!(project(b'p', b"+0/"), "p 23");
+    leaf(b'p', b"16/b374d848", "p 0 16/B374D848");
+}
+
 #[test]
 fn an_output_too_short() {
     assert_eq!(rust_leaves::write_done(), b"c\0\0\0\x04");
@@ -306,14 +325,6 @@ fn a_startup_without_any_pair() {
     let line = project(b's', b"\0\x03\0\0");
     leaf(b's', b"\0\x03\0\0", &line);
     assert!(line.ends_with(&hex(b"\0\0\0\x09\0\x03\0\0\0")), "{line}");
-}
-
-#[test]
-fn position_texts() {
-    leaf(b'p', b"+1/2", "p 0 1/2");
-    leaf(b'p', b"000000001/0", "p 0 1/0");
-    leaf(b'p', b"100000000/0", "p 0 0/0");
-    leaf(b'p', b"0/100000000", "p 0 1/0");
 }
 
 #[test]

@@ -29,8 +29,8 @@ pub enum Refusal {
     MalformedDataRow, // a DataRow is malformed
     AuthRequestTooShort, // an authentication request has under 4 bytes
     MissingSlash, // a position text has no slash
-    InvalidHighPart, // the part before the slash is no hexadecimal number of 64 bits
-    InvalidLowPart, // the part after the slash is no hexadecimal number of 64 bits
+    InvalidHighPart, // the part before the slash is not 1 to 8 hexadecimal digits
+    InvalidLowPart, // the part after the slash is not 1 to 8 hexadecimal digits
     InputTooLong, // the call's lent inputs are together above their limit
 }
 

@@ -2,7 +2,7 @@
 use mathlib.Core.Path.{refl}
 use Rattle.wire.specs.Find.{indexOf}
 use Rattle.text.specs.Numeral.{numeral}
-use Rattle.lsn.specs.Hex.{digitOf, valueFrom, hexDigits, hexPart}
+use Rattle.lsn.specs.Hex.{digitOf, valueFrom, hexPart}
 use Rattle.lsn.specs.Position.{joined, positionOf, displayOf}
 use Rattle.lsn.specs.PositionCases.{DigitCases, ParseCases, DisplayCases, Display-is-read}
 use Rattle.lsn.proofs.ReadBack.{read-back}
@@ -26,24 +26,31 @@ digit-cases =
     }
 
 pub parse-cases : ParseCases
-unfolding indexOf digitOf valueFrom hexDigits hexPart joined positionOf
+unfolding indexOf digitOf valueFrom hexPart joined positionOf
 parse-cases =
     record {
       lower-case = refl;
       mixed-case = refl;
       leading-zeros = refl;
-      low-part-whole = refl;
-      or-ed = refl;
+      largest-text = refl;
       twenty-two = refl;
       twenty-two-empty = refl;
       twenty-three = refl;
       twenty-three-empty = refl;
+      twenty-three-sign-alone = refl;
       twenty-three-plus = refl;
       twenty-three-minus = refl;
-      twenty-three-long = refl;
+      twenty-three-blank = refl;
+      twenty-three-blank-after = refl;
+      twenty-three-nine = refl;
+      twenty-three-nine-zeros = refl;
       twenty-three-first = refl;
+      twenty-three-before-empty = refl;
       twenty-four = refl;
       twenty-four-empty = refl;
+      twenty-four-plus = refl;
+      twenty-four-nine = refl;
+      twenty-four-return = refl;
       twenty-four-slash = refl;
     }
 

@@ -1,19 +1,18 @@
 -- Laws of hexadecimal texts, for the loops that read and write them.
-use mathlib.Core.Path.{_≡_, refl, sym, ap, _∙_}
+use mathlib.Core.Path.{_≡_, refl, sym, _∙_}
 use mathlib.Core.List.{List, [], _∷_}
-use mathlib.Core.Option.{Option, some, none}
-use Prim.Native.Nat.{ℕ, _+_, _*_, _-_, _/_, _%_, _^_, _≤_, _<_}
+use mathlib.Core.Option.{some, none}
+use Prim.Native.Nat.{ℕ, _+_, _*_, _/_, _%_, _^_, _≤_, _<_}
+use native.Mathlib.Nat.{pow-suc, pow-le-pow-right}
 use native.Mathlib.Numerals.{add-one}
 use native.Mathlib.Omega.{arith}
-use lib.ListN.{length, take, drop, getD, length-append, drop-of-length-le}
+use lib.ListN.{length, drop, getD, length-append, drop-of-length-le}
 use lib.Seq.{drop-cons}
-use borrow.Author.Tests.{lt-ltb, le-ltb, eq-eqb, ne-eqb}
+use borrow.Author.Tests.{lt-ltb, le-ltb, le-leb, lt-leb}
 use Rattle.wire.specs.Bytes.{placed}
 use Rattle.text.specs.Numeral.{hexText}
-use Rattle.wire.proofs.Laws.{tail-whole}
 use Rattle.wire.proofs.Pieces.{filling-start, filling-next, filling-last}
-use Rattle.wire.specs.Field.{andThen}
-use Rattle.lsn.specs.Hex.{digitOf, digitIs, valueFrom, in64, hexDigits, hexPart}
+use Rattle.lsn.specs.Hex.{digitOf, digitIs, valueFrom, hexPart}
 use Rattle.lsn.specs.Position.{displayOf}
 
 -- ---- reading
@@ -31,46 +30,34 @@ module _ (s : List ℕ) (i v d : ℕ) (h : i < length s) (e : digitIs d ≡ digi
       let n : digitOf (getD s i 0) ≡ some d = sym e ∙ simp (lt-ltb _ _ k) in
       rw (drop-cons s i 0 h, n, add-one)
 
--- a number past 64 bits stays so
-pub value-over : (s : List ℕ) (v : ℕ) → 2 ^ 64 ≤ v → andThen (valueFrom v s) in64 ≡ none
+-- a part's digits are read to its end
+pub value-end : (s : List ℕ) (i v : ℕ) → length s ≤ i → valueFrom v (drop i s) ≡ some v
 unfolding valueFrom
-value-over [] v h = simp (le-ltb _ _ h)
-value-over (c ∷ s) v h = step (digitOf c) (λ d. value-over s (v * 16 + d) (omega arith))
-  where
-    step : (o : Option ℕ) → ((d : ℕ) → andThen (valueFrom (v * 16 + d) s) in64 ≡ none) → andThen (andThen o (λ d. valueFrom (v * 16 + d) s)) in64 ≡ none
-    step none f = refl
-    step (some d) f = f d
-
-pub digits-start : (s : List ℕ) → (length s ≡ 0 → ⊥) → andThen (valueFrom 0 s) in64 ≡ hexDigits s
-unfolding hexDigits
-digits-start [] h = absurd (h refl)
-digits-start (c ∷ s) h = refl
-
-pub digits-empty : (s : List ℕ) → length s ≡ 0 → none ≡ hexDigits s
-unfolding hexDigits
-digits-empty [] h = refl
-digits-empty (c ∷ s) h = absurd (omega arith)
-
-pub digits-end : (s : List ℕ) (i v : ℕ) → length s ≤ i → v < 2 ^ 64 → andThen (valueFrom v (drop i s)) in64 ≡ some v
-unfolding valueFrom
-digits-end s i v h k = rw (drop-of-length-le s h) (simp (lt-ltb _ _ k))
+value-end s i v h = rw (drop-of-length-le s h)
 
 -- ---- one part
 
 pub part-empty : (s : List ℕ) → length s ≡ 0 → none ≡ hexPart s
 unfolding hexPart
-part-empty [] h = refl
-part-empty (c ∷ s) h = absurd (omega arith)
+part-empty s h = rw h
 
-pub part-signed : (s : List ℕ) → (length s ≡ 0 → ⊥) → getD s 0 0 ≡ 43 → hexDigits (take (length s - 1) (drop 1 s)) ≡ hexPart s
+pub part-long : (s : List ℕ) → 8 < length s → none ≡ hexPart s
 unfolding hexPart
-part-signed [] h e = absurd (h refl)
-part-signed (c ∷ s) h e = simp (eq-eqb _ _ e) (ap hexDigits (tail-whole (c ∷ s) 1))
+part-long s h = let k : 1 ≤ length s = omega arith in simp (le-leb _ _ k, lt-leb _ _ h)
 
-pub part-plain : (s : List ℕ) → (length s ≡ 0 → ⊥) → (getD s 0 0 ≡ 43 → ⊥) → hexDigits s ≡ hexPart s
+pub part-digits : (s : List ℕ) → 1 ≤ length s → length s ≤ 8 → valueFrom 0 s ≡ hexPart s
 unfolding hexPart
-part-plain [] h e = absurd (h refl)
-part-plain (c ∷ s) h e = simp (ne-eqb _ _ e)
+part-digits s h k = simp (le-leb _ _ h, le-leb _ _ k)
+
+-- ---- sizes
+
+-- a digit more
+pub next-below : (v d i : ℕ) → v < 16 ^ i → d < 16 → v * 16 + d < 16 ^ (i + 1)
+next-below v d i h k = rw (add-one, pow-suc) (omega arith)
+
+-- up to eight digits
+pub power-below : (i n : ℕ) → i ≤ n → 16 ^ i ≤ 16 ^ n
+power-below i n h = let p : 0 < 16 = omega arith in pow-le-pow-right p h
 
 -- ---- Display
 

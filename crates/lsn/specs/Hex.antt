@@ -1,15 +1,17 @@
 -- Hexadecimal texts: what one spells.
-use Prim.Native.Nat.{ℕ, _+_, _*_, _-_, _^_}
+use Prim.Native.Nat.{ℕ, _+_, _*_, _-_}
 use mathlib.Core.List.{List, [], _∷_}
 use mathlib.Core.Option.{Option, some, none}
 use mathlib.Core.Bool.{Bool, false}
-use lib.Dec.{leb, ltb, eqb}
+use lib.ListN.{length}
+use lib.Dec.{leb, ltb}
 use Rattle.wire.specs.Bytes.{pick}
 use Rattle.wire.specs.Field.{andThen}
 use Rattle.lsn.specs.declared.hex.HexPart.{HexPart}
 use Rattle.lsn.specs.declared.hex.HexPart.the-variants.{Value, Invalid}
 
-abbrev between : ℕ → ℕ → ℕ → Bool
+-- a number from a to b, both with it
+abbrev pub between : ℕ → ℕ → ℕ → Bool
 between a b c = pick (leb a c) (leb c b) false
 
 -- a digit's value: 0 to 9, A to F, a to f
@@ -25,19 +27,9 @@ unfoldable pub valueFrom : ℕ → List ℕ → Option ℕ
 valueFrom acc [] = some acc
 valueFrom acc (c ∷ s) = andThen (digitOf c) (λ d. valueFrom (acc * 16 + d) s)
 
--- a number of 64 bits
-abbrev pub in64 : ℕ → Option ℕ
-in64 v = pick (ltb v (2 ^ 64)) (some v) none
-
--- one digit or more, of a number of 64 bits
-unfoldable pub hexDigits : List ℕ → Option ℕ
-hexDigits [] = none
-hexDigits (c ∷ s) = andThen (valueFrom 0 (c ∷ s)) in64
-
--- one part of a position text: hexadecimal digits of a number of 64 bits, as many zeros before them as there are, and a plus sign before all. SCOPE 2.1
+-- one part of a position text: 1 to 8 hexadecimal digits, and nothing else. SCOPE 2.1; 02, wish 6
 unfoldable pub hexPart : List ℕ → Option ℕ
-hexPart [] = none
-hexPart (c ∷ s) = pick (eqb c 43) (hexDigits s) (hexDigits (c ∷ s))
+hexPart s = pick (between 1 8 (length s)) (valueFrom 0 s) none
 
 -- what the answers of the code say
 abbrev pub partOf : HexPart → Option ℕ

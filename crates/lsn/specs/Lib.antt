@@ -1,3 +1,4 @@
 pub mod Hex
 pub mod Position
 pub mod PositionCases
+pub mod Spelled

@@ -5,7 +5,6 @@ use mathlib.Core.List.{List, _∷_, _++_}
 use mathlib.Core.Option.{Option, some, none}
 use lib.ListN.{take, drop}
 use lib.Dec.{ltb}
-use lib.Bits.{bitOr}
 use Rattle.wire.specs.Find.{indexOf}
 use Rattle.error.specs.Refusal.{numberOf}
 use Rattle.moment.specs.declared.Moment.{Moment}
@@ -15,9 +14,9 @@ use Rattle.lsn.specs.declared.Lsn.{Lsn}
 use Rattle.lsn.specs.declared.Parsed.{Parsed}
 use Rattle.lsn.specs.declared.Parsed.the-variants.{Position, Refused}
 
--- the high part by 32 bits to the left, without the bits past the 64th, or-ed with the low part as it is
+-- the position whose halves are the two numbers
 unfoldable pub joined : ℕ → ℕ → ℕ
-joined hi lo = bitOr ((hi * 2 ^ 32) % 2 ^ 64) lo
+joined hi lo = hi * 2 ^ 32 + lo
 
 -- the refusal's number, 0 for none, and the position, by the two parts: 23 before 24
 abbrev pub byParts : Option ℕ → Option ℕ → ℕ × ℕ

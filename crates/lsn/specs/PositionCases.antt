@@ -1,4 +1,4 @@
--- Cases and laws of position texts, in plain bytes: SCOPE 2.1, 2.2; 01, "Texts and positions", and "Where each call turns back", 22 to 24.
+-- Cases and laws of position texts, in plain bytes: SCOPE 2.1, 2.2; 01, "Where each call turns back", 22 to 24, as 02, wish 6, widens them.
 use mathlib.Core.Path.{_≡_}
 use mathlib.Core.List.{List, [], _∷_}
 use mathlib.Core.Option.{some, none}
@@ -27,27 +27,33 @@ pub record ParseCases : Type 0 where
   pub lower-case : positionOf (97 ∷ 47 ∷ 102 ∷ []) ≡ (0, 0xA0000000F)
   -- `aB/Cd`
   pub mixed-case : positionOf (97 ∷ 66 ∷ 47 ∷ 67 ∷ 100 ∷ []) ≡ (0, 0xAB000000CD)
-  -- any number of leading zeros
-  pub leading-zeros : positionOf (48 ∷ 48 ∷ 48 ∷ 48 ∷ 48 ∷ 48 ∷ 48 ∷ 48 ∷ 48 ∷ 48 ∷ 48 ∷ 48 ∷ 48 ∷ 48 ∷ 48 ∷ 48 ∷ 48 ∷ 48 ∷ 48 ∷ 49 ∷ 47 ∷ 48 ∷ 48 ∷ 48 ∷ 50 ∷ []) ≡ (0, 0x100000002)
-  -- a low part of 64 bits is or-ed whole
-  pub low-part-whole : positionOf (48 ∷ 47 ∷ 70 ∷ 70 ∷ 70 ∷ 70 ∷ 70 ∷ 70 ∷ 70 ∷ 70 ∷ 70 ∷ 70 ∷ 70 ∷ 70 ∷ 70 ∷ 70 ∷ 70 ∷ 70 ∷ []) ≡ (0, 0xFFFFFFFFFFFFFFFF)
-  -- bits that both parts have are no sum
-  pub or-ed : positionOf (49 ∷ 47 ∷ 49 ∷ 48 ∷ 48 ∷ 48 ∷ 48 ∷ 48 ∷ 48 ∷ 48 ∷ 49 ∷ []) ≡ (0, 0x100000001)
+  -- leading zeros, up to eight digits in all: `00000001/00000002`
+  pub leading-zeros : positionOf (48 ∷ 48 ∷ 48 ∷ 48 ∷ 48 ∷ 48 ∷ 48 ∷ 49 ∷ 47 ∷ 48 ∷ 48 ∷ 48 ∷ 48 ∷ 48 ∷ 48 ∷ 48 ∷ 50 ∷ []) ≡ (0, 0x100000002)
+  -- eight digits in each part: `FFFFFFFF/FFFFFFFF`
+  pub largest-text : positionOf (70 ∷ 70 ∷ 70 ∷ 70 ∷ 70 ∷ 70 ∷ 70 ∷ 70 ∷ 47 ∷ 70 ∷ 70 ∷ 70 ∷ 70 ∷ 70 ∷ 70 ∷ 70 ∷ 70 ∷ []) ≡ (0, 0xFFFFFFFFFFFFFFFF)
   -- no slash: 22
   pub twenty-two : positionOf (49 ∷ 54 ∷ 66 ∷ 51 ∷ 55 ∷ 52 ∷ 68 ∷ 56 ∷ 52 ∷ 56 ∷ []) ≡ (22, 0)
   pub twenty-two-empty : positionOf ([]) ≡ (22, 0)
   -- a bad part before the slash: 23
   pub twenty-three : positionOf (120 ∷ 47 ∷ 49 ∷ []) ≡ (23, 0)
   pub twenty-three-empty : positionOf (47 ∷ 49 ∷ []) ≡ (23, 0)
-  pub twenty-three-plus : positionOf (43 ∷ 47 ∷ 49 ∷ []) ≡ (23, 0)
+  pub twenty-three-sign-alone : positionOf (43 ∷ 47 ∷ 49 ∷ []) ≡ (23, 0)
+  pub twenty-three-plus : positionOf (43 ∷ 49 ∷ 47 ∷ 49 ∷ []) ≡ (23, 0)
   pub twenty-three-minus : positionOf (45 ∷ 49 ∷ 47 ∷ 49 ∷ []) ≡ (23, 0)
-  -- a number of more than 64 bits
-  pub twenty-three-long : positionOf (49 ∷ 48 ∷ 48 ∷ 48 ∷ 48 ∷ 48 ∷ 48 ∷ 48 ∷ 48 ∷ 48 ∷ 48 ∷ 48 ∷ 48 ∷ 48 ∷ 48 ∷ 48 ∷ 48 ∷ 47 ∷ 49 ∷ []) ≡ (23, 0)
+  pub twenty-three-blank : positionOf (32 ∷ 49 ∷ 47 ∷ 49 ∷ []) ≡ (23, 0)
+  pub twenty-three-blank-after : positionOf (49 ∷ 32 ∷ 47 ∷ 49 ∷ []) ≡ (23, 0)
+  -- nine digits: of any value, zero too
+  pub twenty-three-nine : positionOf (49 ∷ 48 ∷ 48 ∷ 48 ∷ 48 ∷ 48 ∷ 48 ∷ 48 ∷ 48 ∷ 47 ∷ 49 ∷ []) ≡ (23, 0)
+  pub twenty-three-nine-zeros : positionOf (48 ∷ 48 ∷ 48 ∷ 48 ∷ 48 ∷ 48 ∷ 48 ∷ 48 ∷ 48 ∷ 47 ∷ 48 ∷ []) ≡ (23, 0)
   -- both parts bad: 23
   pub twenty-three-first : positionOf (103 ∷ 47 ∷ 103 ∷ []) ≡ (23, 0)
+  pub twenty-three-before-empty : positionOf (43 ∷ 48 ∷ 47 ∷ []) ≡ (23, 0)
   -- a bad part after the slash: 24
   pub twenty-four : positionOf (49 ∷ 47 ∷ 120 ∷ []) ≡ (24, 0)
   pub twenty-four-empty : positionOf (49 ∷ 47 ∷ []) ≡ (24, 0)
+  pub twenty-four-plus : positionOf (49 ∷ 47 ∷ 43 ∷ 50 ∷ []) ≡ (24, 0)
+  pub twenty-four-nine : positionOf (48 ∷ 47 ∷ 49 ∷ 48 ∷ 48 ∷ 48 ∷ 48 ∷ 48 ∷ 48 ∷ 48 ∷ 48 ∷ []) ≡ (24, 0)
+  pub twenty-four-return : positionOf (49 ∷ 47 ∷ 50 ∷ 13 ∷ []) ≡ (24, 0)
   -- only the first slash parts the text
   pub twenty-four-slash : positionOf (49 ∷ 47 ∷ 50 ∷ 47 ∷ 51 ∷ []) ≡ (24, 0)
 

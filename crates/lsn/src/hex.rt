@@ -1,6 +1,6 @@
 // Hexadecimal digits, read.
 ghost use mathlib.Core.Path.{_≡_};
-ghost use Rattle.lsn.specs.Hex.{digitOf, digitIs, hexDigits, hexPart, partOf};
+ghost use Rattle.lsn.specs.Hex.{digitOf, digitIs, hexPart, partOf};
 
 pub(crate) enum HexPart {
     Value(u64),
@@ -28,10 +28,14 @@ fn digit(c: u8) -> u64
     }
 }
 
-fn digits(s: &[u8]) -> HexPart
-    ensures { λ r. ⌜ partOf r ≡ hexDigits (now (s .entry)) ⌝ }
+// One part of a position text: 1 to 8 digits. Eight of them stay below 2^32, so that no turn can pass 64 bits.
+pub(crate) fn part(s: &[u8]) -> HexPart
+    ensures { λ r. ⌜ partOf r ≡ hexPart (now (s .entry)) ⌝ }
 {
     if s.len() == 0 {
+        return HexPart::Invalid;
+    }
+    if 8 < s.len() {
         return HexPart::Invalid;
     }
     let mut v: u64 = 0;
@@ -41,26 +45,8 @@ fn digits(s: &[u8]) -> HexPart
         if 16 <= d {
             return HexPart::Invalid;
         }
-        // one digit more would pass 64 bits
-        if 1152921504606846976 <= v {
-            return HexPart::Invalid;
-        }
         v = v * 16 + d;
         i += 1;
     }
     HexPart::Value(v)
-}
-
-// One part of a position text.
-pub(crate) fn part(s: &[u8]) -> HexPart
-    ensures { λ r. ⌜ partOf r ≡ hexPart (now (s .entry)) ⌝ }
-{
-    if s.len() == 0 {
-        return HexPart::Invalid;
-    }
-    if s[0] == b'+' {
-        digits(&s[1..])
-    } else {
-        digits(s)
-    }
 }

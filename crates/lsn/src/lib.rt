@@ -52,6 +52,7 @@ impl Lsn {
         self.0 < other.0
     }
 
+    // The position that a text spells. The slash comes first, then the high part, so that the first fault gives the refusal.
     pub fn parse(s: &[u8]) -> Parsed
         ensures { λ r. ⌜ parseOutcome r ≡ positionOf (now (s .entry)) ⌝ }
     {
@@ -64,7 +65,7 @@ impl Lsn {
         let HexPart::Value(lo) = hex::part(&s[i + 1..]) else {
             return Parsed::Refused(Refusal::InvalidLowPart);
         };
-        Parsed::Position(Lsn((hi << 32) | lo))
+        Parsed::Position(Lsn(hi * HALF + lo))
     }
 
     // How many bytes Display has.

@@ -19,7 +19,7 @@ use Rattle.replication.specs.CopyData.{copyDataOf}
 use Rattle.replication.proofs.Cases.{copy-data-laws}
 use Rattle.pgoutput.specs.Boundary.{boundaryOf}
 use Rattle.pgoutput.proofs.Cases.{begin-refusals, commit-refusals}
-use Rattle.lsn.specs.Hex.{digitOf, valueFrom, hexDigits, hexPart}
+use Rattle.lsn.specs.Hex.{digitOf, valueFrom, hexPart}
 use Rattle.lsn.specs.Position.{joined, positionOf}
 use Rattle.lossy.specs.WellFormed.{table, rowOf, matched}
 use Rattle.lossy.specs.Lossy.{partsOf, shownAll, lossyOf}
@@ -63,7 +63,7 @@ xlog-data-empty s e =
     simp (le-ltb _ _ h, z)
 
 pub proved-table : ProvedTable
-unfolding be beFrom beBytes fieldAt signed frontOf put payloadOf judgedOf headerOf readOf indexOf digitOf valueFrom hexDigits hexPart joined positionOf table rowOf matched partsOf shownAll lossyOf
+unfolding be beFrom beBytes fieldAt signed frontOf put payloadOf judgedOf headerOf readOf indexOf digitOf valueFrom hexPart joined positionOf table rowOf matched partsOf shownAll lossyOf
 proved-table =
     record {
       length-four = λ limit tag. simp (le-ltb limit 0 (omega arith));
@@ -86,13 +86,13 @@ proved-table =
       commit-twenty-four = λ s e. commit-refusals .cut-64 s (omega arith) (omega arith);
       plain-position = refl;
       signed-position = refl;
-      lost-bits = refl;
+      nine-digits = refl;
       one-mark = refl;
       three-marks = refl;
     }
 
 pub refusal-table : RefusalTable
-unfolding be beFrom beBytes fieldAt signed put payloadOf judgedOf headerOf readOf copyDataOf boundaryOf indexOf digitOf valueFrom hexDigits hexPart joined positionOf
+unfolding be beFrom beBytes fieldAt signed put payloadOf judgedOf headerOf readOf copyDataOf boundaryOf indexOf digitOf valueFrom hexPart joined positionOf
 refusal-table =
     record {
       three = refl;

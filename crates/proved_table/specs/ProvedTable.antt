@@ -78,10 +78,10 @@ pub record ProvedTable : Type 0 where
   pub commit-twenty-four : (s : List ℕ) → length s ≡ 24 → boundaryOf (67 ∷ s) ≡ B.refused 16
   -- `16/B374D848` is 0x16B374D848
   pub plain-position : positionOf (49 ∷ 54 ∷ 47 ∷ 66 ∷ 51 ∷ 55 ∷ 52 ∷ 68 ∷ 56 ∷ 52 ∷ 56 ∷ []) ≡ accepted 0x16B374D848
-  -- `+1/2` is 0x100000002
-  pub signed-position : positionOf (43 ∷ 49 ∷ 47 ∷ 50 ∷ []) ≡ accepted 0x100000002
-  -- `100000000/0` is 0
-  pub lost-bits : positionOf (49 ∷ 48 ∷ 48 ∷ 48 ∷ 48 ∷ 48 ∷ 48 ∷ 48 ∷ 48 ∷ 47 ∷ 48 ∷ []) ≡ accepted 0
+  -- `+1/2`: 23, by 02, wish 6
+  pub signed-position : positionOf (43 ∷ 49 ∷ 47 ∷ 50 ∷ []) ≡ (23, 0)
+  -- `100000000/0`, nine digits: 23, by 02, wish 6
+  pub nine-digits : positionOf (49 ∷ 48 ∷ 48 ∷ 48 ∷ 48 ∷ 48 ∷ 48 ∷ 48 ∷ 48 ∷ 47 ∷ 48 ∷ []) ≡ (23, 0)
   -- 41 E2 82 42 has one mark
   pub one-mark : lossyOf (0x41 ∷ 0xE2 ∷ 0x82 ∷ 0x42 ∷ []) ≡ 0x41 ∷ mark (0x42 ∷ [])
   -- ED A0 80 has three

@@ -51,7 +51,8 @@ fn scripts() -> (Vec<u8>, String) {
     (bytes, lines)
 }
 
-/// Short inputs here and there, and random ones. Lines with a text that was made lossy are no line of the program.
+/// Short inputs here and there, and random ones. Lines with a text that was made lossy are no line of the program, and a position text that is
+/// refused is no question to the Rust.
 fn leaves() -> (Vec<u8>, Vec<u8>) {
     let (mut records, mut lines) = (Vec::new(), Vec::new());
     let mut add = |kind: u8, input: &[u8]| {
@@ -59,7 +60,8 @@ fn leaves() -> (Vec<u8>, Vec<u8>) {
         put_record(kind, input, &mut record);
         let line = OriginalLeaves.answer(&record);
         let made_lossy = matches!(kind, b'f' | b'b') && line.windows(6).any(|w| w == b"efbfbd");
-        if !made_lossy {
+        let refused = kind == b'p' && model::position_of(input).is_err();
+        if !made_lossy && !refused {
             records.extend(record);
             lines.extend(line);
         }

@@ -135,7 +135,14 @@ fn position_text(draw: &mut Draw) -> Vec<u8> {
             part.push(draw.pick(b"+-"));
         }
         part.extend(vec![b'0'; if draw.once_in(6) { draw.size(30) } else { 0 }]);
-        let digits = if draw.once_in(4) { 15 + draw.size(4) } else { draw.size(10) };
+        // the lengths around 8 digits, around the 16 of 64 bits, and others
+        let digits = if draw.once_in(8) {
+            15 + draw.size(4)
+        } else if draw.once_in(4) {
+            7 + draw.size(3)
+        } else {
+            draw.size(10)
+        };
         part.extend((0..digits).map(|_| draw.pick(b"0123456789abcdefABCDEFF")));
         part
     };

@@ -91,14 +91,18 @@ fn startup(input: &[u8]) -> Vec<u8> {
     rust_leaves::write_startup(version, &pairs)
 }
 
+/// The Rust's answer to a position text that is accepted, by the second reading in vectors/. The Rust takes more texts (02, wish 6): to every other
+/// one the number that the second reading gives is the answer.
+fn parsed_position(text: &[u8]) -> Answer<u64> {
+    model::position_of(text)?;
+    rust_leaves::parse_position(text).expect("the Rust takes well-formed text alone")
+}
+
 fn original_line(record: &Record, out: &mut Vec<u8>) {
     let input = record.input;
     let written = |text: &[u8], out: &mut Vec<u8>| put_written(text, record, out);
     match record.kind {
-        b'p' => {
-            let answer = rust_leaves::parse_position(input).expect("the Rust takes well-formed text alone");
-            put_answer(answer, out, |p, out| out.extend_from_slice(rust_leaves::display_position(p).as_bytes()))
-        }
+        b'p' => put_answer(parsed_position(input), out, |p, out| out.extend_from_slice(rust_leaves::display_position(p).as_bytes())),
         b'd' => written(rust_leaves::display_position(number_at(input, 0)).as_bytes(), out),
         b'l' => written(rust_leaves::lossy(input).as_bytes(), out),
         b'e' => written(&rust_leaves::error_text(input), out),

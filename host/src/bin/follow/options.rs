@@ -180,7 +180,7 @@ fn port(name: &str, text: &str) -> Result<u16, Failure> {
 }
 
 fn position(name: &str, text: &str) -> Result<Lsn, Failure> {
-    let bad = |r| usage(format!("{name} {text}: {r}; a position looks like 16/B374D848"));
+    let bad = |r| usage(format!("{name} {text:?} is no position: {r}; one looks like 16/B374D848, two hexadecimal numbers of 1 to 8 digits"));
     Lsn::parse(text.as_bytes()).map_err(bad)
 }
 
@@ -272,6 +272,9 @@ mod tests {
             ("-S s --publication p --if-not-exists", "--create-slot"),
             ("-S s --port 0", "1 to 65535"),
             ("-S s --endpos 12", "16/B374D848"),
+            ("-S s --startpos 100000000/0", "16/B374D848"),
+            ("-S s --startpos +1/2", "before the slash is not 1 to 8"),
+            ("-S s --endpos 0/123456789", "after the slash is not 1 to 8"),
             ("-S s -s 0", "0.001"),
             ("-S s --max-message-size x", "1024"),
             ("--slot", "needs a value"),

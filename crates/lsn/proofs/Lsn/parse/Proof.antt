@@ -1,7 +1,7 @@
 -- The slash, the high part, then the low part: the first that is missing or bad gives the refusal.
 use mathlib.Core.Path.{_≡_, sym, _∙_}
 use mathlib.Core.Option.{some}
-use Prim.Native.Nat.{_+_, _<_}
+use Prim.Native.Nat.{_+_, _^_, _<_}
 use native.Mathlib.Omega.{arith}
 use lib.ListN.{length, take, length-take}
 use Rattle.wire.specs.Find.{indexOf, foundOf}
@@ -10,6 +10,7 @@ use Rattle.wire.proofs.FieldLaws.{told}
 use Rattle.wire.proofs.FindLaws.{found-below}
 use Rattle.lsn.specs.Hex.{hexPart, partOf}
 use Rattle.lsn.specs.Position.{positionOf, joined}
+use Rattle.lsn.proofs.Spelled.{part-below}
 use borrow.Author.Needs.{needs}
 use Rattle.lsn.proofs.Lsn.parse.Statement.{statement}
 use Rattle.lsn.proofs.Lsn.parse.Tie as tie
@@ -58,6 +59,19 @@ returns-3 c =
     let low = rw (tail-whole s (slash h .i .given .0 .0 + 1)) at (told partOf (c .before .before .part2 .ensures) (c .enum-told3 .given .1)) in
     simp (slash-found (slash h), high-read h, low)
 
+-- both halves stay below 2^32
+high-below : (c : tie.After-hi) → c .hi .given .0 .0 < 2 ^ 32
+high-below c = part-below _ _ (high-read c)
+
+low-below : (c : tie.After-lo) → c .lo .given .0 .0 < 2 ^ 32
+low-below c = part-below _ _ (told partOf (c .before .before .part2 .ensures) (c .lo .given .1))
+
+mul-high : tie.Need-mul-t18
+mul-high c = omega (arith, high-below (c .before .before .before .before .before .before))
+
+add-low : tie.Need-add-t19
+add-low c = omega (arith, high-below (c .before .before .before .before .before .before), low-below (c .before))
+
 returns-4 : tie.Need-returns-4
 unfolding positionOf joined
 returns-4 c =
@@ -70,4 +84,5 @@ pub parse-spec : {M : Type 1} → statement M
 parse-spec =
     tie.close
     (tie.spec (search needs) (search needs) (search needs) returns slice-aggregate-part (search needs) (search needs) (search needs)
-    returns-2 add-part sub-part part-part-start (search needs) (search needs) (search needs) (search needs) returns-3 returns-4)
+    returns-2 add-part sub-part part-part-start (search needs) (search needs) (search needs) (search needs) returns-3 mul-high add-low
+    returns-4)
