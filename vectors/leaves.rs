@@ -1,5 +1,5 @@
 //! Makes the records that the program `leaves` is run on, and the lines that it must print.
-//! Nothing here comes from the program: lossy text is String::from_utf8_lossy, Display is `{:X}`,
+//! Nothing here comes from the program: lossy text is String::from_utf8_lossy and its marks are counted with utf8_chunks, Display is `{:X}`,
 //! the rest is read off the PostgreSQL documentation in plain Rust. See README.md beside this file.
 //!
 //! Use: leaves STDIN-FILE STDOUT-FILE
@@ -41,15 +41,24 @@ impl Vectors {
         writeln!(self.lines, "{} 0 {} {} {}", kind as char, text.len(), sum(&out), hex(text)).unwrap();
     }
 
+    /// The same of a lossy text: the line ends with its marks, none where it is refused.
+    fn marked(&mut self, kind: u8, out_len: usize, fill: u8, input: &[u8], text: &[u8], marks: usize) {
+        self.writer(kind, out_len, fill, input, text);
+        let shown = if out_len < text.len() { 0 } else { marks };
+        self.lines.pop();
+        writeln!(self.lines, " {shown}").unwrap();
+    }
+
     /// One short, exact, one over, and none at all.
     fn writer_around(&mut self, kind: u8, input: &[u8], text: &[u8]) {
-        let n = text.len();
-        let mut lens = vec![0, n, n + 1];
-        if n > 0 {
-            lens.push(n - 1);
+        for (len, fill) in around(text.len()) {
+            self.writer(kind, len, fill, input, text);
         }
-        for (i, len) in lens.into_iter().enumerate() {
-            self.writer(kind, len, [0x00, 0xFF, 0x2A, 0x80][i % 4], input, text);
+    }
+
+    fn marked_around(&mut self, kind: u8, input: &[u8], text: &[u8], marks: usize) {
+        for (len, fill) in around(text.len()) {
+            self.marked(kind, len, fill, input, text, marks);
         }
     }
 
@@ -64,12 +73,12 @@ impl Vectors {
 
     fn lossy(&mut self, text: &[u8], out_len: usize, fill: u8) {
         let shown = String::from_utf8_lossy(text).into_owned();
-        self.writer(b'l', out_len, fill, text, shown.as_bytes());
+        self.marked(b'l', out_len, fill, text, shown.as_bytes(), marks(text));
     }
 
     fn lossy_around(&mut self, text: &[u8]) {
         let shown = String::from_utf8_lossy(text).into_owned();
-        self.writer_around(b'l', text, shown.as_bytes());
+        self.marked_around(b'l', text, shown.as_bytes(), marks(text));
     }
 
     fn lossy_roomy(&mut self, text: &[u8]) {
@@ -88,7 +97,9 @@ impl Vectors {
             }
         }
         writeln!(self.lines, "{line}").unwrap();
-        self.writer_around(b'e', payload, error_text(&fields).as_bytes());
+        // the texts that are shown; the words around them have no marks
+        let shown: usize = [b'M', b'C'].iter().filter_map(|letter| fields.get(letter)).map(|value| marks(value)).sum();
+        self.marked_around(b'e', payload, error_text(&fields).as_bytes(), shown);
     }
 
     fn auth(&mut self, payload: &[u8]) {
@@ -122,6 +133,20 @@ impl Vectors {
         }
         self.writer_around(b'o', &input, &text);
     }
+}
+
+/// Lengths of an output around that of a text, and the byte that fills it.
+fn around(n: usize) -> Vec<(usize, u8)> {
+    let mut lens = vec![(0, 0x00), (n, 0xFF), (n + 1, 0x2A)];
+    if n > 0 {
+        lens.push((n - 1, 0x80));
+    }
+    lens
+}
+
+/// How many parts of a text are ill-formed. U+FFFD in the text is well-formed.
+fn marks(text: &[u8]) -> usize {
+    text.utf8_chunks().filter(|chunk| !chunk.invalid().is_empty()).count()
 }
 
 const LETTERS: [u8; 15] = [b'S', b'C', b'M', b'D', b'H', b'P', b'W', b's', b't', b'c', b'd', b'n', b'F', b'L', b'R'];
@@ -220,6 +245,18 @@ fn lossy_texts(v: &mut Vectors, draw: &mut Draw) {
         for n in 0..text.len() {
             v.lossy_roomy(&text[..n]);
         }
+    }
+    // U+FFFD of the text's own, alone, twice, cut, and beside ill-formed parts
+    let own: [&[u8]; 6] = [
+        &[0xEF, 0xBF, 0xBD],
+        &[0xEF, 0xBF, 0xBD, 0xEF, 0xBF, 0xBD],
+        &[0xEF, 0xBF],
+        &[0xEF, 0xBF, 0xBD, 0xFF, 0xEF, 0xBF, 0xBD],
+        &[0xEF, 0xBF, 0xEF, 0xBF, 0xBD, 0xBD],
+        &[0xEF, 0xEF, 0xBF, 0xBD, 0xBF, 0xBD],
+    ];
+    for text in own {
+        v.lossy_around(text);
     }
     for b in 0..=255u8 {
         v.lossy_around(&[b]);
@@ -337,6 +374,13 @@ fn odd_errors(v: &mut Vectors) {
         [field(b'C', b"57P01"), vec![b'M', b'c', b'u', b't']].concat(),
         [field(b'M', b"kept"), vec![0], field(b'M', b"after the end")].concat(),
         [field(b'M', &[0xE2, 0x82]), field(b'C', &[0xFF, 0x41])].concat(),
+        // marks of the message and the code, of no other field, and of the last of a letter
+        [field(b'M', &[0xFF, 0xFF]), field(b'C', &[0xFF]), field(b'D', &[0xFF]), vec![0]].concat(),
+        [field(b'M', &[0xFF, 0xFF]), field(b'M', b"a")].concat(),
+        [field(b'C', &[0xFF]), field(b'M', b"a"), field(b'C', &[0xC2, 0xC2])].concat(),
+        [field(b'M', "\u{FFFD}".as_bytes()), field(b'C', &[0xEF, 0xBF]), field(b'H', &[0xFF])].concat(),
+        [field(b'C', &[0xE2, 0x82, 0xFF]), field(b'S', &[0xFF])].concat(),
+        [field(b'D', &[0xFF, 0xFF]), field(b'm', &[0xFF]), vec![0]].concat(),
         [field(b'M', "Übersetzung fehlt".as_bytes()), field(b'C', b"P0001"), vec![0]].concat(),
         vec![b'M'],
         vec![b'M', b'M', 0, b'M'],

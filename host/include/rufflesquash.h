@@ -25,7 +25,7 @@ extern "C" {
 #endif
 
 /* The number of this list and of the functions; it grows with every change of either. */
-#define RUFFLESQUASH_ABI 2
+#define RUFFLESQUASH_ABI 3
 
 /* Settings: intervals are nanoseconds, a flag is true unless 0. */
 #define RUFFLESQUASH_SETTINGS_WORDS 7
@@ -306,10 +306,12 @@ void rufflesquash_last_sent(const uint64_t run[RUFFLESQUASH_RUN_WORDS], uint64_t
  * the answer is at most that. */
 void rufflesquash_error_part(const uint64_t run[RUFFLESQUASH_RUN_WORDS], size_t payload_len, uint64_t part[RUFFLESQUASH_ERROR_WORDS]);
 
-/* ---- texts and positions. Each writer answers the refusal (25, 4); refused, out is as it was and written is 0. */
+/* ---- texts and positions. Each writer answers the refusal (25, 4); refused, out is as it was and written is 0. marks: how many U+FFFD were put
+ * in, one for each ill-formed part of the texts that are shown, 0 where refused; one that was in the text already is not counted. */
 
-uint64_t rufflesquash_lossy(const uint8_t *text, size_t text_len, uint8_t *out, size_t out_len, uint64_t *written);
-uint64_t rufflesquash_error_text(const uint8_t *payload, size_t payload_len, uint8_t *out, size_t out_len, uint64_t *written);
+uint64_t rufflesquash_lossy(const uint8_t *text, size_t text_len, uint8_t *out, size_t out_len, uint64_t *written, uint64_t *marks);
+uint64_t rufflesquash_error_text(const uint8_t *payload, size_t payload_len, uint8_t *out, size_t out_len, uint64_t *written,
+                                 uint64_t *marks);
 uint64_t rufflesquash_display_position(uint64_t position, uint8_t *out, size_t out_len, uint64_t *written);
 
 /* Two hexadecimal numbers of 1 to 8 digits with a slash between. Answers the refusal (22, 23, 24); refused, position is 0. */

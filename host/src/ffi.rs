@@ -8,7 +8,7 @@
 #![allow(dead_code)]
 
 // ---- the number of this list and of the functions; it grows with every change of either
-pub const ABI: u64 = 2;
+pub const ABI: u64 = 3;
 
 // ---- settings: intervals are nanoseconds, a flag is true unless 0
 pub const SETTINGS_WORDS: usize = 7;
@@ -298,9 +298,16 @@ extern "C" {
 
     pub fn rufflesquash_error_part(run: *const [u64; RUN_WORDS], payload_len: usize, part: *mut [u64; ERROR_WORDS]);
 
-    pub fn rufflesquash_lossy(text: *const u8, text_len: usize, out: *mut u8, out_len: usize, written: *mut u64) -> u64;
+    pub fn rufflesquash_lossy(text: *const u8, text_len: usize, out: *mut u8, out_len: usize, written: *mut u64, marks: *mut u64) -> u64;
 
-    pub fn rufflesquash_error_text(payload: *const u8, payload_len: usize, out: *mut u8, out_len: usize, written: *mut u64) -> u64;
+    pub fn rufflesquash_error_text(
+        payload: *const u8,
+        payload_len: usize,
+        out: *mut u8,
+        out_len: usize,
+        written: *mut u64,
+        marks: *mut u64,
+    ) -> u64;
 
     pub fn rufflesquash_display_position(position: u64, out: *mut u8, out_len: usize, written: *mut u64) -> u64;
 
@@ -373,7 +380,7 @@ pub type CellWords = [u64; CELL_WORDS];
 
 type Stepping =
     unsafe extern "C" fn(*mut RunWords, u64, i64, bool, u64, bool, *const u8, usize, *mut u8, usize, *mut u8, usize, *mut [u64; ANSWER_WORDS]);
-type Writing = unsafe extern "C" fn(*const u8, usize, *mut u8, usize, *mut u64) -> u64;
+type Showing = unsafe extern "C" fn(*const u8, usize, *mut u8, usize, *mut u64, *mut u64) -> u64;
 
 /// What a step is given beside the lent bytes.
 pub struct Given {
@@ -386,6 +393,9 @@ pub struct Given {
 
 /// A writer's answer: the refusal's number and how many bytes were written.
 pub type Written = (u64, u64);
+
+/// The same of a lossy text, and how many marks were put in.
+pub type Shown = (u64, u64, u64);
 
 #[inline]
 fn stepped(call: Stepping, run: &mut RunWords, given: &Given, unread: &[u8], payload: &mut [u8], out: &mut [u8]) -> [u64; ANSWER_WORDS] {
@@ -502,19 +512,19 @@ pub fn error_part(run: &RunWords, payload_len: usize) -> [u64; ERROR_WORDS] {
     part
 }
 
-fn written(call: Writing, from: &[u8], out: &mut [u8]) -> Written {
-    let mut written = 0;
-    // SAFETY: both slices are lent whole and do not overlap.
-    let number = unsafe { call(from.as_ptr(), from.len(), out.as_mut_ptr(), out.len(), &mut written) };
-    (number, written)
+fn shown(call: Showing, from: &[u8], out: &mut [u8]) -> Shown {
+    let (mut written, mut marks) = (0, 0);
+    // SAFETY: both slices are lent whole; they and the two numbers do not overlap.
+    let number = unsafe { call(from.as_ptr(), from.len(), out.as_mut_ptr(), out.len(), &mut written, &mut marks) };
+    (number, written, marks)
 }
 
-pub fn lossy(text: &[u8], out: &mut [u8]) -> Written {
-    written(rufflesquash_lossy, text, out)
+pub fn lossy(text: &[u8], out: &mut [u8]) -> Shown {
+    shown(rufflesquash_lossy, text, out)
 }
 
-pub fn error_text(payload: &[u8], out: &mut [u8]) -> Written {
-    written(rufflesquash_error_text, payload, out)
+pub fn error_text(payload: &[u8], out: &mut [u8]) -> Shown {
+    shown(rufflesquash_error_text, payload, out)
 }
 
 /// The refusal's number and the position.

@@ -45,21 +45,36 @@ pub const RUN_WORDS: usize = ffi::RUN_WORDS;
 /// How many words a progress cell has.
 pub const CELL_WORDS: usize = ffi::CELL_WORDS;
 
-/// Writes the text of bytes over the front of `out`, as `String::from_utf8_lossy` makes it, and answers its length.
-/// Refused (25, 4), `out` is as it was.
-pub fn lossy(text: &[u8], out: &mut [u8]) -> Result<usize, Refusal> {
-    written(ffi::lossy(text, out))
+/// A text that was written: how long it is, and how many U+FFFD were put in, one for each ill-formed part. One that was in the bytes already is
+/// not counted.
+#[derive(Clone, Copy, Debug, PartialEq, Eq)]
+pub struct Lossy {
+    /// How many bytes were written over the front of the output.
+    pub bytes: usize,
+    /// How many marks are among them.
+    pub marks: usize,
 }
 
-/// Writes the text of the error that an ErrorResponse's payload holds over the front of `out`, and answers its length.
+/// Writes the text of bytes over the front of `out`, as `String::from_utf8_lossy` makes it, and answers its length and its marks.
 /// Refused (25, 4), `out` is as it was.
-pub fn error_text(payload: &[u8], out: &mut [u8]) -> Result<usize, Refusal> {
-    written(ffi::error_text(payload, out))
+pub fn lossy(text: &[u8], out: &mut [u8]) -> Result<Lossy, Refusal> {
+    shown(ffi::lossy(text, out))
+}
+
+/// Writes the text of the error that an ErrorResponse's payload holds over the front of `out`, and answers its length and the marks of the
+/// message and the code, which are all that it shows. Refused (25, 4), `out` is as it was.
+pub fn error_text(payload: &[u8], out: &mut [u8]) -> Result<Lossy, Refusal> {
+    shown(ffi::error_text(payload, out))
 }
 
 // A writer's answer: the length that it wrote.
 fn written((number, written): ffi::Written) -> Result<usize, Refusal> {
     Refusal::checked(number).map(|()| written as usize)
+}
+
+// .. and its marks.
+fn shown((number, written, marks): ffi::Shown) -> Result<Lossy, Refusal> {
+    Refusal::checked(number).map(|()| Lossy { bytes: written as usize, marks: marks as usize })
 }
 
 // README's Rust example is a test.

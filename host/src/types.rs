@@ -213,7 +213,7 @@ pub enum Event<'a> {
         transactional: bool,
         /// Its position.
         lsn: Lsn,
-        /// Its prefix; [`crate::lossy`] makes a text of it.
+        /// Its prefix; [`crate::lossy`] makes a text of it, and counts the marks.
         prefix: &'a [u8],
         /// Its content.
         content: &'a [u8],

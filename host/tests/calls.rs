@@ -5,6 +5,8 @@ mod common;
 use common::*;
 use rufflesquash::{lossy, AuthRequest, Column, DataRow, Event, Lsn, Metrics, Moment, NextStep};
 use rufflesquash::{ProgressCell, Queue, Run, Settings, State};
+use rufflesquash::{error_text, lossy, AuthRequest, Column, DataRow, Event, Lossy, Lsn, Metrics, Moment, NextStep};
+use rufflesquash::{ProgressCell, Queue, Refusal, Run, Settings, State};
 use std::time::Duration;
 
 #[test]
@@ -163,12 +165,29 @@ fn the_next_step_is_told() {
 #[test]
 fn leaves_write_over_the_front() {
     let mut out = [FILL; 16];
-    let n = lossy(b"a\xE2\x82b", &mut out).unwrap();
+    let Lossy { bytes: n, marks } = lossy(b"a\xE2\x82b", &mut out).unwrap();
     assert_eq!(out[..n], *String::from_utf8_lossy(b"a\xE2\x82b").as_bytes());
+    assert_eq!(marks, 1);
     assert!(out[n..].iter().all(|&b| b == FILL));
     assert_eq!("16/B374D848".parse(), Ok(Lsn(0x16_B374_D848)));
     assert_eq!(Lsn(0x16_B374_D848).to_string(), "16/B374D848");
     assert_eq!(Lsn(u64::MAX).to_string(), "FFFFFFFF/FFFFFFFF");
+}
+
+#[test]
+fn marks_are_the_ill_formed_parts_that_are_shown() {
+    let mut out = [FILL; 64];
+    let mut marks = |text: &[u8]| lossy(text, &mut out).map(|shown| shown.marks);
+    assert_eq!(marks(b""), Ok(0));
+    assert_eq!(marks("caption, λόγος, żółw, \u{fffd}".as_bytes()), Ok(0));
+    assert_eq!(marks(b"\xEF\xBF\xBD\xFF\xEF\xBF\xBD"), Ok(1));
+    assert_eq!((marks(b"\xE2\x82"), marks(b"\xE2"), marks(b"\x82")), (Ok(1), Ok(1), Ok(1)));
+    let mut marks = |payload: &[u8]| error_text(payload, &mut out).map(|shown| shown.marks);
+    // The message, the code and no other field; the last of a repeated letter.
+    assert_eq!(marks(b"M\xFF\xFF\0C\xFF\0D\xFF\0\0"), Ok(3));
+    assert_eq!(marks(b"M\xFF\xFF\0Ma\0"), Ok(0));
+    assert_eq!(marks(b"C\xFF\0"), Ok(1));
+    assert_eq!(marks(b"D\xFF\0"), Ok(0));
 }
 
 #[test]

@@ -210,8 +210,16 @@ fn a_server_error_ends_a_run_in_the_stream() {
     let fed = refused_message(b'E', error, Refusal::ServerError);
     assert_eq!(fed.run.error(&fed.payload), Some(&error[..]));
     let mut text = [0; 64];
-    let n = error_text(fed.run.error(&fed.payload).unwrap(), &mut text).unwrap();
-    assert_eq!(&text[..n], b"no slot (SQLSTATE 42P01)");
+    let shown = error_text(fed.run.error(&fed.payload).unwrap(), &mut text).unwrap();
+    assert_eq!((&text[..shown.bytes], shown.marks), (&b"no slot (SQLSTATE 42P01)"[..], 0));
+}
+
+#[test]
+fn a_garbled_server_error_has_marks() {
+    let fed = refused_message(b'E', b"C\xE2\x82\0Mno \xFFslot\0D\xFF\0\0", Refusal::ServerError);
+    let mut text = [0; 64];
+    let shown = error_text(fed.run.error(&fed.payload).unwrap(), &mut text).unwrap();
+    assert_eq!((&text[..shown.bytes], shown.marks), ("no \u{fffd}slot (SQLSTATE \u{fffd})".as_bytes(), 2));
 }
 
 #[test]

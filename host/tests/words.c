@@ -681,14 +681,24 @@ static void made_up_words(void) {
 
 static void texts(void) {
     uint8_t room[64];
-    uint64_t n = 9;
+    uint64_t n = 9, marks = 9;
     memset(room, FILL, sizeof room);
-    SAME(rufflesquash_lossy((const uint8_t *)"a\xE2\x82z", 4, room, sizeof room, &n), 0);
+    SAME(rufflesquash_lossy((const uint8_t *)"a\xE2\x82z", 4, room, sizeof room, &n, &marks), 0);
     SAME(n, 5);
+    SAME(marks, 1);
     BYTES(room, "a\xEF\xBF\xBDz\xAA", 6);
-    SAME(rufflesquash_error_text((const uint8_t *)"C42P01\0Mno slot\0", 17, room, sizeof room, &n), 0);
+    SAME(rufflesquash_lossy((const uint8_t *)"\xEF\xBF\xBD", 3, room, sizeof room, &n, &marks), 0);
+    SAME(n, 3);
+    SAME(marks, 0);
+    marks = 9;
+    SAME(rufflesquash_error_text((const uint8_t *)"C42P01\0Mno slot\0", 17, room, sizeof room, &n, &marks), 0);
     SAME(n, 24);
+    SAME(marks, 0);
     BYTES(room, "no slot (SQLSTATE 42P01)\xAA", 25);
+    SAME(rufflesquash_error_text((const uint8_t *)"M\xFF\xFF\0C\xFF\0D\xFF\0", 11, room, sizeof room, &n, &marks), 0);
+    SAME(n, 21);
+    SAME(marks, 3);
+    BYTES(room, "\xEF\xBF\xBD\xEF\xBF\xBD (SQLSTATE \xEF\xBF\xBD)", 21);
     SAME(rufflesquash_display_position(0x16B374D848, room, sizeof room, &n), 0);
     SAME(n, 11);
     BYTES(room, "16/B374D848", 11);
@@ -697,18 +707,25 @@ static void texts(void) {
     BYTES(room, "FFFFFFFF/FFFFFFFF", 17);
     SAME(rufflesquash_display_position(UINT64_MAX, room, 16, &n), 4);
     SAME(n, 0);
-    SAME(rufflesquash_lossy((const uint8_t *)"abc", 3, room, 2, &n), 4);
+    n = 9, marks = 9;
+    SAME(rufflesquash_lossy((const uint8_t *)"\xFFxy", 3, room, 2, &n, &marks), 4);
     SAME(n, 0);
-    SAME(rufflesquash_error_text((const uint8_t *)"Mno slot\0", 10, room, 2, &n), 4);
+    SAME(marks, 0);
+    n = 9, marks = 9;
+    SAME(rufflesquash_error_text((const uint8_t *)"M\xFFo slot\0", 10, room, 2, &n, &marks), 4);
     SAME(n, 0);
+    SAME(marks, 0);
     BYTES(room, "FFFFFFFF/FFFFFFFF", 17);
     static uint8_t too_long[1048577];
-    n = 9;
-    SAME(rufflesquash_lossy(too_long, sizeof too_long, room, 0, &n), 25);
+    memset(too_long, 0xFF, sizeof too_long);
+    n = 9, marks = 9;
+    SAME(rufflesquash_lossy(too_long, sizeof too_long, room, 0, &n, &marks), 25);
     SAME(n, 0);
-    n = 9;
-    SAME(rufflesquash_error_text(too_long, sizeof too_long, room, 0, &n), 25);
+    SAME(marks, 0);
+    n = 9, marks = 9;
+    SAME(rufflesquash_error_text(too_long, sizeof too_long, room, 0, &n, &marks), 25);
     SAME(n, 0);
+    SAME(marks, 0);
 }
 
 static void position_texts(void) {
@@ -982,12 +999,13 @@ static void null_pointers(void) {
 }
 
 static void null_pointers_elsewhere(void) {
-    uint64_t n = 9, request[R(AUTH_WORDS)], part[R(FIELD_WORDS)], column[R(COLUMN_WORDS)], fold[R(FOLD_WORDS)], read[R(READ_WORDS)];
+    uint64_t n = 9, marks = 9, request[R(AUTH_WORDS)], part[R(FIELD_WORDS)], column[R(COLUMN_WORDS)], fold[R(FOLD_WORDS)], read[R(READ_WORDS)];
     uint64_t query[R(QUERY_WORDS)] = {0}, reader[R(READER_WORDS)] = {0};
     uint8_t room[128];
-    SAME(rufflesquash_lossy(NULL, 0, NULL, 0, &n), 0);
+    SAME(rufflesquash_lossy(NULL, 0, NULL, 0, &n, &marks), 0);
     SAME(n, 0);
-    SAME(rufflesquash_error_text(NULL, 0, NULL, 0, &n), 4);
+    SAME(marks, 0);
+    SAME(rufflesquash_error_text(NULL, 0, NULL, 0, &n, &marks), 4);
     SAME(rufflesquash_display_position(0, NULL, 0, &n), 4);
     SAME(rufflesquash_parse_position(NULL, 0, &n), 22);
     SAME(rufflesquash_write_startup(196608, NULL, 0, NULL, 0, &n), 4);

@@ -3,7 +3,7 @@
 use crate::scenario::Scenario;
 use crate::stepped::{Answer, Stepped, Steps};
 use crate::trace::{Event, Metrics, STATUS};
-use rufflesquash::{Input, Lsn, Moment, Run, Settings};
+use rufflesquash::{Input, Lossy, Lsn, Moment, Run, Settings};
 use std::time::Duration;
 
 #[derive(Default)]
@@ -19,10 +19,10 @@ pub fn side() -> Stepped<Ours> {
 }
 
 /// What one of the writers makes of a text; the longest is three bytes for one, and the words around an error's fields.
-fn written(text: &[u8], out: &mut Vec<u8>, write: impl Fn(&[u8], &mut [u8]) -> Result<usize, rufflesquash::Refusal>) -> Vec<u8> {
+fn written(text: &[u8], out: &mut Vec<u8>, write: impl Fn(&[u8], &mut [u8]) -> Result<Lossy, rufflesquash::Refusal>) -> Vec<u8> {
     out.resize(out.len().max(3 * text.len() + 64), 0);
-    let n = write(text, out).expect("the text has room");
-    out[..n].to_vec()
+    let shown = write(text, out).expect("the text has room");
+    out[..shown.bytes].to_vec()
 }
 
 impl Steps for Ours {

@@ -43,6 +43,27 @@ pub fn lossy(text: &[u8]) -> String {
     String::from_utf8_lossy(text).into_owned()
 }
 
+/// How many U+FFFD that put in. The Rust has no count: the standard library's own parts of a text are counted.
+pub fn marks(text: &[u8]) -> usize {
+    text.utf8_chunks().filter(|chunk| !chunk.invalid().is_empty()).count()
+}
+
+/// The same of an error's text: of the last message and the last code before they are made lossy, which the Rust does not keep.
+pub fn error_marks(payload: &[u8]) -> usize {
+    let (mut message, mut code) = (0, 0);
+    let mut rest = payload;
+    while let [letter @ 1.., tail @ ..] = rest {
+        let Some(end) = tail.iter().position(|b| *b == 0) else { break };
+        match letter {
+            b'M' => message = marks(&tail[..end]),
+            b'C' => code = marks(&tail[..end]),
+            _ => {}
+        }
+        rest = &tail[end + 1..];
+    }
+    message + code
+}
+
 /// In the order of the letters S C M D H P W s t c d n F L R, lossy.
 pub fn error_fields(payload: &[u8]) -> [Option<String>; 15] {
     let f = ErrorFields::parse(payload);

@@ -133,7 +133,7 @@ fn error_fields_are_parts() {
     assert_eq!(rust(b'f', b"M\xC3\0"), "f 0 n n efbfbd n n n n n n n n n n n n");
     assert_eq!(project(b'f', b"M\xC3\0"), "f 0 n n c3 n n n n n n n n n n n n");
     leaf(b'e', b"M\xC3\0", &project(b'e', b"M\xC3\0"));
-    assert!(project(b'e', b"M\xC3\0").ends_with(" efbfbd"));
+    assert!(project(b'e', b"M\xC3\0").ends_with(" efbfbd 1"));
 }
 
 /// The Rust reads its own clock: a moment is not handed to it.
@@ -276,7 +276,7 @@ fn fields(code: &str, message: &str, detail: &str) -> String {
 fn an_error_with_no_field() {
     for payload in [&b""[..], b"\0"] {
         leaf(b'f', payload, &fields("n", "n", "n"));
-        assert!(rust(b'e', payload).ends_with(&hex(b"unknown server error")), "{}", rust(b'e', payload));
+        assert!(rust(b'e', payload).ends_with(&(hex(b"unknown server error") + " 0")), "{}", rust(b'e', payload));
         leaf(b'e', payload, &project(b'e', payload));
     }
 }

@@ -1,7 +1,7 @@
 // A refusal's number, 0 for none, and a count or a position.
 ghost use mathlib.Core.Path.{_≡_};
 ghost use Rattle.error.specs.Writer.{outcome};
-ghost use Rattle.lossy.specs.Lossy.{lossyOutcome};
+ghost use Rattle.lossy.specs.Marks.{lossyOutcome};
 ghost use Rattle.lsn.specs.Position.{parseOutcome};
 ghost use Rattle.query.specs.Row.{rowOutcome};
 use error::Written;
@@ -12,6 +12,13 @@ use query::row::Row;
 pub struct Reply {
     pub refusal: u64,
     pub value: u64,
+}
+
+// A refusal's number, 0 for none, how many bytes of a text were written, and its marks.
+pub struct Shown {
+    pub refusal: u64,
+    pub written: u64,
+    pub marks: u64,
 }
 
 pub fn written_reply(w: Written) -> Reply
@@ -29,17 +36,19 @@ pub fn written_reply(w: Written) -> Reply
     }
 }
 
-pub fn lossy_reply(w: Lossy) -> Reply
-    ensures { λ r. ⌜ (r .refusal, r .value) ≡ lossyOutcome w ⌝ }
+pub fn lossy_reply(w: Lossy) -> Shown
+    ensures { λ r. ⌜ (r .refusal, r .written, r .marks) ≡ lossyOutcome w ⌝ }
 {
     match w {
-        Lossy::Wrote(n) => Reply {
+        Lossy::Wrote { bytes, marks } => Shown {
             refusal: 0,
-            value: n as u64,
+            written: bytes as u64,
+            marks: marks as u64,
         },
-        Lossy::Refused(r) => Reply {
+        Lossy::Refused(r) => Shown {
             refusal: r.number() as u64,
-            value: 0,
+            written: 0,
+            marks: 0,
         },
     }
 }

@@ -63,6 +63,10 @@ module _ {r z : Run} (pr : r ≡ z) where
 pub replied : {a b : ℕ} {x : ℕ × ℕ} {o : List ℕ} {y : (ℕ × ℕ) × List ℕ} → (a, b) ≡ x → (x, o) ≡ y → ((a, b), o) ≡ y
 replied {o = o} p e = ap (λ (x : ℕ × ℕ). (x, o)) p ∙ e
 
+-- .. of a lossy text, with its marks
+pub shown : {a b m : ℕ} {x : ℕ × ℕ × ℕ} {o : List ℕ} {y : (ℕ × ℕ × ℕ) × List ℕ} → (a, b, m) ≡ x → (x, o) ≡ y → ((a, b, m), o) ≡ y
+shown {o = o} p e = ap (λ (x : ℕ × ℕ × ℕ). (x, o)) p ∙ e
+
 -- from what opening gives; refused, the run's words are as they were
 module _ (a : Opened) {n v : ℕ} {o : List ℕ} {y : O.Opened} (e : openedBy a o ≡ y) (p : (n, v) ≡ outcome (a .written)) where
   pub opened : (before : List ℕ) {ws : List ℕ}

@@ -9,8 +9,9 @@ ghost use mathlib.Core.Path.{_≡_};
 ghost use lib.ListN.{length};
 ghost use Rattle.error.specs.Writer.{writing};
 ghost use Rattle.lossy.specs.Lossy.{lossyOf};
+ghost use Rattle.lossy.specs.Marks.{marksOf, withMarks};
 ghost use Rattle.lsn.specs.Position.{displayOf, positionOf};
-ghost use Rattle.messages.specs.ErrorText.{errorText};
+ghost use Rattle.messages.specs.ErrorText.{errorText, errorMarks};
 ghost use Rattle.messages.specs.Fields.{fieldsOf};
 ghost use Rattle.progress.specs.Progress.{cellPosition};
 ghost use Rattle.schedule.specs.NextStep.{nextStepOf};
@@ -240,23 +241,35 @@ pub extern "C" fn rufflesquash_error_part(
     *part = error_words(error, payload_len);
 }
 
-// The lossy text of bytes, such as a prefix.
+// The lossy text of bytes, such as a prefix, and how many marks were put in.
 #[no_mangle]
-pub extern "C" fn rufflesquash_lossy(text: &[u8], out: &mut [u8], written: &mut u64) -> u64
-    ensures { λ r. ⌜ ((r, now (written .exit)), now (out .exit)) ≡ writing (length (now (text .entry))) (lossyOf (now (text .entry))) (now (out .entry)) ⌝ }
+pub extern "C" fn rufflesquash_lossy(
+    text: &[u8],
+    out: &mut [u8],
+    written: &mut u64,
+    marks: &mut u64,
+) -> u64
+    ensures { λ r. ⌜ ((r, now (written .exit), now (marks .exit)), now (out .exit)) ≡ withMarks (marksOf (now (text .entry))) (writing (length (now (text .entry))) (lossyOf (now (text .entry))) (now (out .entry))) ⌝ }
 {
     let reply = lossy_reply(lossy::write_lossy(text, out));
-    *written = reply.value;
+    *written = reply.written;
+    *marks = reply.marks;
     reply.refusal
 }
 
-// The text of the error that a payload holds.
+// The text of the error that a payload holds, and how many marks were put in.
 #[no_mangle]
-pub extern "C" fn rufflesquash_error_text(payload: &[u8], out: &mut [u8], written: &mut u64) -> u64
-    ensures { λ r. ⌜ ((r, now (written .exit)), now (out .exit)) ≡ writing (length (now (payload .entry))) (errorText (fieldsOf (now (payload .entry))) (now (payload .entry))) (now (out .entry)) ⌝ }
+pub extern "C" fn rufflesquash_error_text(
+    payload: &[u8],
+    out: &mut [u8],
+    written: &mut u64,
+    marks: &mut u64,
+) -> u64
+    ensures { λ r. ⌜ ((r, now (written .exit), now (marks .exit)), now (out .exit)) ≡ withMarks (errorMarks (fieldsOf (now (payload .entry))) (now (payload .entry))) (writing (length (now (payload .entry))) (errorText (fieldsOf (now (payload .entry))) (now (payload .entry))) (now (out .entry))) ⌝ }
 {
     let reply = lossy_reply(messages::parse_error_response(payload, out));
-    *written = reply.value;
+    *written = reply.written;
+    *marks = reply.marks;
     reply.refusal
 }
 

@@ -85,7 +85,7 @@ fn text_buffer() -> [u8; 262144]
 fn error_text(line: &mut [u8], at: usize, error: &[u8]) -> usize {
     let mut text = text_buffer();
     match messages::parse_error_response(error, &mut text) {
-        Lossy::Wrote(n) => lines::part(line, at, &text, 0, n),
+        Lossy::Wrote { bytes, marks: _ } => lines::part(line, at, &text, 0, bytes),
         Lossy::Refused(_) => lines::outside(line, at),
     }
 }

@@ -2,4 +2,5 @@ pub mod Laws
 mod Table
 mod Turns
 pub mod Parts
+pub mod Marks
 pub mod Encoding

@@ -139,7 +139,7 @@ part-ill : (row rs : List Range) (s : List ℕ) → (false, rs) ≡ behindFirst 
 part-ill [] rs s e = refl
 part-ill (r ∷ row) rs s e = let z : false ≡ true = ap (λ (p : Bool × List Range). p .0) e in cc
 
-part-begun : (row rs : List Range) (b : ℕ) (s : List ℕ) (n : ℕ) → Own row b → (true, rs) ≡ behindFirst row → n ≡ matched rs s
+pub part-begun : (row rs : List Range) (b : ℕ) (s : List ℕ) (n : ℕ) → Own row b → (true, rs) ≡ behindFirst row → n ≡ matched rs s
     → partBy row (b ∷ s) ≡ partFound (record { len = 1 + n; well = eqb n (length rs) }) (b ∷ s)
 part-begun [] rs b s n o e m = let z : true ≡ false = ap (λ (p : Bool × List Range). p .0) e in cc
 part-begun (r ∷ row) rs b s n o e m =

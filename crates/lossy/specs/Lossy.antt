@@ -6,10 +6,7 @@ use mathlib.Core.List.{List, [], _∷_, _++_}
 use lib.ListN.{length, take, drop}
 use lib.Dec.{eqb}
 use Rattle.wire.specs.Bytes.{pick}
-use Rattle.error.specs.Refusal.{numberOf}
 use Rattle.lossy.specs.WellFormed.{Range, table, rowOf, matched}
-use Rattle.lossy.specs.declared.Lossy.{Lossy}
-use Rattle.lossy.specs.declared.Lossy.the-variants.{Wrote, Refused}
 
 -- a part of a text: a well-formed sequence, or a maximal ill-formed part
 pub data Part : Type 0 where
@@ -49,8 +46,3 @@ shownAll (p ∷ ps) = shown p ++ shownAll ps
 -- the lossy text of a byte string
 unfoldable pub lossyOf : List ℕ → List ℕ
 lossyOf s = shownAll (partsOf (length s) s)
-
--- what the answer says: 01's number, 0 for none, and how many bytes were written
-abbrev pub lossyOutcome : Lossy → ℕ × ℕ
-lossyOutcome (Wrote n) = (0, n)
-lossyOutcome (Refused r) = (numberOf r, 0)

@@ -137,3 +137,10 @@ pub(crate) fn shown_len(p: Part) -> usize
 {
     if p.well { p.len } else { 3 }
 }
+
+// The marks that stand for a part.
+pub(crate) fn marks(p: Part) -> usize
+    ensures { λ r. ⌜ r ≡ pick (p .well) 0 1 ⌝ }
+{
+    if p.well { 0 } else { 1 }
+}

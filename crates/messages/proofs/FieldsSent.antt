@@ -15,11 +15,13 @@ use Rattle.wire.specs.Find.{indexOf}
 use Rattle.wire.proofs.Laws.{by-test}
 use Rattle.wire.proofs.FindLaws.{found-below}
 use Rattle.lossy.specs.Lossy.{lossyOf}
+use Rattle.lossy.specs.Marks.{seen, marksOf}
+use Rattle.lossy.proofs.Marks.{marks-are-seen, seen-joined}
 use Rattle.messages.specs.declared.Field.{Field}
 use Rattle.messages.specs.Fields.{Entry, entriesOf, absent, entered, lastOf, letters, fieldsOf, named}
 use Rattle.messages.specs.FieldLayout.{encode, Sendable, Laid, said, fieldsRead}
-use Rattle.messages.specs.ErrorText.{coded, textBy, errorText}
-use Rattle.messages.specs.FieldsSent.{fifteen, either, lastValue, valueGiven, Fields-are-laid, Fields-are-sent, Field-is-within, ascii, textOf, Text-is-laid}
+use Rattle.messages.specs.ErrorText.{opened, closed, plain, coded, textBy, errorText, errorMarks}
+use Rattle.messages.specs.FieldsSent.{fifteen, either, lastValue, valueGiven, Fields-are-laid, Fields-are-sent, Field-is-within, ascii, textOf, Text-is-laid, valueMarks, Marks-are-laid, valueSeen, Text-shows-marks}
 use Rattle.messages.proofs.Laws.{unread, unread-start, unread-end, unread-zero, unread-cut, unread-field}
 use Rattle.messages.proofs.FieldLayout.{laid-is-read}
 
@@ -80,6 +82,44 @@ text-is-laid payload fs l =
     let m : Field = lastOf (code "M") absent (entriesOf payload) in
     let c : Field = lastOf (code "C") absent (entriesOf payload) in
     text-by (m .given) (c .given) (named payload m) (named payload c) ∙ rw (one-field payload fs l (code "M"), one-field payload fs l (code "C"))
+
+-- ---- its marks
+
+marks-by : (a : Bool) (s : List ℕ) → pick a (marksOf s) 0 ≡ valueMarks (pick a (some s) none)
+marks-by true s = refl
+marks-by false s = refl
+
+pub marks-are-laid : Marks-are-laid
+unfolding errorMarks fieldsOf
+marks-are-laid payload fs l =
+    let m : Field = lastOf (code "M") absent (entriesOf payload) in
+    let c : Field = lastOf (code "C") absent (entriesOf payload) in
+    rw (marks-by (m .given) (named payload m), marks-by (c .given) (named payload c), one-field payload fs l (code "M"), one-field payload fs l (code "C"))
+
+opened-seen : (s : List ℕ) → seen (opened ++ s) ≡ seen s
+unfolding seen
+opened-seen s = omega arith
+
+closed-seen : seen closed ≡ 0
+unfolding seen
+closed-seen = refl
+
+coded-seen : (a b : List ℕ) → seen (coded a b) ≡ seen a + seen b
+unfolding coded
+coded-seen a b =
+    seen-joined a 32 (drop 1 opened ++ (b ++ closed)) (omega arith)
+    ∙ rw (opened-seen (b ++ closed), seen-joined b 41 [] (omega arith), closed-seen) (omega arith)
+
+-- the text shows what the values have, and the marks
+text-seen : (m c : Option (List ℕ)) → seen (textOf m c) ≡ valueSeen m + valueSeen c + (valueMarks m + valueMarks c)
+unfolding seen ascii coded
+text-seen (some m) (some c) = coded-seen (lossyOf m) (lossyOf c) ∙ rw (marks-are-seen m, marks-are-seen c) (omega arith)
+text-seen (some m) none = rw (marks-are-seen m) (omega arith)
+text-seen none (some c) = coded-seen plain (lossyOf c) ∙ rw (marks-are-seen c) (omega arith)
+text-seen none none = refl
+
+pub text-shows-marks : Text-shows-marks
+text-shows-marks payload fs l = rw (text-is-laid payload fs l, marks-are-laid payload fs l) (text-seen (lastValue (code "M") fs) (lastValue (code "C") fs))
 
 -- ---- parts in the payload
 

@@ -2,9 +2,11 @@
 -- which of the message and the code are given, each a lossy text. SCOPE 2.5; 01, "Texts and positions".
 use mathlib.Core.Bool.{Bool, true, false}
 use mathlib.Core.List.{List, [], _∷_, _++_}
-use Prim.Native.Nat.{ℕ}
+use Prim.Native.Nat.{ℕ, _+_}
 use lib.ListN.{getD}
+use Rattle.wire.specs.Bytes.{pick}
 use Rattle.lossy.specs.Lossy.{lossyOf}
+use Rattle.lossy.specs.Marks.{marksOf}
 use Rattle.messages.specs.declared.Field.{Field}
 use Rattle.messages.specs.Fields.{absent, named}
 
@@ -41,3 +43,11 @@ errorText fields payload =
     let m : Field = getD fields 2 absent in
     let c : Field = getD fields 1 absent in
     textBy (m .given) (c .given) (named payload m) (named payload c)
+
+-- the marks of a text that is shown; a field that is not given shows none
+abbrev pub fieldMarks : List ℕ → Field → ℕ
+fieldMarks payload f = pick (f .given) (marksOf (named payload f)) 0
+
+-- the marks of the text: those of the message and of the code, the only fields that it shows (02, wish 7)
+unfoldable pub errorMarks : List Field → List ℕ → ℕ
+errorMarks fields payload = fieldMarks payload (getD fields 2 absent) + fieldMarks payload (getD fields 1 absent)

@@ -1,6 +1,6 @@
 -- The fifteen fields of an error by the layout of the payload: of every list of letters and values that is sent, the last value of each known
 -- letter. SCOPE 2.4; 01, "Texts and positions". The letters are those of the PostgreSQL documentation, "Error and Notice Message Fields".
-use mathlib.Core.Path.{_≡_}
+use mathlib.Core.Path.{_≡_, refl}
 use mathlib.Core.Bool.{Bool}
 use mathlib.Core.List.{List, [], _∷_, _++_, map}
 use mathlib.Core.Option.{Option, some, none}
@@ -10,11 +10,14 @@ use Prim.Native.String.{String, [] as empty, _∷_ as joinChar}
 use lib.ListN.{length, getD}
 use lib.Dec.{eqb}
 use Rattle.wire.specs.Bytes.{pick}
-use Rattle.lossy.specs.Lossy.{lossyOf}
+use Rattle.wire.specs.Find.{indexOf}
+use Rattle.lossy.specs.WellFormed.{table, rowOf, matched}
+use Rattle.lossy.specs.Lossy.{lossyOf, partsOf}
+use Rattle.lossy.specs.Marks.{seen, marksAll, marksOf}
 use Rattle.messages.specs.declared.Field.{Field}
-use Rattle.messages.specs.Fields.{fieldsOf, absent, named}
+use Rattle.messages.specs.Fields.{fieldsOf, entriesOf, entriesFrom, lastOf, absent, named}
 use Rattle.messages.specs.FieldLayout.{encode, Sendable, Laid}
-use Rattle.messages.specs.ErrorText.{errorText}
+use Rattle.messages.specs.ErrorText.{errorText, errorMarks}
 
 -- Severity, Code, Message, Detail, Hint, Position, Where, Schema name, Table name, Column name, Data type name, Constraint name, File, Line,
 -- Routine
@@ -69,3 +72,44 @@ textOf none none = ascii "unknown server error"
 abbrev pub Text-is-laid : Type 0
 Text-is-laid = (payload : List ℕ) (fs : List (ℕ × List ℕ)) → Laid payload fs
     → errorText (fieldsOf payload) payload ≡ textOf (lastValue (code "M") fs) (lastValue (code "C") fs)
+
+-- ---- its marks
+
+-- the marks of a value, where it is given
+abbrev pub valueMarks : Option (List ℕ) → ℕ
+valueMarks (some s) = marksOf s
+valueMarks none = 0
+
+-- the marks of an error text are those of the last value of `M` and of the last of `C`; no other field counts, nor an earlier value
+abbrev pub Marks-are-laid : Type 0
+Marks-are-laid = (payload : List ℕ) (fs : List (ℕ × List ℕ)) → Laid payload fs
+    → errorMarks (fieldsOf payload) payload ≡ valueMarks (lastValue (code "M") fs) + valueMarks (lastValue (code "C") fs)
+
+-- in how many places of a value U+FFFD stands, where it is given
+abbrev pub valueSeen : Option (List ℕ) → ℕ
+valueSeen (some s) = seen s
+valueSeen none = 0
+
+-- the error text shows U+FFFD where the values that it shows have it, and in as many places more as are counted
+abbrev pub Text-shows-marks : Type 0
+Text-shows-marks = (payload : List ℕ) (fs : List (ℕ × List ℕ)) → Laid payload fs → let m = lastValue (code "M") fs in let c = lastValue (code "C") fs in
+    seen (errorText (fieldsOf payload) payload) ≡ valueSeen m + valueSeen c + errorMarks (fieldsOf payload) payload
+
+-- the marks of a payload's error text
+abbrev pub marksShown : List ℕ → ℕ
+marksShown payload = errorMarks (fieldsOf payload) payload
+
+pub record Cases : Type 0 where
+  -- M FF FF, C FF, and D FF, which is not shown
+  pub message-and-code : marksShown (77 ∷ 0xFF ∷ 0xFF ∷ 0 ∷ 67 ∷ 0xFF ∷ 0 ∷ 68 ∷ 0xFF ∷ 0 ∷ 0 ∷ []) ≡ 3
+  -- M FF FF, and M `a`, which is the last
+  pub last-message : marksShown (77 ∷ 0xFF ∷ 0xFF ∷ 0 ∷ 77 ∷ 97 ∷ 0 ∷ []) ≡ 0
+  -- D FF alone: `unknown server error`
+  pub detail-alone : marksShown (68 ∷ 0xFF ∷ 0 ∷ []) ≡ 0
+  -- M EF BF BD
+  pub its-own-mark : marksShown (77 ∷ 0xEF ∷ 0xBF ∷ 0xBD ∷ 0 ∷ 0 ∷ []) ≡ 0
+  pub no-field : marksShown [] ≡ 0
+
+pub cases : Cases
+unfolding errorMarks fieldsOf lastOf entriesOf entriesFrom indexOf marksOf marksAll partsOf rowOf table matched
+cases = record { message-and-code = refl; last-message = refl; detail-alone = refl; its-own-mark = refl; no-field = refl }

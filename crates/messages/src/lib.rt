@@ -1,18 +1,19 @@
 // Server messages outside the copy stream: the fields of an error, its text, authentication requests.
 ghost use mathlib.Core.Path.{_≡_};
+ghost use Prim.Native.Nat.{_+_};
 ghost use lib.ListN.{length};
-ghost use lib.Dec.{leb};
 ghost use Rattle.wire.specs.Find.{indexOf, foundOf};
 ghost use Rattle.error.specs.Writer.{writing};
-ghost use Rattle.lossy.specs.Lossy.{lossyOf, lossyOutcome};
+ghost use Rattle.lossy.specs.Lossy.{lossyOf};
+ghost use Rattle.lossy.specs.Marks.{marksOf, measured, measureOf, withMarks, lossyOutcome};
 ghost use Rattle.messages.specs.Fields.{fieldsOf, indexed, replaced, named, absent, letters};
 ghost use Rattle.messages.specs.FieldsSent.{fifteen};
-ghost use Rattle.messages.specs.ErrorText.{errorText, coded};
+ghost use Rattle.messages.specs.ErrorText.{errorText, errorMarks, coded};
 ghost use Rattle.messages.specs.Auth.{authOf, authOutcome};
-use error::Counted;
 use error::INPUT_LIMIT;
 use error::Refusal;
 use lossy::Lossy;
+use lossy::Measured;
 use wire::field::I32Field;
 use wire::find::Found;
 
@@ -176,40 +177,46 @@ pub fn part(payload: &[u8], f: Field) -> &[u8]
     &payload[from..from + len]
 }
 
-// Whether the text with the code after it, both lossy, has at most so many bytes. 12 of them are neither's.
-fn has_room(text: &[u8], code: &[u8], room: usize) -> bool
-    ensures { λ r. ⌜ r ≡ leb (length (coded (lossyOf (now (text .entry))) (lossyOf (now (code .entry))))) room ⌝ }
+// The length of the text with the code after it, both lossy, where that is at most room, and the marks of both. 12 of the bytes are neither's.
+fn measure_coded(text: &[u8], code: &[u8], room: usize) -> Measured
+    ensures { λ r. ⌜ measureOf r ≡ measured room (length (coded (lossyOf (now (text .entry))) (lossyOf (now (code .entry))))) (marksOf (now (text .entry)) + marksOf (now (code .entry))) ⌝ }
 {
-    let Counted::Fits(n) = lossy::count(text, room) else {
-        return false;
+    let Measured::Fits { bytes, marks } = lossy::measure(text, room) else {
+        return Measured::Over;
     };
-    let left = room - n;
+    let left = room - bytes;
     if left < 12 {
-        return false;
+        return Measured::Over;
     }
-    match lossy::count(code, left - 12) {
-        Counted::Fits(_) => true,
-        Counted::Over => false,
+    match lossy::measure(code, left - 12) {
+        Measured::Fits {
+            bytes: more,
+            marks: also,
+        } => Measured::Fits {
+            bytes: bytes + 12 + more,
+            marks: marks + also,
+        },
+        Measured::Over => Measured::Over,
     }
 }
 
 // Writes the text with the code after it, both lossy.
 fn with_code(text: &[u8], code: &[u8], out: &mut [u8]) -> Lossy
-    ensures { λ r. ⌜ (lossyOutcome r, now (out .exit)) ≡ writing 0 (coded (lossyOf (now (text .entry))) (lossyOf (now (code .entry)))) (now (out .entry)) ⌝ }
+    ensures { λ r. ⌜ (lossyOutcome r, now (out .exit)) ≡ withMarks (marksOf (now (text .entry)) + marksOf (now (code .entry))) (writing 0 (coded (lossyOf (now (text .entry))) (lossyOf (now (code .entry)))) (now (out .entry))) ⌝ }
 {
-    if !has_room(text, code, out.len()) {
+    let Measured::Fits { bytes, marks } = measure_coded(text, code, out.len()) else {
         return Lossy::Refused(Refusal::OutputTooShort);
-    }
+    };
     let a = lossy::place(out, 0, text);
     let b = wire::store::place(out, a, b" (SQLSTATE ");
     let c = lossy::place(out, b, code);
-    let d = wire::store::place(out, c, b")");
-    Lossy::Wrote(d)
+    wire::store::place(out, c, b")");
+    Lossy::Wrote { bytes, marks }
 }
 
-// The text of an error, for people.
+// The text of an error, for people, and its marks.
 pub fn to_error_string(fields: ErrorFields, payload: &[u8], out: &mut [u8]) -> Lossy
-    ensures { λ r. ⌜ (lossyOutcome r, now (out .exit)) ≡ writing (length (now (payload .entry))) (errorText (fields .fields) (now (payload .entry))) (now (out .entry)) ⌝ }
+    ensures { λ r. ⌜ (lossyOutcome r, now (out .exit)) ≡ withMarks (errorMarks (fields .fields) (now (payload .entry))) (writing (length (now (payload .entry))) (errorText (fields .fields) (now (payload .entry))) (now (out .entry))) ⌝ }
 {
     if INPUT_LIMIT < payload.len() {
         return Lossy::Refused(Refusal::InputTooLong);
@@ -231,9 +238,9 @@ pub fn to_error_string(fields: ErrorFields, payload: &[u8], out: &mut [u8]) -> L
     lossy::write_lossy(b"unknown server error", out)
 }
 
-// The text of the error that a payload holds.
+// The text of the error that a payload holds, and its marks.
 pub fn parse_error_response(payload: &[u8], out: &mut [u8]) -> Lossy
-    ensures { λ r. ⌜ (lossyOutcome r, now (out .exit)) ≡ writing (length (now (payload .entry))) (errorText (fieldsOf (now (payload .entry))) (now (payload .entry))) (now (out .entry)) ⌝ }
+    ensures { λ r. ⌜ (lossyOutcome r, now (out .exit)) ≡ withMarks (errorMarks (fieldsOf (now (payload .entry))) (now (payload .entry))) (writing (length (now (payload .entry))) (errorText (fieldsOf (now (payload .entry))) (now (payload .entry))) (now (out .entry))) ⌝ }
 {
     let f = ErrorFields::parse(payload);
     to_error_string(f, payload, out)

@@ -25,7 +25,7 @@ pub(crate) fn written(name: &[u8], w: Written, out: &[u8]) -> bool {
 
 pub(crate) fn shown(name: &[u8], w: Lossy, out: &[u8]) -> bool {
     match w {
-        Lossy::Wrote(n) => print(name, 0, n, out),
+        Lossy::Wrote { bytes, marks: _ } => print(name, 0, bytes, out),
         Lossy::Refused(r) => print(name, r.number(), 0, out),
     }
 }

@@ -101,11 +101,15 @@ fn parsed_position(text: &[u8]) -> Answer<u64> {
 fn original_line(record: &Record, out: &mut Vec<u8>) {
     let input = record.input;
     let written = |text: &[u8], out: &mut Vec<u8>| put_written(text, record, out);
+    let marked = |text: &[u8], marks: usize, out: &mut Vec<u8>| {
+        put_written(text, record, out);
+        let _ = write!(out, " {marks}");
+    };
     match record.kind {
         b'p' => put_answer(parsed_position(input), out, |p, out| out.extend_from_slice(rust_leaves::display_position(p).as_bytes())),
         b'd' => written(rust_leaves::display_position(number_at(input, 0)).as_bytes(), out),
-        b'l' => written(rust_leaves::lossy(input).as_bytes(), out),
-        b'e' => written(&rust_leaves::error_text(input), out),
+        b'l' => marked(rust_leaves::lossy(input).as_bytes(), rust_leaves::marks(input), out),
+        b'e' => marked(&rust_leaves::error_text(input), rust_leaves::error_marks(input), out),
         b'f' => {
             out.push(b'0');
             put_columns(&rust_leaves::error_fields(input).into_iter().map(|f| f.map(String::into_bytes)).collect(), out)

@@ -11,7 +11,8 @@ use Rattle.messages.specs.declared.Field.{Field}
 use Rattle.messages.specs.Fields.{absent, named}
 use Rattle.messages.specs.ErrorText.{plain}
 use Rattle.lossy.specs.Lossy.{lossyOf}
-use Rattle.messages.proofs.Text.{answered, coded-same, plain-lossy, unknown-lossy}
+use Rattle.lossy.proofs.Laws.{marked}
+use Rattle.messages.proofs.Text.{answered, coded-same, marks-same, plain-lossy, plain-marks, unknown-lossy, unknown-marks}
 use Rattle.messages.proofs.to_error_string.Statement.{statement}
 use Rattle.messages.proofs.to_error_string.Tie as tie
 
@@ -23,7 +24,7 @@ abbrev start : tie.After-part → tie.Start
 start c = c .before .before .before .before .before .before
 
 returns : tie.Need-returns
-returns c = too-long _ _ _ (c .if1 .taken)
+returns c = marked 25 0 0 _ (too-long _ _ _ (c .if1 .taken)) refl
 
 returns-2 : tie.Need-returns-2
 returns-2 c =
@@ -32,7 +33,8 @@ returns-2 c =
     let q = t .before in
     let p = q .before .before in
     let a = start p .args in
-    answered (a .t1 .fields) (a .payload .now) _ true true 0 (omega arith) (omega arith) (q .before .if2 .taken) (t .if3 .taken) (coded-same (q .part2 .ensures) (p .part .ensures)) (w .with-code .ensures)
+    answered (a .t1 .fields) (a .payload .now) _ true true 0 (omega arith) (omega arith) (q .before .if2 .taken) (t .if3 .taken) (coded-same (q .part2 .ensures) (p .part .ensures))
+    (marks-same (q .part2 .ensures) (p .part .ensures)) (w .with-code .ensures)
 
 returns-3 : tie.Need-returns-3
 returns-3 c =
@@ -41,7 +43,8 @@ returns-3 c =
     let q = t .before in
     let a = start (q .before .before) .args in
     let l : length (q .part2 .result .now) ≤ length (a .payload .now) = rw (q .part2 .ensures) (named-within (a .payload .now) (getD (a .t1 .fields) 2 absent)) in
-    answered (a .t1 .fields) (a .payload .now) _ true false _ (omega arith) (omega arith) (q .before .if2 .taken) (t .if3 .left) (ap lossyOf (q .part2 .ensures)) (w .write-lossy .ensures)
+    answered (a .t1 .fields) (a .payload .now) _ true false _ (omega arith) (omega arith) (q .before .if2 .taken) (t .if3 .left) (ap lossyOf (q .part2 .ensures))
+    (rw (q .part2 .ensures) (omega arith)) (w .write-lossy .ensures)
 
 returns-4 : tie.Need-returns-4
 returns-4 c =
@@ -49,14 +52,15 @@ returns-4 c =
     let t = w .before .before .before in
     let p = t .before .before in
     let a = start p .args in
-    answered (a .t1 .fields) (a .payload .now) _ false true 0 (omega arith) (omega arith) (t .before .if2 .left) (t .if4 .taken) (coded-same {a = plain} refl (p .part .ensures) ∙ rw plain-lossy) (w .with-code2 .ensures)
+    answered (a .t1 .fields) (a .payload .now) _ false true 0 (omega arith) (omega arith) (t .before .if2 .left) (t .if4 .taken) (coded-same {a = plain} refl (p .part .ensures) ∙ rw plain-lossy)
+    (marks-same {a = plain} refl (p .part .ensures) ∙ rw plain-marks) (w .with-code2 .ensures)
 
 returns-5 : tie.Need-returns-5
 returns-5 c =
     let w = c .before .before in
     let t = w .before .before .before in
     let a = start (t .before .before) .args in
-    answered (a .t1 .fields) (a .payload .now) _ false false 20 (omega arith) (omega arith) (t .before .if2 .left) (t .if4 .left) unknown-lossy (w .write-lossy2 .ensures)
+    answered (a .t1 .fields) (a .payload .now) _ false false 20 (omega arith) (omega arith) (t .before .if2 .left) (t .if4 .left) unknown-lossy unknown-marks (w .write-lossy2 .ensures)
 
 pub to-error-string-spec : {M : Type 1} → statement M
 to-error-string-spec =

@@ -70,10 +70,18 @@ impl fmt::Display for Failure {
     }
 }
 
+// With the marks that were put in, where there are any.
 fn server_text(payload: &[u8]) -> String {
     let mut text = vec![0; payload.len() * 3 + 64];
     match rufflesquash::error_text(payload, &mut text) {
-        Ok(n) => String::from_utf8_lossy(&text[..n]).into_owned(),
+        Ok(shown) => {
+            let text = String::from_utf8_lossy(&text[..shown.bytes]).into_owned();
+            if shown.marks == 0 {
+                text
+            } else {
+                format!("{text}, marks {}", shown.marks)
+            }
+        }
         Err(refusal) => format!("an error whose text cannot be shown: {refusal}"),
     }
 }
@@ -81,4 +89,17 @@ fn server_text(payload: &[u8]) -> String {
 /// The SQLSTATE of an ErrorResponse's payload, or nothing.
 pub fn sqlstate(payload: &[u8]) -> &[u8] {
     error_field(payload, ErrorField::Code).unwrap_or(b"")
+}
+
+#[cfg(test)]
+mod tests {
+    use super::*;
+
+    #[test]
+    fn marks_of_a_servers_text() {
+        let line = |payload: &[u8]| Failure::server(payload).line;
+        assert_eq!(line(b"Mno slot\0CXX000\0D\xFF\0\0"), "the server says: no slot (SQLSTATE XX000)");
+        assert_eq!(line(b"Ma\xFF\xFF\0C\xFF\0D\xFF\0\0"), "the server says: a\u{fffd}\u{fffd} (SQLSTATE \u{fffd}), marks 3");
+        assert_eq!(line("M\u{fffd}\0\0".as_bytes()), "the server says: \u{fffd}");
+    }
 }

@@ -76,7 +76,12 @@ impl Item {
             }
             Item::Message { transactional, lsn, prefix, content } => {
                 let kind = if *transactional { "transactional" } else { "immediate" };
-                format!("message {lsn} {kind} {} {}", quoted(prefix), quoted(content))
+                let (prefix, content) = (Quoted::of(prefix), Quoted::of(content));
+                let marks = match prefix.marks + content.marks {
+                    0 => String::new(),
+                    n => format!(" marks {n}"),
+                };
+                format!("message {lsn} {kind} {} {}{marks}", prefix.text, content.text)
             }
             Item::Data { start, data, .. } => {
                 format!("data {start} {} {} bytes", kind(data), data.len())
@@ -93,7 +98,8 @@ impl Item {
             Item::Begin { final_lsn, time, xid } => ("begin", format!(r#""final_lsn":"{final_lsn}","time":"{}","xid":{xid}"#, date(*time))),
             Item::Commit { lsn, end_lsn, time } => ("commit", format!(r#""lsn":"{lsn}","end_lsn":"{end_lsn}","time":"{}""#, date(*time))),
             Item::Message { transactional, lsn, prefix, content } => {
-                ("message", format!(r#""transactional":{transactional},"lsn":"{lsn}","prefix":{},"content":"{}""#, quoted(prefix), hex(content)))
+                let (Quoted { text, marks }, content) = (Quoted::of(prefix), hex(content));
+                ("message", format!(r#""transactional":{transactional},"lsn":"{lsn}","prefix":{text},"marks":{marks},"content":"{content}""#))
             }
             Item::Data { start, end, time, data } => (
                 "data",
@@ -130,19 +136,36 @@ fn hex(bytes: &[u8]) -> String {
     text
 }
 
-// The lossy text of bytes as a JSON string.
-fn quoted(bytes: &[u8]) -> String {
-    let mut text = String::from("\"");
-    for c in String::from_utf8_lossy(bytes).chars() {
-        match c {
-            '"' => text.push_str("\\\""),
-            '\\' => text.push_str("\\\\"),
-            '\n' => text.push_str("\\n"),
-            c if c < ' ' || c == '\x7f' => write!(text, "\\u{:04x}", c as u32).expect("a string takes all"),
-            c => text.push(c),
+// The lossy text of bytes as a JSON string, and its marks.
+struct Quoted {
+    text: String,
+    marks: usize,
+}
+
+impl Quoted {
+    fn of(bytes: &[u8]) -> Quoted {
+        let (lossy, marks) = lossy(bytes);
+        let mut text = String::from("\"");
+        for c in lossy.chars() {
+            match c {
+                '"' => text.push_str("\\\""),
+                '\\' => text.push_str("\\\\"),
+                '\n' => text.push_str("\\n"),
+                c if c < ' ' || c == '\x7f' => write!(text, "\\u{:04x}", c as u32).expect("a string takes all"),
+                c => text.push(c),
+            }
         }
+        Quoted { text: text + "\"", marks }
     }
-    text + "\""
+}
+
+// The proved writer takes a megabyte; of a longer text the standard library makes the same.
+fn lossy(bytes: &[u8]) -> (String, usize) {
+    let mut text = vec![0; bytes.len() * 3];
+    match rufflesquash::lossy(bytes, &mut text) {
+        Ok(shown) => (String::from_utf8_lossy(&text[..shown.bytes]).into_owned(), shown.marks),
+        Err(_) => (String::from_utf8_lossy(bytes).into_owned(), bytes.utf8_chunks().filter(|chunk| !chunk.invalid().is_empty()).count()),
+    }
 }
 
 // Microseconds from 2000-01-01 as a date of the Gregorian calendar, UTC.
@@ -189,7 +212,21 @@ mod tests {
         let message = Item::of(Event::Message { transactional: true, lsn: Lsn(1), prefix: b"a\"\n\x01\xff", content: b"\x00\xfe" }).unwrap();
         assert_eq!(
             message.json(),
-            "{\"event\":\"message\",\"transactional\":true,\"lsn\":\"0/1\",\"prefix\":\"a\\\"\\n\\u0001\u{fffd}\",\"content\":\"00fe\"}"
+            "{\"event\":\"message\",\"transactional\":true,\"lsn\":\"0/1\",\"prefix\":\"a\\\"\\n\\u0001\u{fffd}\",\"marks\":1,\"content\":\"00fe\"}"
         );
+        // The content is shown on this line alone.
+        assert_eq!(message.text(), "message 0/1 transactional \"a\\\"\\n\\u0001\u{fffd}\" \"\\u0000\u{fffd}\" marks 2");
+        // U+FFFD of the text's own is no mark.
+        let own = Item::of(Event::Message { transactional: false, lsn: Lsn(1), prefix: "\u{fffd}".as_bytes(), content: b"" }).unwrap();
+        assert_eq!(own.text(), "message 0/1 immediate \"\u{fffd}\" \"\"");
+        assert!(own.json().contains("\"marks\":0"));
+    }
+
+    #[test]
+    fn marks_of_a_text_above_a_megabyte() {
+        for n in [1_048_576, 1_048_577] {
+            let (text, marks) = lossy(&[&vec![b'a'; n - 2][..], b"\xFF\xC2"].concat());
+            assert_eq!((text.len(), marks), (n + 4, 2));
+        }
     }
 }
