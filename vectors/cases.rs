@@ -23,6 +23,7 @@ pub fn all(add: Add) {
     wait_refusals(add);
     handlings(add);
     handling_refusals(add);
+    copy_dones(add);
     offers(add);
     stall_times(add);
     stopped_at(add);
@@ -407,6 +408,57 @@ fn handling_refusals(add: Add) {
         add(&s);
         let mut s = waiting(&[&message, &keepalive(1, 1, 1)]);
         s.steps(&[at(1), at(2).full(), at(3)]);
+        add(&s);
+    }
+}
+
+/// The server's CopyDone: from draining and waiting alike, with nothing else looked at, and the run's last call.
+fn copy_dones(add: Add) {
+    let done = framed(b'c', b"");
+    let ways = [at(2), at(2).stop(), at(2).full(), at(2).closed(), at(2).closed().stop(), at(9_000), at(9_000).full().stop(), at(2).unread(0), at(2).ended()];
+    for way in ways {
+        // after the event of a message before it, which waits for the queue
+        let mut s = offered(&[&keepalive(0x70, 0, 0), &done, &keepalive(1, 1, 1)]);
+        s.step(at(1).full()).report(0x75, 1).steps(&[at(1).full(), at(1), at(1), at(1), way.clone(), at(9_001), at(9_002)]).report(0x99, 3);
+        add(&s);
+        // read in a wait: the step that makes it whole does not end the run
+        let mut s = waiting(&[&done, &keepalive(1, 1, 1)]);
+        s.report(0x75, 1).steps(&[at(1).unread(0), at(1), at(1), at(1), way.clone(), at(9_001), at(9_002)]);
+        add(&s);
+        let mut s = waiting(&[&done, &keepalive(1, 1, 1)]);
+        s.steps(&[at(1).unread(2), at(1).unread(3), at(1).room(38), at(0), way, at(9_001)]);
+        add(&s);
+    }
+    // with a payload: any, and the longest; cut in each place; over the limit, a length below 4, unfinished at the input's end
+    for n in [0, 3, 100] {
+        for first in [1, 4, 5] {
+            let mut s = waiting(&[&framed(b'c', &vec![b'k'; n]), &keepalive(1, 1, 1)]);
+            s.steps(&[at(2).unread(first), at(2), at(2), at(2), at(3)]);
+            add(&s);
+        }
+        let mut s = Script::new(&[&framed(b'c', &vec![b'k'; n])]);
+        s.steps(&[at(1), at(1), at(1).unread(5), at(2).ended(), at(3), at(3)]);
+        add(&s);
+    }
+    for header in [[b'c', 0, 0, 0, 3], [b'c', 0xFF, 0xFF, 0xFF, 0xFF], [b'c', 0, 0, 0, 105]] {
+        for made in [Script::new, waiting] {
+            let mut s = made(&[&header, &done]);
+            s.steps(&[at(1), at(1), at(1), at(1), at(1)]);
+            add(&s);
+        }
+    }
+    // in Opening it is skipped; after the `W` it is not
+    let mut s = Script::opened(&[&done, &both(), &keepalive(0x20, 5, 0), &framed(b'c', b"abc")]);
+    s.steps(&[at(1), at(1), at(1), at(1), at(1), at(1), at(1), at(1), at(1), at(1), at(1), at(1)]);
+    add(&s);
+    let mut s = Script::opened(&[&framed(b'c', b"abc"), &done]);
+    s.steps(&[at(1), at(1).stop(), at(1).ended(), at(1)]);
+    add(&s);
+    // before a stop position that the next message would reach, and behind one that was reached
+    for messages in [[done.clone(), data(1, 0x200, 3, b"I")], [data(1, 0x200, 3, b"I"), done.clone()]] {
+        let mut s = Script::new(&[&messages[0], &messages[1]]);
+        s.settings.stop_at = Some(0x100);
+        s.steps(&[at(1), at(1), at(1), at(1), at(1), at(1), at(1)]);
         add(&s);
     }
 }

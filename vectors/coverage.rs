@@ -70,6 +70,13 @@ const ROWS: &[&str] = &[
     "Handling: Message",
     "Handling: other data",
     "Handling: refusal 19",
+    "Handling: CopyDone, drained",
+    "Handling: CopyDone, read in a wait",
+    "Handling: CopyDone, stop",
+    "Handling: CopyDone, queue full",
+    "Handling: CopyDone, queue closed",
+    "Handling: CopyDone, interval passed",
+    "Handling: CopyDone, position above the last sent",
     "back to drain",
     "back to turn",
 ];

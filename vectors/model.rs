@@ -489,9 +489,27 @@ impl Run {
         }
     }
 
+    /// Where the server's CopyDone was read, and what could have been looked at and is not.
+    fn note_copy_done(&self, input: &Input) {
+        seen(if self.from_wait { "Handling: CopyDone, read in a wait" } else { "Handling: CopyDone, drained" });
+        let ignored = [
+            ("stop", input.stop),
+            ("queue full", matches!(input.queue, Queue::Full)),
+            ("queue closed", matches!(input.queue, Queue::Closed)),
+            ("interval passed", self.due(input.moment)),
+            ("position above the last sent", self.sent.as_ref().is_none_or(|sent| self.position > sent.position)),
+        ];
+        ignored.iter().filter(|test| test.1).for_each(|test| seen(&format!("Handling: CopyDone, {}", test.0)));
+    }
+
     fn handling(&mut self, call: &mut Call) -> Result<(), u8> {
         match self.tag {
             b'E' => return Err(19),
+            b'c' => {
+                self.note_copy_done(call.input);
+                self.copy_done(call);
+                return Ok(());
+            }
             b'd' => {}
             _ => {
                 seen("Handling: skipped");

@@ -22,8 +22,11 @@ fn main() -> Result<(), Refusal> {
         if let Some(event) = step.event {
             show(event);
         }
-        if let Some(refusal) = step.refusal {
-            println!("END {}: {refusal}", refusal.number());
+        match step.refusal {
+            Some(refusal) => println!("END {}: {refusal}", refusal.number()),
+            // No stop is asked for here: the server's CopyDone.
+            None if run.state() == State::Ended => println!("END 0"),
+            None => {}
         }
     }
     Ok(())

@@ -272,7 +272,8 @@ uint64_t rufflesquash_already_open(const uint64_t settings[RUFFLESQUASH_SETTINGS
  *   MESSAGE     transactional, lsn, the prefix's place in payload, its length, the content's place, its length
  *   XLOG_DATA   wal_start, wal_end, server_time, the data's place in payload, its length
  *   STOPPED_AT  reached
- * Times are two's complement, microseconds from 2000-01-01. Numbers that a kind does not have are 0. */
+ * Times are two's complement, microseconds from 2000-01-01. Numbers that a kind does not have are 0. Without a refusal a run ends at a stop
+ * request, at its stop position, or at the server's CopyDone; it has then written its own. */
 void rufflesquash_step(uint64_t run[RUFFLESQUASH_RUN_WORDS], uint64_t moment, int64_t client_time, bool stop, uint64_t queue, bool ended,
                        const uint8_t *unread, size_t unread_len, uint8_t *payload, size_t payload_len, uint8_t *out, size_t out_len,
                        uint64_t answer[RUFFLESQUASH_ANSWER_WORDS]);

@@ -597,7 +597,10 @@ pub fn write_startup(version: i32, texts: &[&[u8]], out: &mut [u8]) -> Written {
 }
 
 pub fn write_query(text: &[u8], out: &mut [u8]) -> Written {
-    written(rufflesquash_write_query, text, out)
+    let mut written = 0;
+    // SAFETY: both slices are lent whole and do not overlap.
+    let number = unsafe { rufflesquash_write_query(text.as_ptr(), text.len(), out.as_mut_ptr(), out.len(), &mut written) };
+    (number, written)
 }
 
 pub fn write_copy_done(out: &mut [u8]) -> Written {

@@ -157,7 +157,8 @@ pub enum State {
     Handling,
     /// An event is offered to the queue.
     Offering,
-    /// No further step is accepted.
+    /// No further step is accepted. Without a refusal a run ends at a stop request, at its stop position, or at the server's CopyDone; it has
+    /// then written its own.
     Ended,
 }
 

@@ -15,7 +15,8 @@ impl Draw {
             10..=29 => xlog_data(a, b, c, &begin(a, c, b as u32)),
             30..=49 => xlog_data(a, b, c, &commit(a, b, c)),
             50..=59 => xlog_data(a, b, c, &logical(1, a, b"p", 2, b"xy")),
-            60..=64 => message(b'N', &self.bytes(40)),
+            60..=63 => message(b'N', &self.bytes(40)),
+            64 => message(b'c', &self.bytes(3)),
             _ => xlog_data(a, b, c, &[b"I".to_vec(), self.bytes(60)].concat()),
         };
         if self.below(200) == 0 {

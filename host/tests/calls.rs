@@ -138,6 +138,26 @@ fn the_stop_position_ends_a_run_with_an_event() {
 }
 
 #[test]
+fn the_servers_copy_done_is_answered_in_kind() {
+    for payload in [&b""[..], b"abc"] {
+        let bytes = [keepalive(0x30, 1, 0), message(b'c', payload), keepalive(0x40, 1, 0)].concat();
+        let mut fed = Fed::reading(&bytes);
+        let mut events = 0;
+        while fed.run.state() != State::Ended {
+            let before = fed.run.metrics();
+            let answer = fed.step();
+            events += answer.event.is_some() as u64;
+            if fed.run.state() == State::Ended {
+                assert_eq!((answer.refusal, answer.taken, answer.written, answer.event), (None, 0, 5, None));
+                assert_eq!((&fed.out[..5], fed.run.metrics()), (&b"c\0\0\0\x04"[..], before));
+            }
+        }
+        assert_eq!((events, fed.run.error(&fed.payload)), (1, None));
+        assert_eq!(fed.step().refusal, Some(Refusal::RunEnded));
+    }
+}
+
+#[test]
 fn a_stop_request_writes_copy_done() {
     let mut fed = Fed::reading(b"");
     fed.events();

@@ -2,25 +2,56 @@
 
 use crate::scenario::{Happening, Round, Scenario};
 use crate::side::Side;
-use crate::trace::{print_line, print_metrics, Trace};
+use crate::trace::{print_line, print_metrics, Line, Trace};
 use std::panic::{catch_unwind, AssertUnwindSafe};
 use std::time::{Duration, Instant};
 
 /// Plays a scenario on both; the client times of the first are handed to the second. None where the traces are equal, as far as the second
-/// tells that the scenario is inside the domain of the comparison.
+/// tells that the scenario is inside the domain of the comparison. Where the second ends at the server's CopyDone, which the Rust skips, they are
+/// compared up to that message.
 pub fn compare(first: &mut dyn Side, second: &mut dyn Side, scenario: &Scenario) -> Option<String> {
     let (a, b) = match play(first, second, scenario) {
         Ok(traces) => traces,
         Err(broken) => return Some(broken),
     };
-    let same = match b.outside {
-        Some(lines) => a.lines.get(..lines) == Some(&b.lines[..lines]),
-        None => a == b,
+    if let Some(wrong) = wrong_end(scenario, &b) {
+        return Some(format!("{}: {wrong}", second.name()));
+    }
+    let same = match (b.outside, &b.done) {
+        (Some(lines), _) => a.lines.get(..lines) == Some(&b.lines[..lines]),
+        (_, Some(done)) => {
+            a.lines.get(..done.lines) == Some(&b.lines[..done.lines]) && a.metrics.get(..done.rounds) == Some(&b.metrics[..done.rounds])
+        }
+        _ => a.lines == b.lines && a.metrics == b.metrics,
     };
     if same {
         return None;
     }
     Some(difference(first.name(), &a, second.name(), &b))
+}
+
+/// The Rust says nothing of the server's CopyDone. A side that goes step by step must have ended there where it took the whole message, and
+/// nowhere else, with its own CopyDone as the last thing that it did.
+fn wrong_end(scenario: &Scenario, b: &Trace) -> Option<String> {
+    let due = copy_done_in(scenario).filter(|end| *end <= b.taken);
+    let ended = b.done.as_ref().map(|_| b.taken);
+    if due != ended {
+        return Some(format!("the server's CopyDone ends after byte {due:?}, and the run ended at one after byte {ended:?}"));
+    }
+    let done = b.done.as_ref()?;
+    let last: Vec<&Line> = b.lines[done.lines..].iter().map(|(_, line)| line).collect();
+    let wanted = [&Line::Write(b"c\0\0\0\x04".to_vec()), &Line::End(0, Vec::new())];
+    (last != wanted).then(|| format!("the answer to the server's CopyDone is {last:?}"))
+}
+
+/// Where the first CopyDone after the opening ends, counted from the stream's first byte.
+fn copy_done_in(scenario: &Scenario) -> Option<usize> {
+    let bytes: Vec<u8> = pieces(scenario).flatten().copied().collect();
+    let mut messages = messages_of(scenario).into_iter();
+    if !scenario.open {
+        messages.find(|(from, _)| bytes[*from] == b'W')?;
+    }
+    messages.find(|(from, _)| bytes[*from] == b'c').map(|(_, end)| end)
 }
 
 fn play(first: &mut dyn Side, second: &mut dyn Side, scenario: &Scenario) -> Result<(Trace, Trace), String> {

@@ -9,6 +9,8 @@ pub struct Coverage {
     reached: HashMap<&'static str, u64>,
     refusals: HashMap<String, u64>,
     stalled: bool,
+    /// The last whole message was read in a wait.
+    in_wait: bool,
 }
 
 const ROWS: &[&str] = &[
@@ -54,6 +56,12 @@ const ROWS: &[&str] = &[
     "Waiting: stays, bytes taken",
     "Handling: skipped, to drain",
     "Handling: skipped, to turn",
+    "Handling: CopyDone, drained",
+    "Handling: CopyDone, read in a wait",
+    "Handling: CopyDone, stop seen",
+    "Handling: CopyDone, queue full",
+    "Handling: CopyDone, queue closed",
+    "Handling: CopyDone, status interval up",
     "Handling: event",
     "Handling: event, reply written",
     "Offering: first try, free",
@@ -104,7 +112,10 @@ impl Coverage {
     }
 
     pub fn step(&mut self, before: State, input: &Input, unread: &[u8], answer: &Answer, up: Up) {
-        self.times(before, answer, up);
+        self.times(before, answer, &up);
+        if answer.state == State::Handling && before != State::Handling {
+            self.in_wait = before == State::Waiting;
+        }
         if answer.refusal != 0 {
             *self.refusals.entry(refusal(before, answer.refusal)).or_insert(0) += 1;
             return;
@@ -123,6 +134,7 @@ impl Coverage {
             State::Reading if answer.state == State::Handling => self.seen("Reading: whole"),
             State::Reading => self.seen(if input.stop { "Reading: unfinished, stop seen" } else { "Reading: unfinished" }),
             State::Waiting => self.waiting(!unread.is_empty(), input.ended, answer, status),
+            State::Handling if answer.state == State::Ended => self.copy_done(input, &up),
             State::Handling => {
                 self.stalled = false;
                 self.seen(match answer.state {
@@ -137,7 +149,7 @@ impl Coverage {
         }
     }
 
-    fn times(&mut self, before: State, answer: &Answer, up: Up) {
+    fn times(&mut self, before: State, answer: &Answer, up: &Up) {
         let status = answer.written.len() == crate::trace::STATUS;
         let found = match (before, answer.state) {
             (State::Reading, State::Reading) if up.status => "Reading: unfinished, status interval up",
@@ -154,6 +166,18 @@ impl Coverage {
             _ => return,
         };
         self.seen(found);
+    }
+
+    /// The server's CopyDone, and what could have been looked at and is not.
+    fn copy_done(&mut self, input: &Input, up: &Up) {
+        self.seen(if self.in_wait { "Handling: CopyDone, read in a wait" } else { "Handling: CopyDone, drained" });
+        let ignored = [
+            ("Handling: CopyDone, stop seen", input.stop),
+            ("Handling: CopyDone, queue full", input.queue == Queue::Full),
+            ("Handling: CopyDone, queue closed", input.queue == Queue::Closed),
+            ("Handling: CopyDone, status interval up", up.status),
+        ];
+        ignored.into_iter().filter(|test| test.1).for_each(|test| self.seen(test.0));
     }
 
     fn drain(&mut self, stop: bool, unread: usize, answer: &Answer) {

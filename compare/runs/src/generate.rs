@@ -80,7 +80,13 @@ fn error(draw: &mut Draw) -> Vec<u8> {
 
 fn skipped(draw: &mut Draw) -> Vec<u8> {
     let payload = if draw.once_in(2) { Vec::new() } else { some_bytes(draw) };
-    framed(draw.pick(b"NSKCcZDTHGWRA1\0\xFF"), &payload)
+    framed(draw.pick(b"NSKCZDTHGWRA1\0\xFF"), &payload)
+}
+
+/// The server's CopyDone, now and then with a payload.
+fn copy_done(draw: &mut Draw) -> Vec<u8> {
+    let payload = if draw.once_in(2) { Vec::new() } else { some_bytes(draw) };
+    framed(b'c', &payload)
 }
 
 fn good(draw: &mut Draw) -> Vec<u8> {
@@ -189,6 +195,11 @@ fn messages(draw: &mut Draw, limit: u64) -> Vec<Vec<u8>> {
         let place = draw.size(all.len() + 1);
         all.insert(place, bad);
     }
+    if draw.once_in(3) {
+        let done = copy_done(draw);
+        let place = draw.size(all.len() + 1);
+        all.insert(place, done);
+    }
     if draw.once_in(10) && !all.is_empty() {
         let place = draw.size(all.len());
         all[place] = damaged(draw, all[place].clone());
@@ -199,7 +210,7 @@ fn messages(draw: &mut Draw, limit: u64) -> Vec<Vec<u8>> {
 /// What the server says before `W`, and `W` or what stands in its place.
 fn opening(draw: &mut Draw, limit: u64) -> Vec<Vec<u8>> {
     let within = |m: &Vec<u8>| m.len() as u64 <= limit + 5;
-    let mut all: Vec<Vec<u8>> = (0..draw.below(4)).map(|_| skipped(draw)).filter(|m| m[0] != b'W' && within(m)).collect();
+    let mut all: Vec<Vec<u8>> = (0..draw.below(4)).map(|_| if draw.once_in(3) { copy_done(draw) } else { skipped(draw) }).filter(|m| m[0] != b'W' && within(m)).collect();
     let last = match draw.below(16) {
         0 => error(draw),
         1 => headed(draw.pick(b"WNE"), draw.pick(&[3, 0, -1, i32::MIN]), &[]),
@@ -451,7 +462,11 @@ fn long_drain(draw: &mut Draw, mut s: Scenario) -> Scenario {
 
 /// A few messages, cut once: nowhere, in a header, after one, after a message or inside another.
 fn cut_once(draw: &mut Draw) -> [Option<Happening>; 2] {
-    let all: Vec<Vec<u8>> = (0..1 + draw.size(4)).map(|_| good(draw)).collect();
+    let mut all: Vec<Vec<u8>> = (0..1 + draw.size(4)).map(|_| good(draw)).collect();
+    if draw.once_in(4) {
+        let place = draw.size(all.len());
+        all[place] = copy_done(draw);
+    }
     let mut whole = all.concat();
     let first = all[0].len();
     let cut = draw.pick(&[0, 0, 1, 4, 5, 6, first, first + 1, first + 4, first + 5, first + 6, whole.len()]).min(whole.len());

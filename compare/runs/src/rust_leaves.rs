@@ -52,7 +52,7 @@ pub fn marks(text: &[u8]) -> usize {
 pub fn error_marks(payload: &[u8]) -> usize {
     let (mut message, mut code) = (0, 0);
     let mut rest = payload;
-    while let [letter @ 1.., tail @ ..] = rest {
+    while let [letter @ 1..=u8::MAX, tail @ ..] = rest {
         let Some(end) = tail.iter().position(|b| *b == 0) else { break };
         match letter {
             b'M' => message = marks(&tail[..end]),

@@ -4,7 +4,7 @@
 use crate::coverage::{Coverage, Up};
 use crate::scenario::{Happening, Scenario};
 use crate::side::Side;
-use crate::trace::{Event, Line, Metrics, Trace};
+use crate::trace::{Done, Event, Line, Metrics, Trace};
 use rufflesquash::{Input, Moment, Queue, State};
 use std::collections::VecDeque;
 
@@ -50,6 +50,8 @@ pub struct Stepped<R: Steps> {
     pub steps: u64,
     /// Scenarios that left the domain of the comparison.
     pub outside: u64,
+    /// Scenarios that the server's CopyDone ended.
+    pub done: u64,
 }
 
 /// What the host of a run keeps beside it.
@@ -104,13 +106,14 @@ impl<R: Steps> Side for Stepped<R> {
             host.trace.metrics.push(self.run.metrics());
         }
         self.outside += host.trace.outside.is_some() as u64;
+        self.done += host.trace.done.is_some() as u64;
         host.trace
     }
 }
 
 impl<R: Steps + Default> Stepped<R> {
     pub fn new(name: &'static str) -> Self {
-        Stepped { name, run: R::default(), coverage: Coverage::default(), steps: 0, outside: 0 }
+        Stepped { name, run: R::default(), coverage: Coverage::default(), steps: 0, outside: 0, done: 0 }
     }
 }
 
@@ -287,6 +290,10 @@ impl<'a> Host<'a> {
     fn take_in(&mut self, answer: Answer) {
         let now = self.now;
         self.held.drain(..answer.taken);
+        self.trace.taken += answer.taken;
+        if self.state == State::Handling && answer.state == State::Ended && answer.refusal == 0 {
+            self.trace.done = Some(Done { lines: self.trace.lines.len(), rounds: self.trace.metrics.len() });
+        }
         // Of a step's doings the event comes first, save in the answer to a keepalive, where it is a later step's.
         if let Some(event) = answer.event {
             self.queued += 1;

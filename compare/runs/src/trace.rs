@@ -30,6 +30,17 @@ pub struct Trace {
     /// Where the scenario left the domain of the comparison: a report came, or time passed, inside a step that would have had to see it. How
     /// many lines there were before the step.
     pub outside: Option<usize>,
+    /// Where the server's CopyDone ended the run: the Rust goes on there.
+    pub done: Option<Done>,
+    /// How many of the server's bytes were taken, by a side that goes step by step.
+    pub taken: usize,
+}
+
+/// How many lines there were before the answer to the server's CopyDone, and how many rounds were over.
+#[derive(Clone, Debug, PartialEq)]
+pub struct Done {
+    pub lines: usize,
+    pub rounds: usize,
 }
 
 pub const STATUS: usize = 39;

@@ -8,13 +8,13 @@ use runs::original::{Copied, Original};
 use runs::ours;
 use runs::scenario::{Happening, Scenario};
 use runs::side::Side;
-use runs::trace::{Event, Line, Trace};
+use runs::trace::{Done, Event, Line, Trace};
 use std::time::Duration;
 
-/// The Rust with its traces changed.
-struct Changed(Copied, fn(&mut Trace));
+/// A side with its traces changed.
+struct Changed<S: Side>(S, fn(&mut Trace));
 
-impl Side for Changed {
+impl<S: Side> Side for Changed<S> {
     fn name(&self) -> &'static str {
         "changed"
     }
@@ -33,7 +33,11 @@ fn size(s: &Scenario) -> usize {
 
 /// The smallest scenario that shows the change.
 fn found(change: fn(&mut Trace)) -> Scenario {
-    let (mut first, mut second) = (Original::default(), Changed(Copied::default(), change));
+    found_in(Copied::default(), change)
+}
+
+fn found_in(side: impl Side, change: fn(&mut Trace)) -> Scenario {
+    let (mut first, mut second) = (Original::default(), Changed(side, change));
     for seed in 1..20_000 {
         let s = scenario(seed);
         if compare(&mut first, &mut second, &s).is_some() {
@@ -121,6 +125,37 @@ fn a_waiting_time_is_compared() {
 fn a_changed_moment_is_compared() {
     let small = found(|trace| trace.lines.iter_mut().for_each(|(at, _)| *at = (*at).min(40)));
     assert!(size(&small) <= 6, "{}", small.print());
+}
+
+#[test]
+fn a_copy_done_of_the_server_that_is_skipped_is_shown_by_itself() {
+    let small = found_in(modelled::side(), |trace| {
+        if let Some(done) = trace.done.take() {
+            trace.lines.truncate(done.lines);
+        }
+    });
+    // One round with the message's five bytes.
+    assert_eq!(size(&small), 6, "{}", small.print());
+}
+
+#[test]
+fn another_answer_to_the_servers_copy_done_is_shown() {
+    let small = found_in(modelled::side(), |trace| {
+        if let Some(done) = &trace.done {
+            trace.lines.remove(done.lines);
+        }
+    });
+    assert_eq!(size(&small), 6, "{}", small.print());
+}
+
+#[test]
+fn an_end_at_another_message_is_shown() {
+    let small = found_in(modelled::side(), |trace| {
+        if trace.done.is_none() && trace.end() == Some(0) {
+            trace.done = Some(Done { lines: trace.lines.len() - 2, rounds: 0 });
+        }
+    });
+    assert!(size(&small) <= 7, "{}", small.print());
 }
 
 /// Misses the slash after a lone plus sign.

@@ -258,6 +258,18 @@ fn a_text_that_is_no_utf8() {
     assert!(out[..n].windows(8).any(|w| w == b"SLOT \xFF L"));
 }
 
+/// Compared up to that message; before `W` both skip it.
+#[test]
+fn the_servers_copy_done() {
+    let text = format!("at 0\nbytes 6300000004\nat 0\n{}", bytes(&keepalive(0, 0, 0)));
+    let (a, b) = apart(&text, Original::default());
+    assert_eq!(told(&a), "0 status 00 reply 0; 0 event K 0/0 0 0");
+    assert_eq!(told(&b), "0 status 00 reply 0; 0 done; 0 end 0");
+    assert_eq!(told(&alike(&text)), told(&a));
+    let opening = alike("run opened\nat 0\nbytes 63000000045700000004\nat 0\nstop\n");
+    assert!(told(&opening).ends_with("; 0 status 00 reply 0; 0 done; 0 end 0"), "{}", told(&opening));
+}
+
 // ---- between the Rust and the PostgreSQL documentation: the project follows the Rust
 
 #[test]
@@ -359,12 +371,6 @@ fn lengths_and_numbers_of_columns_below_0() {
 fn the_answer_to_a_keepalive_asks_itself() {
     let trace = alike(&format!("at 0\n{}", bytes(&keepalive(0, 0, 1))));
     assert_eq!(told(&trace), "0 status 00 reply 0; 0 status 00 reply 1; 0 event K 0/0 0 1");
-}
-
-#[test]
-fn the_servers_copy_done_is_skipped() {
-    let trace = alike(&format!("at 0\nbytes 6300000004\nat 0\n{}", bytes(&keepalive(0, 0, 0))));
-    assert_eq!(told(&trace), "0 status 00 reply 0; 0 event K 0/0 0 0");
 }
 
 #[test]

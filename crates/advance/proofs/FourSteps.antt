@@ -40,7 +40,7 @@ use Rattle.worker.specs.Run.{lsn, wholeOf, run, withState, withReader, withDrai
 use Rattle.worker.specs.Step.{Outcome, Lent, handing, moved, having, isEnded, badMoment, reaches, readingBy, readingOf, drainOf, givenOf, copyDataBy, handlingOf, firstBy, offeringOf, offers, offersAt, isStoppedAt, stepIn, stepOf}
 use Rattle.advance.specs.declared.at_hand.AtHand.{AtHand}
 use Rattle.advance.specs.Advance.{tells, lentAfter, after, twice, advanceOf}
-use Rattle.advance.specs.AtHand.{atHand, within, wholeAt, byGiven, byCopyData, copyDataAtHand, atHandOf, isDrain, isFree, isBetween, hasRoom, appliesOf, handedRun, handedOf, Hands-on-at-once}
+use Rattle.advance.specs.AtHand.{atHand, within, wholeAt, byGiven, byCopyData, copyDataAtHand, atHandOf, isDrain, isFree, isBetween, hasRoom, appliesOf, handedRun, handedOf, Hands-on-at-once, Others-are-left}
 
 -- ---- tests
 
@@ -398,3 +398,13 @@ applies-room r m q p o a h =
     let l : a .len ≤ limit = ltb-false _ _ (fits .0) in
     let n : a .len ≡ 0 → ⊥ = eqb-false _ _ (x .0) in
     (omega arith, omega arith)
+
+-- ---- all other messages
+
+no-length : (u : List ℕ) → isCopyData (getD u 0 0) ≡ false → wholeAt u ≡ 0
+unfolding wholeAt
+no-length u h = by-test (ltb (length u) 30) (λ a. rw a) (λ a. rw (a, h))
+
+pub others-are-left : Others-are-left
+unfolding atHandOf
+others-are-left u h = rw (no-length u h)

@@ -128,3 +128,7 @@ Hands-on-at-once =
     (r : Run) (i : Input) (u p o : List ℕ)
     → appliesOf r (i .moment) (i .queue) (length p) (length o) (atHandOf u) ≡ true
     → advanceOf r i (lent u p o) ≡ handedOf r (i .moment) (atHandOf u) u p o
+
+-- a message that is no CopyData, the server's CopyDone among them, is left to the steps one by one
+abbrev pub Others-are-left : Type 0
+Others-are-left = (u : List ℕ) → isCopyData (getD u 0 0) ≡ false → atHandOf u ≡ nothing

@@ -15,6 +15,7 @@ use Rattle.wire.specs.Bytes.{pick, put}
 use Rattle.wire.proofs.Laws.{by-test}
 use Rattle.stream.specs.Cut.{Item, message, Cut, cutOf}
 use Rattle.stream.specs.Cut.{refused as bad}
+use Rattle.stream.specs.Tag.{isCopyBothResponse}
 use Rattle.stream.proofs.Laws.{cut-nothing}
 use Rattle.framing.specs.declared.MessageReader.{MessageReader}
 use Rattle.framing.specs.Read.{more, whole, refused, fresh, Result, limitOf, readOf}
@@ -29,9 +30,10 @@ use Rattle.worker.specs.declared.Whole.{Whole}
 use Rattle.worker.specs.declared.Offer.{Offer}
 use Rattle.worker.specs.Run.{wholeOf}
 use Rattle.claims.specs.Happened.{Happened}
-use Rattle.claims.specs.Plain.{Msg, Observation, wholeOnes, spanOf, takenOf, isRefusedEarly}
+use Rattle.claims.specs.Plain.{Msg, Observation, wholeOnes, hasOpened, spanOf, takenOf, isRefusedEarly}
 use Rattle.claims.specs.Begins.{isClosed, NoneClosed}
 use Rattle.worker.specs.Step.{refusedWith}
+use Rattle.worker.specs.Streaming.{isCopyDone}
 use Rattle.claims.specs.Trace.{Setup, boundsOf}
 use Rattle.claims.specs.Table.{lastOr, lastMessage}
 use Rattle.claims.specs.Calls.{Played, stepped, lentTo}
@@ -55,6 +57,47 @@ tell i n k = record { stop = i .stop; queue = i .queue; refusal = n; taken = k }
 abbrev pub message-of : Whole → List ℕ → Msg
 message-of w p = (w .tag, take (w .len) p)
 
+-- ---- what holds of the whole messages and of the accepted steps since the last was whole, whatever queue closes
+
+abbrev pub Standing : Type 1
+Standing = List Msg → List Observation → Type 0
+
+-- a run in Opening: no `W` is among the messages
+abbrev pub NotOpened : Bool → Standing
+NotOpened opening ms ws = (opening ≡ true) × (hasOpened ms ≡ false)
+
+-- the last message was handled, where it is a `c`: a step was accepted since
+abbrev pub NoneDone : Standing
+NoneDone ms ws = ws ≡ [] → isCopyDone (lastOr (0, []) ms .0) ≡ false
+
+-- nothing is asked
+abbrev pub Anyhow : Standing
+Anyhow ms ws = Unit
+
+-- a list with one more at its end is not empty
+pub some-since : {A : Type 0} (ws : List Observation) (x : Observation) → ws ++ (x ∷ []) ≡ [] → A
+some-since ws x e =
+    let l : length (ws ++ (x ∷ [])) ≡ length ws + 1 = length-append ws (x ∷ []) in
+    let k : length (ws ++ (x ∷ [])) ≡ 0 = ap (λ (y : List Observation). length y) e in
+    absurd (omega arith)
+
+pub none-done-grown : (ms : List Msg) (ws : List Observation) (x : Observation) → NoneDone ms ws → NoneDone ms (grown x ws)
+none-done-grown ms ws x h = by (isRefusedEarly (x .refusal))
+  where
+    by : (b : Bool) → pick b ws (ws ++ (x ∷ [])) ≡ [] → isCopyDone (lastOr (0, []) ms .0) ≡ false
+    by true e = h e
+    by false e = some-since ws x e
+
+pub opened-more : (ms : List Msg) (m : Msg) → hasOpened ms ≡ false → isCopyBothResponse (m .0) ≡ false → hasOpened (ms ++ (m ∷ [])) ≡ false
+unfolding hasOpened
+opened-more [] m h c = simp c
+opened-more (n ∷ ms) m h c = by (isCopyBothResponse (n .0)) (λ e. opened-more ms m e c) h
+  where
+    by : (b : Bool) → (hasOpened ms ≡ false → hasOpened (ms ++ (m ∷ [])) ≡ false) → pick b true (hasOpened ms) ≡ false
+        → pick b true (hasOpened (ms ++ (m ∷ []))) ≡ false
+    by true f e = e
+    by false f e = f e
+
 module _ (s : Setup) where
   abbrev pub limit : ℕ
   limit = limitOf (s .settings .«max_message_size»)
@@ -76,11 +119,12 @@ module _ (s : Setup) where
     pub items : cut-at t .items ≡ itemsOf ms
     pub account : Account limit (s .bytes) t ts ms ws
 
-  -- the events stand as C says, while no queue has closed
-  pub record Runs (C : Course) (rd : MessageReader) (p : List ℕ) (t : ℕ) (ts : List Observation) (es : List Happened) : Type 0 where
+  -- the messages stand as A says, and the events as C says while no queue has closed
+  pub record Runs (A : Standing) (C : Course) (rd : MessageReader) (p : List ℕ) (t : ℕ) (ts : List Observation) (es : List Happened) : Type 0 where
     pub ms : List Msg
     pub ws : List Observation
     pub base : Base rd p t ts ms ws
+    pub always : A ms ws
     pub course : NoneClosed ts → C ms ws es
 
   -- the last message is to be handled: no step was accepted since it was whole
@@ -98,20 +142,20 @@ module _ (s : Setup) where
     pub course : NoneClosed ts → Over stop (s .opening) ms ws es
 
   abbrev pub Goings : MessageReader → List ℕ → ℕ → List Observation → List Happened → Type 0
-  Goings = Runs (Going stop (s .opening))
+  Goings = Runs NoneDone (Going stop (s .opening))
 
   -- the message that an offered event is of
   abbrev pub last-at : ℕ → Msg
   last-at t = lastMessage limit (take t (s .bytes))
 
   abbrev ByState : State → MessageReader → Whole → Offer → List ℕ → ℕ → List Observation → List Happened → Type 0
-  ByState Opening rd w o p t ts es = Runs (Before stop (s .opening)) rd p t ts es
+  ByState Opening rd w o p t ts es = Runs (NotOpened (s .opening)) (Before stop (s .opening)) rd p t ts es
   ByState Turn rd w o p t ts es = Goings rd p t ts es
   ByState Drain rd w o p t ts es = Goings rd p t ts es
   ByState Reading rd w o p t ts es = Goings rd p t ts es
   ByState Waiting rd w o p t ts es = Goings rd p t ts es
   ByState Handling rd w o p t ts es = Holds w rd p t ts es
-  ByState Offering rd w o p t ts es = Runs (Offers stop (s .opening) o p) rd p t ts es × Tied stop o p (last-at t)
+  ByState Offering rd w o p t ts es = Runs Anyhow (Offers stop (s .opening) o p) rd p t ts es × Tied stop o p (last-at t)
   ByState Ended rd w o p t ts es = Ends t ts es
 
   -- .. of what calls have left
@@ -136,8 +180,8 @@ module _ {s : Setup} where
   -- a message that waits to be handled, as one after the others
   abbrev pub with-held : {w : Whole} {rd : MessageReader} {p : List ℕ} {t : ℕ} {ts : List Observation} {es : List Happened}
       → (h : Holds s w rd p t ts es)
-      → Runs s (λ ms ws es. Held (stop s) (s .opening) (h .ms) es) rd p t ts es
-  with-held {w} {rd} {p} h = record { ms = h .ms ++ (message-of w p ∷ []); ws = []; base = h .base; course = h .course }
+      → Runs s Anyhow (λ ms ws es. Held (stop s) (s .opening) (h .ms) es) rd p t ts es
+  with-held {w} {rd} {p} h = record { ms = h .ms ++ (message-of w p ∷ []); ws = []; base = h .base; always = tt; course = h .course }
 
   -- ---- a step that takes no byte, and is refused with k (0 for none)
 
@@ -155,15 +199,16 @@ module _ {s : Setup} where
           account = no-more (limit s) (s .bytes) (tell i k 0) refl (b .account);
         }
 
-    module _ {C : Course} {es : List Happened} (b : Runs s C rd p t ts es) where
-      pub still : {D : Course} {fs : List Happened}
+    module _ {A : Standing} {C : Course} {es : List Happened} (b : Runs s A C rd p t ts es) where
+      pub still : {B : Standing} {D : Course} {fs : List Happened} → (A (b .ms) (b .ws) → B (b .ms) (grown (tell i k 0) (b .ws)))
           → (isClosed (i .queue) ≡ false → C (b .ms) (b .ws) es → D (b .ms) (grown (tell i k 0) (b .ws)) fs)
-          → Runs s D rd p (t + 0) (ts ++ (tell i k 0 ∷ [])) fs
-      still f =
+          → Runs s B D rd p (t + 0) (ts ++ (tell i k 0 ∷ [])) fs
+      still g f =
           record {
             ms = b .ms;
             ws = grown (tell i k 0) (b .ws);
             base = base-still (b .base);
+            always = g (b .always);
             course = λ q. let a = closed-before ts (tell i k 0) q in f (a .1) (b .course (a .0));
           }
 
@@ -180,7 +225,7 @@ module _ {s : Setup} where
 
     module _ {es : List Happened} (b : Goings s rd p t ts es) where
       pub goes-still : Goings s rd p (t + 0) (ts ++ (tell i k 0 ∷ [])) (es ++ [])
-      goes-still = still b (λ q. going-on _ _ (tell i k 0))
+      goes-still = still b (none-done-grown (b .ms) (b .ws) (tell i k 0)) (λ q. going-on _ _ (tell i k 0))
 
       pub goes-over : Ends s (t + 0) (ts ++ (tell i k 0 ∷ [])) (es ++ [])
       goes-over = still-ends b (λ q. going-over _ _ (tell i k 0))
@@ -292,8 +337,8 @@ module _ {s : Setup} where
           (A.one-more (limit s) (s .bytes) t ts ms ns ws now (b .account) o (span-now tag k h) (some-taken tag k h))
 
   -- .. by a state that reads: x is what was read
-  module _ {C : Course} {rd : MessageReader} {p : List ℕ} {t : ℕ} {ts : List Observation} {es : List Happened} (b : Runs s C rd p t ts es) (n : ℕ)
-      (i : Input) (x : Result) (hx : readOf (s .settings .«max_message_size») rd (take n (drop t (s .bytes))) (i .ended) p ≡ x) (r : ℕ) where
+  module _ {A : Standing} {C : Course} {rd : MessageReader} {p : List ℕ} {t : ℕ} {ts : List Observation} {es : List Happened}
+      (b : Runs s A C rd p t ts es) (n : ℕ) (i : Input) (x : Result) (hx : readOf (s .settings .«max_message_size») rd (take n (drop t (s .bytes))) (i .ended) p ≡ x) (r : ℕ) where
     abbrev told : List Observation
     told = ts ++ (tell i r (x .2) ∷ [])
 
@@ -314,9 +359,17 @@ module _ {s : Setup} where
     whole-last tag k h = rw (whole-base tag k h .items, whole-items) (last-one (0, []) (tag, take k (x .3)) (b .ms))
 
     module _ {fs : List Happened} where
-      pub read-more : {D : Course} → x .0 ≡ more → (C (b .ms) (b .ws) es → D (b .ms) (grown (tell i r (x .2)) (b .ws)) fs)
-          → Runs s D (x .1) (x .3) (t + x .2) told fs
-      read-more h f = record { ms = b .ms; ws = _; base = rw hx at (base-more (b .base) n (i .ended) i r) h; course = λ q. f (before q) }
+      pub read-more : {B : Standing} {D : Course} → x .0 ≡ more → (A (b .ms) (b .ws) → B (b .ms) (grown (tell i r (x .2)) (b .ws)))
+          → (C (b .ms) (b .ws) es → D (b .ms) (grown (tell i r (x .2)) (b .ws)) fs)
+          → Runs s B D (x .1) (x .3) (t + x .2) told fs
+      read-more h g f =
+          record {
+            ms = b .ms;
+            ws = grown (tell i r (x .2)) (b .ws);
+            base = rw hx at (base-more (b .base) n (i .ended) i r) h;
+            always = g (b .always);
+            course = λ q. f (before q);
+          }
 
       pub read-refused : (k : ℕ) → x .0 ≡ refused k → (C (b .ms) (b .ws) es → Over (stop s) (s .opening) (b .ms) (grown (tell i r (x .2)) (b .ws)) fs)
           → Ends s (t + x .2) told fs
@@ -324,8 +377,9 @@ module _ {s : Setup} where
           record { ms = b .ms; ws = _; account = rw hx at (account-refused (b .base) n (i .ended) i r k) h; course = λ q. f (before q) }
 
       module _ (tag k : ℕ) (h : x .0 ≡ whole tag k) where
-        pub read-whole : {D : Course} → (C (b .ms) (b .ws) es → D (one tag k) [] fs) → Runs s D (x .1) (x .3) (t + x .2) told fs
-        read-whole f = record { ms = one tag k; ws = []; base = whole-base tag k h; course = λ q. f (before q) }
+        pub read-whole : {B : Standing} {D : Course} → (A (b .ms) (b .ws) → B (one tag k) []) → (C (b .ms) (b .ws) es → D (one tag k) [] fs)
+            → Runs s B D (x .1) (x .3) (t + x .2) told fs
+        read-whole g f = record { ms = one tag k; ws = []; base = whole-base tag k h; always = g (b .always); course = λ q. f (before q) }
 
         pub read-holds : (w : Bool) → (C (b .ms) (b .ws) es → Held (stop s) (s .opening) (b .ms) fs)
             → Holds s (wholeOf tag k w) (x .1) (x .3) (t + x .2) told fs
@@ -360,7 +414,7 @@ module _ (s : Setup) (z : Played) (i : Input) (n : ℕ) (out : List ℕ) (k : �
   earlier f q = f (closed-before (z .observed) (tell i k 0) q .0)
 
   placed-still : (x : State) → Placed s x z → Placed s x refused-so
-  placed-still Opening b = still i k b (λ q a. rw (early, append-nil (z .events)) a)
+  placed-still Opening b = still i k b (λ o. o) (λ q a. rw (early, append-nil (z .events)) a)
   placed-still Turn b = goes-still i k b
   placed-still Drain b = goes-still i k b
   placed-still Reading b = goes-still i k b
@@ -368,7 +422,7 @@ module _ (s : Setup) (z : Played) (i : Input) (n : ℕ) (out : List ℕ) (k : �
   placed-still Handling h =
       record { ms = h .ms; base = rw early at (base-still i k (h .base)); full = h .full; course = rw append-nil (earlier (h .course)) }
   placed-still Offering b =
-      (still i k (b .0) (λ q a. rw (early, append-nil (z .events)) a), tied-still s (z .run .offer) (z .payload) (z .taken) (b .1))
+      (still i k (b .0) (λ o. tt) (λ q a. rw (early, append-nil (z .events)) a), tied-still s (z .run .offer) (z .payload) (z .taken) (b .1))
   placed-still Ended o =
       record {
         ms = o .ms;

@@ -23,10 +23,10 @@ use Rattle.worker.specs.Step.{Lent, Outcome, badMoment, isEnded, refusedWith, s
 use Rattle.worker.specs.Opening.{reportOf}
 use Rattle.worker.specs.Events as E
 use Rattle.claims.specs.Happened.{Happened, happenedOf}
-use Rattle.claims.specs.Plain.{Observation, isRefusedEarly, given, takenOf}
+use Rattle.claims.specs.Plain.{Observation, isRefusedEarly, hasOpened, given, takenOf}
 use Rattle.claims.specs.Trace.{Setup, Trace, a-step, a-report, nothing, Response, stateAfter, takenBy, handedBy, observationsOf}
 use Rattle.claims.specs.Calls.{Beginning, isOpening, startOf, Call, step, report, Played, stepped, lentTo, playOne, playAll, begun, played, setupOf}
-use Rattle.claims.specs.Table.{respond, stepResponse, responseOf, isBadMoment}
+use Rattle.claims.specs.Table.{respond, lastOr, stepResponse, responseOf, isBadMoment}
 use Rattle.claims.specs.Refused.{unchanged}
 use Rattle.claims.specs.Traced.{Answers, Follows, traceOne, traceAll, traceOf}
 use Rattle.claims.proofs.Answers.{refused-answers}
@@ -190,14 +190,15 @@ first-agrees s = by (s .opening)
 -- with a payload buffer as long as the limit
 first-placed : (s : Setup) (p : List ℕ) (b : Bool) → s .opening ≡ b → limit s ≤ length p → limit s ≤ s .room
     → Placed s (first-state b) (begun (freshRun (s .settings) (first-state b) (s .start)) p)
-unfolding freshRun given
+unfolding freshRun given hasOpened lastOr
 first-placed s p true e h k =
-    record { ms = []; ws = []; base = no-base p h k; course = λ q. record { begun = e; none = refl; yet = λ ns. rw e refl } }
+    record { ms = []; ws = []; base = no-base p h k; always = (e, refl); course = λ q. record { begun = e; none = refl; yet = λ ns. rw e refl } }
 first-placed s p false e h k =
     record {
       ms = [];
       ws = [];
       base = no-base p h k;
+      always = λ o. refl;
       course = λ q. record { all = rw e refl; goes = λ ns. rw e refl; settled = λ us. rw e (nothing-offered false (drop 1 us)) };
     }
 

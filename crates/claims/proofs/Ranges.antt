@@ -29,6 +29,7 @@ use Rattle.worker.specs.declared.Queue.the-variants.{Free, Full, Closed}
 use Rattle.worker.specs.declared.State.{State}
 use Rattle.worker.specs.declared.State.the-variants.{Opening, Turn, Drain, Reading, Waiting, Handling, Offering, Ended}
 use Rattle.worker.specs.Rows.{both, unless}
+use Rattle.worker.specs.Streaming.{isCopyDone}
 use Rattle.worker.specs.Step.{isEnded}
 use Rattle.claims.specs.Happened.{Happened}
 use Rattle.claims.specs.Plain.{Msg, isRefusedEarly, byQueue}
@@ -182,8 +183,9 @@ copy-late p (C.refused n) h = not-early n h
 handling-late : (h : Trace) (m : Msg) → Late (handlingResponse h m)
 handling-late h m =
     late-either (isError (m .0)) (refuses 19) _ refl
+    (late-either (isCopyDone (m .0)) (writes done Ended) _ refl
     (late-either (isCopyData (m .0)) (copyDataResponse (m .1) (copyDataOf (m .1))) (enters (backOf h))
-    (copy-late (m .1) (copyDataOf (m .1)) (copy-in (m .1))) refl)
+    (copy-late (m .1) (copyDataOf (m .1)) (copy-in (m .1))) refl))
 
 module _ (s : Setup) (h : Trace) (i : Input) (b u : List ℕ) where
   drain-late : Late (tableOf Drain s h i b u)

@@ -44,6 +44,7 @@ use Rattle.worker.specs.declared.Event.the-variants.{Nothing, KeepAlive, Stoppe
 use Rattle.worker.specs.declared.Run.{Run}
 use Rattle.worker.specs.Run.{lsn, clock, wholeOf, offer, withState, withReader, withClock, withDrained, withWhole, withOffer, withMetrics, accepted}
 use Rattle.worker.specs.Rows.{both, unless}
+use Rattle.worker.specs.Streaming.{isCopyDone}
 use Rattle.worker.specs.Step.{Lent, Outcome, boundaryBy, copyDataBy, doneWith, drainOf, endedWith, firstBy, handing, handlingOf, having, idleOf, intervalPassed, isReadable, isStoppedAt, moved, nextEvent, offeringOf, offers, openingBy, openingOf, reaches, readBy, readingBy, readingOf, stalledBy, stalledOf, stalls, stepIn, statusDue, feedbackOf, turnOf, waitedBy, waitingBy, waitingOf}
 use Rattle.worker.specs.Events as E
 use Rattle.claims.specs.Happened.{Happened, happenedOf, Parts}
@@ -62,11 +63,19 @@ use Rattle.claims.proofs.Course.{Course, Before, Going, Offers, Tied, g
 use Rattle.claims.proofs.Facts.{Facts, factsBy, factsOf, takes, with-status, confirmed-facts, at-moment, with-drained, with-wait, with-read, with-tries, with-end, with-reply, passing, stalling, gone-by, Agrees}
 use Rattle.claims.proofs.Spans.{whole-items}
 use Rattle.claims.proofs.Ranges.{InRead, told-in, InCopy, copy-in, InBoundary, boundary-in, never-nineteen, none-nineteen}
-use Rattle.claims.proofs.Invariant.{last-one, whole-held, whole-last, Runs, Holds, Ends, Placed, Invariant, tell, limit, stop, last-at, with-held, tied-still, still, still-ends, goes-still, goes-over, read-more, read-whole, read-holds, read-refused, read-last}
+use Rattle.claims.proofs.Invariant.{Standing, NotOpened, NoneDone, Anyhow, some-since, none-done-grown, opened-more, last-one, whole-held, whole-last, Runs, Holds, Ends, Placed, Invariant, tell, limit, stop, last-at, with-held, tied-still, still, still-ends, goes-still, goes-over, read-more, read-whole, read-holds, read-refused, read-last}
 
 -- an `E` is no `d`
 error-is-none : (tag : ℕ) → isError tag ≡ true → isCopyData tag ≡ false
 error-is-none tag h = let e : tag ≡ 69 = eqb-true tag 69 h in rw e refl
+
+-- a `W` is no `c`
+both-is-none : (tag : ℕ) → isCopyBothResponse tag ≡ true → isCopyDone tag ≡ false
+both-is-none tag h = let e : tag ≡ 87 = eqb-true tag 87 h in rw e refl
+
+-- nor is a `c` a `d`
+done-is-none : (tag : ℕ) → isCopyDone tag ≡ true → isCopyData tag ≡ false
+done-is-none tag h = let e : tag ≡ 99 = eqb-true tag 99 h in rw e refl
 
 -- the stop position is reached, as the plain reading and as the step test it
 reaching-is : (has : Bool) (z position : ℕ) (e : Happened)
@@ -141,11 +150,11 @@ module _ (s : Setup) (trace : Trace) (z : Played) (i : Input) (n : ℕ) (out : L
   status-if false a b = b
 
   -- where the reader and the events stand before the step, and after one that takes no byte
-  abbrev Here : Course → Type 0
-  Here C = Runs s C (r .reader) p (z .taken) (z .observed) (z .events)
+  abbrev Here : Standing → Course → Type 0
+  Here A C = Runs s A C (r .reader) p (z .taken) (z .observed) (z .events)
 
-  abbrev There : Course → Type 0
-  There C = Runs s C (r .reader) p (z .taken + 0) (z .observed ++ (tell i 0 0 ∷ [])) (z .events ++ [])
+  abbrev There : Standing → Course → Type 0
+  There A C = Runs s A C (r .reader) p (z .taken + 0) (z .observed ++ (tell i 0 0 ∷ [])) (z .events ++ [])
 
   -- the events of all messages are handed on
   abbrev AllHanded : Course
@@ -211,12 +220,12 @@ module _ (s : Setup) (trace : Trace) (z : Played) (i : Input) (n : ℕ) (out : L
     AfterRead from o y = Agreed from y o × Placed s (y .entered) (stepped z i (having (x .2) (x .3) o))
 
     -- the reader's answer is a, to which the table responds y
-    took : {C : Course} {from : State} {f : R.Said → Response} {o : Outcome} → Here C → (a : R.Said) → x .0 ≡ a → (y : Response) → f a ≡ y
+    took : {A : Standing} {C : Course} {from : State} {f : R.Said → Response} {o : Outcome} → Here A C → (a : R.Said) → x .0 ≡ a → (y : Response) → f a ≡ y
         → o .event ≡ E.nothing → (InRead a → y .refusal ≡ 19 → (y .entered ≡ Ended) × Shows (last-at s (z .taken + x .2) .1) (o .run) (x .3))
         → Answered y o → Agreed from y o
         → Placed s (y .entered) (stepped z i (having (x .2) (x .3) o)) → Read from f o
     unfolding factsOf
-    took {C} {from} {f} {o} b a h y hy hn fl an ag pl =
+    took {A} {C} {from} {f} {o} b a h y hy hn fl an ag pl =
         let w : Reads (limit s) taken (l .unread) (i .ended) p x =
         rw same-read at (read-is-cut (s .settings .«max_message_size») taken (l .unread) (i .ended) (r .reader) p (b .base .room) (b .base .stands))
         in
@@ -246,7 +255,7 @@ module _ (s : Setup) (trace : Trace) (z : Played) (i : Input) (n : ℕ) (out : L
 
     -- ---- Opening
 
-    pub opening-next : Here (Before (stop s) (s .opening)) → Row Opening
+    pub opening-next : Here (NotOpened (s .opening)) (Before (stop s) (s .opening)) → Row Opening
     unfolding stepIn openingOf factsOf
     opening-next b = by (x .0) refl .row
       where
@@ -263,18 +272,20 @@ module _ (s : Setup) (trace : Trace) (z : Played) (i : Input) (n : ℕ) (out : L
             (pick d (endedWith 19 (withWhole (wholeOf tag k false) (read-in Opening)) l) (moved (read-in Opening) l)))
         by-tag tag k h true d ec ed =
             took b (R.whole tag k) h (enters Turn) (simp ec) refl (λ v g. none-nineteen 0 refl g) (moved-answers _) same
-            (read-whole b n i x same-read 0 tag k h (λ a. before-goes _ _ _ a ec))
+            (read-whole b n i x same-read 0 tag k h
+            (λ a o. rw (last-one (0, []) (tag, take k (x .3)) (b .ms)) (both-is-none tag ec)) (λ a. before-goes _ _ _ a ec))
         by-tag tag k h false true ec ed =
             took b (R.whole tag k) h (refuses 19) (simp (ec, ed)) refl (λ v g. (refl, shown tag k h ed)) (refused-answers 19 _) counters-are
             (read-last b n i x same-read 19 tag k h (λ a. before-error _ _ _ a ec ed))
         by-tag tag k h false false ec ed =
             took b (R.whole tag k) h (enters Opening) (simp (ec, ed)) refl (λ v g. none-nineteen 0 refl g) (moved-answers _) same
-            (read-whole b n i x same-read 0 tag k h (λ a. before-skips _ _ _ a ec ed))
+            (read-whole b n i x same-read 0 tag k h (λ a. (a .0, opened-more (b .ms) (tag, take k (x .3)) (a .1) ec))
+            (λ a. before-skips _ _ _ a ec ed))
 
         by : (a : R.Said) → x .0 ≡ a → Read Opening openingResponse (openingBy a (read-in Opening) l)
         by R.more h =
             took b R.more h (enters Opening) refl refl (λ v g. none-nineteen 0 refl g) (moved-answers _) same
-            (read-more b n i x same-read 0 h (before-on _ _ (tell i 0 (x .2))))
+            (read-more b n i x same-read 0 h (λ a. a) (before-on _ _ (tell i 0 (x .2))))
         by (R.whole tag k) h = by-tag tag k h (isCopyBothResponse tag) (isError tag) refl refl
         by (R.refused k) h =
             took b (R.refused k) h (refuses k) refl refl (λ v g. never-nineteen k v g) (refused-answers k _) counters-are
@@ -282,9 +293,9 @@ module _ (s : Setup) (trace : Trace) (z : Played) (i : Input) (n : ℕ) (out : L
 
     -- ---- Turn, Drain, Reading, Waiting
 
-    module _ (b : Here AllHanded) where
+    module _ (b : Here NoneDone AllHanded) where
       -- no byte is taken, and nothing handed on
-      stays : There AllHanded
+      stays : There NoneDone AllHanded
       stays = goes-still i 0 b
 
       -- .. and a CopyDone ends the run
@@ -316,8 +327,8 @@ module _ (s : Setup) (trace : Trace) (z : Played) (i : Input) (n : ℕ) (out : L
           under true d f g = ltb-true _ _ f
           under false d f g = impossible cc
 
-      more-goes : x .0 ≡ R.more → Runs s AllHanded (x .1) (x .3) (z .taken + x .2) (z .observed ++ (tell i 0 (x .2) ∷ [])) (z .events ++ [])
-      more-goes h = read-more b n i x same-read 0 h (going-on _ _ (tell i 0 (x .2)))
+      more-goes : x .0 ≡ R.more → Runs s NoneDone AllHanded (x .1) (x .3) (z .taken + x .2) (z .observed ++ (tell i 0 (x .2) ∷ [])) (z .events ++ [])
+      more-goes h = read-more b n i x same-read 0 h (none-done-grown (b .ms) (b .ws) (tell i 0 (x .2))) (going-on _ _ (tell i 0 (x .2)))
 
       whole-holds : (in-wait : Bool) (tag k : ℕ) → x .0 ≡ R.whole tag k
           → Holds s (wholeOf tag k in-wait) (x .1) (x .3) (z .taken + x .2) (z .observed ++ (tell i 0 (x .2) ∷ [])) (z .events ++ [])
@@ -418,6 +429,14 @@ module _ (s : Setup) (trace : Trace) (z : Played) (i : Input) (n : ℕ) (out : L
             failed = fl;
           }
 
+      -- the server's CopyDone, answered in kind
+      done-now : (v : Lsn) (m : Run) → m .metrics ≡ withEnd (r .metrics) v → Told v → given-now .events ≡ []
+          → Next Handling (writes done Ended) (doneWith Nothing m l)
+      unfolding factsOf
+      done-now v m hm hv g =
+          next refl (done-answers Nothing m refl tt) (rw hv (hm ∙ ap (λ (c : Metrics). withEnd c v) counters-are))
+          (still-ends i 0 (with-held w) (λ a h. handled-over _ _ _ (tell i 0 0) h g))
+
       -- the message is an error of the server
       shown : isError (r .whole .tag) ≡ true → Shows (last-at s (z .taken + 0) .1) (withState Ended (in-state Handling)) p
       shown a =
@@ -432,10 +451,10 @@ module _ (s : Setup) (trace : Trace) (z : Played) (i : Input) (n : ℕ) (out : L
       -- an event is offered, and what follows it
       module _ (ev : Event) (y : Happened) (stops : Bool) (reached : Lsn) (hs : isStoppedAt ev ≡ false) (he : happenedOf (E.saidBy ev) p ≡ y ∷ [])
           (hp : Parts (E.saidBy ev) (length q)) (g : given-now ≡ gives (y ∷ following (offer ev false stops reached)) stops) where
-        offers-now : There (Offers (stop s) (s .opening) (offer ev false stops reached) p) × Tied (stop s) (offer ev false stops reached) p
+        offers-now : There Anyhow (Offers (stop s) (s .opening) (offer ev false stops reached) p) × Tied (stop s) (offer ev false stops reached) p
             (last-at s (z .taken + 0))
         offers-now = (
-          still i 0 (with-held w) (λ a h. handled-offer _ _ _ _ h _ _ y refl he g),
+          still i 0 (with-held w) (λ a. tt) (λ a h. handled-offer _ _ _ _ h _ _ y refl he g),
           tied-still s (offer ev false stops reached) p (z .taken)
               (rw last-message
               (record {
@@ -515,8 +534,12 @@ module _ (s : Setup) (trace : Trace) (z : Played) (i : Input) (n : ℕ) (out : L
       back-next : (c : Bool) → given-now ≡ gives [] false → Told (lastEnd s trace)
           → Next Handling (enters (pick c Turn Drain)) (moved (withState (pick c Turn Drain) (in-state Handling)) l)
       unfolding factsOf
-      back-next true g hv = next refl (moved-answers _) (rw hv same) (still i 0 (with-held w) (λ a h. handled-back _ _ _ (tell i 0 0) h g))
-      back-next false g hv = next refl (moved-answers _) (rw hv same) (still i 0 (with-held w) (λ a h. handled-back _ _ _ (tell i 0 0) h g))
+      back-next true g hv =
+          next refl (moved-answers _) (rw hv same)
+          (still i 0 (with-held w) (λ a o. some-since [] (tell i 0 0) o) (λ a h. handled-back _ _ _ (tell i 0 0) h g))
+      back-next false g hv =
+          next refl (moved-answers _) (rw hv same)
+          (still i 0 (with-held w) (λ a o. some-since [] (tell i 0 0) o) (λ a h. handled-back _ _ _ (tell i 0 0) h g))
 
       pub handling-next : Row Handling
       unfolding stepIn handlingOf factsOf
@@ -528,12 +551,17 @@ module _ (s : Setup) (trace : Trace) (z : Played) (i : Input) (n : ℕ) (out : L
           (tells _ (simp (error-is-none (r .whole .tag) a) (sym (ap (λ (c : Metrics). c .«last_wal_end») counters-are)))) (simp a)
           (λ g. (refl, shown a)))
           (λ a.
-          either (isCopyData (r .whole .tag)) (λ c. copy-data-next (copyDataOf q) c refl (simp (a, c)))
-          (λ c. back-next (r .whole .«in_wait») (simp (a, c)) (tells _ (simp c)))))
+          either (isCopyDone (r .whole .tag))
+          (λ d.
+          done-now (r .metrics .«last_wal_end») (in-state Handling) refl
+          (tells _ (simp (done-is-none (r .whole .tag) d) (sym (ap (λ (c : Metrics). c .«last_wal_end») counters-are)))) (simp (a, d)))
+          (λ d.
+          either (isCopyData (r .whole .tag)) (λ c. copy-data-next (copyDataOf q) c refl (simp (a, d, c)))
+          (λ c. back-next (r .whole .«in_wait») (simp (a, d, c)) (tells _ (simp c))))))
 
     -- ---- Offering
 
-    module _ (same-taken : z .taken ≡ takenBy trace) (b : Here (Offers (stop s) (s .opening) (r .offer) p))
+    module _ (same-taken : z .taken ≡ takenBy trace) (b : Here Anyhow (Offers (stop s) (s .opening) (r .offer) p))
         (t : Tied (stop s) (r .offer) p (last-at s (z .taken)))
       where
         -- what the table says is left, and hands over
@@ -596,8 +624,8 @@ module _ (s : Setup) (trace : Trace) (z : Played) (i : Input) (n : ℕ) (out : L
               rw (left-is, t .ends, ← part (λ f. f .in-wait)) (by (isStoppedAt (r .offer .event)) (r .offer .stops) (r .whole .«in_wait») refl refl)
             where
               goes : isStoppedAt (r .offer .event) ≡ false → r .offer .stops ≡ false
-                  → Runs s AllHanded (r .reader) p (z .taken + 0) (z .observed ++ (tell i 0 0 ∷ [])) (z .events ++ happenedOf (E.saidBy ev) p)
-              goes hc hd = still i 0 b (λ a h. let k = tk a in rw (k .0) (hands-and-goes _ _ _ h (k .2) (k .1) hd hc))
+                  → Runs s NoneDone AllHanded (r .reader) p (z .taken + 0) (z .observed ++ (tell i 0 0 ∷ [])) (z .events ++ happenedOf (E.saidBy ev) p)
+              goes hc hd = still i 0 b (λ a o. some-since (b .ws) (tell i 0 0) o) (λ a h. let k = tk a in rw (k .0) (hands-and-goes _ _ _ h (k .2) (k .1) hd hc))
 
               by : (c f in-wait : Bool) → isStoppedAt (r .offer .event) ≡ c → r .offer .stops ≡ f
                   → Next Offering
@@ -617,7 +645,7 @@ module _ (s : Setup) (trace : Trace) (z : Played) (i : Input) (n : ℕ) (out : L
                   (rw (hb, hs, nf, hm)
                   (ap (λ (c : Bool). with-tries false (gone-by c + 1) (passing d es (i .moment) (factsBy r))) (sym hc)
                   ∙ ap (λ (f : Facts). with-tries false (f .tries .gone + 1) f) gone-on))
-                  (still i 0 b (λ a h. let k = tk a in rw (k .0) (hands-then-stopped _ _ _ h (k .2) (k .1) hf)), stopped-tied hc hf)
+                  (still i 0 b (λ a. tt) (λ a h. let k = tk a in rw (k .0) (hands-then-stopped _ _ _ h (k .2) (k .1) hf)), stopped-tied hc hf)
               by false false true hc hf = next refl (handing-answers ev _ he hp) (rw (hb, hs, hm) gone-on) (goes hc hf)
               by false false false hc hf = next refl (handing-answers ev _ he hp) (rw (hb, hs, hm) gone-on) (goes hc hf)
 
@@ -652,8 +680,8 @@ module _ (s : Setup) (trace : Trace) (z : Played) (i : Input) (n : ℕ) (out : L
         full-next o g ho hq hb hs c =
             let began : Moment = pick g (i .moment) (r .clock .«stall_began») in
             let m : Metrics = stalling g (i .moment) (factsBy r) .metrics in
-            let w : There (Offers (stop s) (s .opening) o p) × Tied (stop s) o p (last-at s (z .taken + 0)) =
-            (still i 0 b (λ a h. rw ho at (waits-on _ _ (tell i 0 0) h c hq)), rw ho at (tied-still s stalled p (z .taken) stalled-tied)) in
+            let w : There Anyhow (Offers (stop s) (s .opening) o p) × Tied (stop s) o p (last-at s (z .taken + 0)) =
+            (still i 0 b (λ a. tt) (λ a h. rw ho at (waits-on _ _ (tell i 0 0) h c hq)), rw ho at (tied-still s stalled p (z .taken) stalled-tied)) in
             let f : stalling g (i .moment) (factsBy r) ≡ stalling g (i .moment) (factsOf s trace) = ap (stalling g (i .moment)) e in
             rw (← passed-is Offering)
             (status-if (intervalPassed (in-state Offering))

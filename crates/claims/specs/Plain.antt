@@ -11,11 +11,12 @@ use lib.IntN.{ℤ}
 use lib.Dec.{ltb, leb}
 use Rattle.wire.specs.Bytes.{pick, at}
 use Rattle.stream.specs.Cut.{Item, message, refused, cutOf}
-use Rattle.stream.specs.Tag.{isError, isCopyBothResponse, isCopyData}
+use Rattle.stream.specs.Tag.{isError, isCopyBothResponse}
 use Rattle.replication.specs.CopyData.{copyDataOf}
 use Rattle.replication.specs.CopyData as C
 use Rattle.pgoutput.specs.Boundary.{boundaryOf}
 use Rattle.pgoutput.specs.Boundary as B
+use Rattle.worker.specs.Streaming.{whileStreaming}
 use Rattle.worker.specs.declared.Queue.{Queue}
 use Rattle.worker.specs.declared.Queue.the-variants.{Free, Full, Closed}
 use Rattle.claims.specs.Happened.{Happened}
@@ -63,12 +64,14 @@ payloadGives stop payload (C.w start end time from len) =
 payloadGives stop payload (C.k end time reply) = gives (H.keepAlive end time reply ∷ []) false
 payloadGives stop payload (C.refused n) = gives [] true
 
--- an `E` ends the reading; of other messages only a `d` gives events
+-- an `E` and a `c` end the reading; of other messages only a `d` gives events
 abbrev pub messageGives : Option ℕ → ℕ → List ℕ → Gives
 messageGives stop tag payload =
-    pick (isError tag) (gives [] true)
-    (pick (isCopyData tag) (payloadGives stop payload (copyDataOf payload))
-    (gives [] false))
+    whileStreaming tag
+    (gives [] true)
+    (gives [] true)
+    (payloadGives stop payload (copyDataOf payload))
+    (gives [] false)
 
 -- ---- the messages, and what they give in their order
 
@@ -86,6 +89,11 @@ wholeOnes (message tag payload ∷ is) = (tag, payload) ∷ wholeOnes is
 unfoldable pub afterOpening : List Msg → List Msg
 afterOpening [] = []
 afterOpening (m ∷ ms) = pick (isCopyBothResponse (m .0)) ms (pick (isError (m .0)) [] (afterOpening ms))
+
+-- whether a `W` is among the messages
+unfoldable pub hasOpened : List Msg → Bool
+hasOpened [] = false
+hasOpened (m ∷ ms) = pick (isCopyBothResponse (m .0)) true (hasOpened ms)
 
 -- what the messages give, one after the other, until one ends the reading
 unfoldable pub given : Option ℕ → List Msg → List Happened

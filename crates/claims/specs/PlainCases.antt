@@ -82,6 +82,19 @@ pub record PlainCases : Type 0 where
   pub length-three : all (beginAt 1 ++ (0x64 ∷ 0 ∷ 0 ∷ 0 ∷ 3 ∷ beginAt 2)) ≡ begun 1 ∷ []
   pub over-the-limit : all (beginAt 1 ++ (framed 0x64 (replicate 65 0) ++ beginAt 2)) ≡ begun 1 ∷ []
   pub server-error : all (beginAt 1 ++ (empty 0x45 ++ beginAt 2)) ≡ begun 1 ∷ []
+  -- so does a `c`, the server's CopyDone, with a payload too; not before the first `W`
+  pub server-done : all (beginAt 1 ++ (empty 0x63 ++ beginAt 2)) ≡ begun 1 ∷ []
+  pub done-with-payload : all (beginAt 1 ++ (framed 0x63 (1 ∷ 2 ∷ 3 ∷ []) ++ beginAt 2)) ≡ begun 1 ∷ []
+  pub done-at-first : all (empty 0x63 ++ beginAt 1) ≡ []
+  pub done-unfinished : all (beginAt 1 ++ take 4 (empty 0x63)) ≡ begun 1 ∷ []
+  pub done-over-the-limit : all (beginAt 1 ++ (framed 0x63 (replicate 65 0) ++ beginAt 2)) ≡ begun 1 ∷ []
+  pub done-in-opening :
+      reading none true (empty 0x63 ++ (empty 0x57 ++ keepAliveBytes)) (takes 1000 ∷ free ∷ free ∷ []) ≡ H.keepAlive 0x10 (pos 0) false ∷ []
+  pub done-after-opening : reading none true (empty 0x57 ++ (beginAt 1 ++ (empty 0x63 ++ beginAt 2))) (takes 1000 ∷ free ∷ free ∷ []) ≡ begun 1 ∷ []
+  -- an event before it waits for the queue, and the `c` behind the event; a stop request seen with the `c` drops nothing
+  pub event-before-done : reading none false (beginAt 1 ++ empty 0x63) (takes 51 ∷ free ∷ full ∷ full ∷ []) ≡ []
+  pub done-after-event : reading none false (beginAt 1 ++ empty 0x63) (takes 51 ∷ free ∷ full ∷ free ∷ takes 5 ∷ free ∷ []) ≡ begun 1 ∷ []
+  pub done-with-stop : reading none false (beginAt 1 ++ empty 0x63) (takes 51 ∷ free ∷ free ∷ takes 5 ∷ full-stop ∷ []) ≡ begun 1 ∷ []
   -- of other messages only a `d` gives events
   pub others-skipped : all (empty 0x4E ++ (beginAt 1 ++ (empty 0x57 ++ beginAt 2))) ≡ begun 1 ∷ begun 2 ∷ []
   -- a `d` gives one event by the rules of CopyData and boundaries; what is no boundary is other data
@@ -129,6 +142,16 @@ plain-cases =
       length-three = refl;
       over-the-limit = refl;
       server-error = refl;
+      server-done = refl;
+      done-with-payload = refl;
+      done-at-first = refl;
+      done-unfinished = refl;
+      done-over-the-limit = refl;
+      done-in-opening = refl;
+      done-after-opening = refl;
+      event-before-done = refl;
+      done-after-event = refl;
+      done-with-stop = refl;
       others-skipped = refl;
       a-commit = refl;
       a-message = refl;

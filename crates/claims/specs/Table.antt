@@ -9,7 +9,7 @@ use Rattle.wire.specs.Bytes.{pick, at}
 use Rattle.stream.specs.Cut.{Cut, cutOf}
 use Rattle.framing.specs.Read.{Said, more, whole, refused, limitOf}
 use Rattle.framing.specs.Feed.{told, span, stored}
-use Rattle.stream.specs.Tag.{isError, isCopyBothResponse, isCopyData}
+use Rattle.stream.specs.Tag.{isError, isCopyBothResponse}
 use Rattle.moment.specs.declared.Moment.{Moment}
 use Rattle.moment.specs.Moment.{isBefore, inRange, sinceOf}
 use Rattle.pgoutput.specs.Boundary.{boundaryOf}
@@ -19,6 +19,7 @@ use Rattle.replication.specs.CopyData as C
 use Rattle.worker.specs.declared.State.{State}
 use Rattle.worker.specs.declared.State.the-variants.{Opening, Turn, Drain, Reading, Waiting, Handling, Offering, Ended}
 use Rattle.worker.specs.declared.Input.{Input}
+use Rattle.worker.specs.Streaming.{whileStreaming}
 use Rattle.claims.specs.Tests.{_⇒_, firstOf, both, unless, isEnded}
 use Rattle.claims.specs.Happened.{Happened}
 use Rattle.claims.specs.Plain.{Msg, Gives, messageGives, wholeOnes, byQueue}
@@ -134,13 +135,13 @@ copyDataResponse p (C.w start end time from len) = boundaryResponse (boundaryOf 
 copyDataResponse p (C.k end time reply) = writes (pick reply (status true) nothing) Offering
 copyDataResponse p (C.refused n) = refuses n
 
--- an `E` is 19, of other messages only a `d` is not skipped
+-- an `E` is 19; the server's `c` is answered in kind, and the run ends; of other messages only a `d` is not skipped
 abbrev pub handlingResponse : Trace → Msg → Response
 handlingResponse h m =
-    firstOf
-    ((isError (m .0) ⇒ refuses 19)
-    ∷ (isCopyData (m .0) ⇒ copyDataResponse (m .1) (copyDataOf (m .1)))
-    ∷ [])
+    whileStreaming (m .0)
+    (refuses 19)
+    (writes done Ended)
+    (copyDataResponse (m .1) (copyDataOf (m .1)))
     (enters (backOf h))
 
 -- ---- Turn, Drain, Waiting

@@ -36,6 +36,7 @@ use Rattle.worker.specs.declared.Event.the-variants.{Nothing, KeepAlive, Stoppe
 use Rattle.worker.specs.declared.Run.{Run}
 use Rattle.worker.specs.Run.{lsn, withReader, withDrained, withMetrics, accepted}
 use Rattle.worker.specs.Rows.{both, unless}
+use Rattle.worker.specs.Streaming.{isCopyDone}
 use Rattle.worker.specs.Step.{Lent, Outcome, back, badMoment, boundaryBy, copyDataBy, doneWith, drainOf, firstBy, handing, handlingOf, having, idleOf, intervalPassed, isEnded, isReadable, isStoppedAt, keepAliveBy, moved, nextEvent, offeringOf, offers, openingBy, openingOf, readBy, readingBy, readingOf, refusedWith, stalledBy, stalledOf, stalls, stallEnded, stepIn, statusDue, feedbackOf, stepOf, takesPending, turnOf, waitingBy, waitingOf, waitingRead}
 use Rattle.effects.specs.Effects.{Writing, nothing, done, status, Effects, Step-effects}
 
@@ -186,7 +187,8 @@ module _ (i : Input) (l : Lent) where
   unfolding handlingOf
   handling-keeps r =
       either (isError (r .whole .tag)) (refused-keeps _ _)
-      (either (isCopyData (r .whole .tag)) (copy-data-by (copyDataOf (take (r .whole .len) (l .payload))) r) (moved-keeps _))
+      (either (isCopyDone (r .whole .tag)) (done-keeps Nothing r)
+      (either (isCopyData (r .whole .tag)) (copy-data-by (copyDataOf (take (r .whole .len) (l .payload))) r) (moved-keeps _)))
 
   next-keeps : (e : Event) (r : Run) → K r (nextEvent e r l)
   next-keeps e r = either (isStoppedAt (r .offer .event)) (done-keeps e r) (by (r .offer .stops))

@@ -35,6 +35,7 @@ use Rattle.worker.specs.declared.State.{State}
 use Rattle.worker.specs.declared.State.the-variants.{Opening, Turn, Drain, Reading, Waiting, Handling, Offering, Ended}
 use Rattle.worker.specs.Rows.{both, unless}
 use Rattle.worker.specs.Run.{lsn, withState, wholeOf, withDrained, withMetrics, withReader, withWhole, accepted}
+use Rattle.worker.specs.Streaming.{isCopyDone}
 use Rattle.worker.specs.Step.{Lent, Outcome, afterEvent, back, badMoment, boundaryBy, copyDataBy, doneWith, drainOf, drops, endedWith, handing, handsOn, handlingOf, having, idleOf, intervalPassed, isEnded, isStoppedAt, moved, nextEvent, offeringOf, offers, openingBy, openingOf, reaches, readingBy, readingOf, stallEnded, stalledOf, stalls, stepIn, statusDue, feedbackOf, stepOf, turnOf, waitingOf, waits}
 use Rattle.schedule.specs.NextStep.{Next, atOnce, byClock, dueOf, idleMoment, beyond, isWhole, nextStepOf, offeringNext, openingNext, readingNext, stateNext, statusMoment, waitingNext}
 use Rattle.schedule.specs.Promise.{quiet, noByte, quietStep, Accepts}
@@ -395,14 +396,16 @@ module _ (m : Moment) (time : ℤ) (q : Queue) (p out : List ℕ) where
 
   handling-rests : (r : Run) → Fit r → r .state ≡ Handling → Rest 6 r
   unfolding stepIn handlingOf nextStepOf stateNext
-  handling-rests r f h = stepped r f 5 Handling h refl (by (isError (r .whole .tag)) (isCopyData (r .whole .tag)))
+  handling-rests r f h = stepped r f 5 Handling h refl (by (isError (r .whole .tag)) (isCopyDone (r .whole .tag)) (isCopyData (r .whole .tag)))
     where
-      by : (a b : Bool)
+      by : (a d b : Bool)
           → Rest 5 (pick {A = Outcome} a (endedWith 19 (accepted m r) l)
-          (pick {A = Outcome} b (copyDataBy (copyDataOf (take (r .whole .len) p)) (accepted m r) i l) (moved (back (accepted m r)) l)) .run)
-      by true b = inl tt
-      by false true = copy-data-rests r f (copyDataOf (take (r .whole .len) p))
-      by false false = later 4 (back (accepted m r)) (back-rests (accepted m r) (again r f (accepted m r) refl refl) (r .whole .«in_wait»))
+          (pick {A = Outcome} d (doneWith Nothing (accepted m r) l)
+          (pick {A = Outcome} b (copyDataBy (copyDataOf (take (r .whole .len) p)) (accepted m r) i l) (moved (back (accepted m r)) l))) .run)
+      by true d b = inl tt
+      by false true b = inl tt
+      by false false true = copy-data-rests r f (copyDataOf (take (r .whole .len) p))
+      by false false false = later 4 (back (accepted m r)) (back-rests (accepted m r) (again r f (accepted m r) refl refl) (r .whole .«in_wait»))
 
   -- ---- Reading and Opening: a reader that no call left may hold a whole message, or remember 7
 

@@ -30,6 +30,7 @@ use Rattle.worker.specs.declared.Run.{Run}
 use Rattle.worker.specs.declared.State.{State}
 use Rattle.worker.specs.declared.State.the-variants.{Opening, Turn, Drain, Reading, Waiting, Handling, Offering, Ended}
 use Rattle.worker.specs.Run.{lsn, withState, wholeOf, withDrained, withMetrics, withReader, withWhole, accepted}
+use Rattle.worker.specs.Streaming.{isCopyDone}
 use Rattle.worker.specs.Step.{Lent, Outcome, back, afterEvent, boundaryBy, copyDataBy, doneWith, drainOf, endedWith, handing, handlingOf, having, idleOf, intervalPassed, isEnded, isStoppedAt, moved, offeringOf, offers, openingBy, openingOf, readingBy, readingOf, refusedWith, stallEnded, stalledOf, stalls, stepIn, statusDue, feedbackOf, stepOf, turnOf, waitingOf}
 use Rattle.schedule.specs.NextStep.{Next, atOnce, onInput, never, beyond, byClock, idleMoment, isWhole, nextStepOf, offeringNext, openingNext, readingNext, stateNext, statusMoment, waitingNext}
 use Rattle.schedule.specs.Promise.{Moves, leaves, writes, passes, Stays, Not-both, Promised, quiet, noByte, Next-step-promised, Never-is-ended, Ended-is-never}
@@ -104,8 +105,9 @@ module _ (r : Run) (p out : List ℕ) (time : ℤ) (m : Moment) where
   unfolding handlingOf
   handling-moves q h =
       either (isError (r .whole .tag)) (leaves (λ e. impossible cc))
+      (either (isCopyDone (r .whole .tag)) (leaves (λ e. impossible cc))
       (either (isCopyData (r .whole .tag)) (copy-data-moves q (copyDataOf (take (r .whole .len) p)) now h)
-      (back-moves Handling Nothing (r .whole .«in_wait») now h (λ e. impossible cc) (λ e. impossible cc)))
+      (back-moves Handling Nothing (r .whole .«in_wait») now h (λ e. impossible cc) (λ e. impossible cc))))
 
   -- ---- what stays
 

@@ -9,7 +9,7 @@ use lib.Dec.{ltb, leb, eqb}
 use Rattle.wire.specs.Bytes.{pick, at, put}
 use Rattle.framing.specs.Read.{Result, limitOf, readOf}
 use Rattle.framing.specs.Read as R
-use Rattle.stream.specs.Tag.{isError, isCopyBothResponse, isCopyData}
+use Rattle.stream.specs.Tag.{isError, isCopyBothResponse}
 use Rattle.frontend.specs.Frontend.{statusUpdate, copyDone}
 use Rattle.lsn.specs.declared.Lsn.{Lsn}
 use Rattle.lsn.specs.Position.{isBelow}
@@ -32,6 +32,7 @@ use Rattle.worker.specs.declared.Run.{Run}
 use Rattle.worker.specs.Events.{dataGives}
 use Rattle.worker.specs.Events as E
 use Rattle.worker.specs.Rows.{_⇒_, firstOf, both, unless}
+use Rattle.worker.specs.Streaming.{whileStreaming}
 use Rattle.worker.specs.Run.{lsn, lastStatus, wholeOf, offer, withState, withReader, withProgress, withLastStatus, withDrained, withPending, withWhole, withOffer, withMetrics, accepted, waitBegun, stallBegun, micros}
 
 -- what a step answers and leaves: the run, the refusal's number (0 for none), the taken count, the event handed on, how many bytes were written,
@@ -254,13 +255,13 @@ copyDataBy (C.w start end time from len) r i l =
     boundaryBy (boundaryOf (at (l .payload) from len)) start end time from len (withMetrics (withEnd (r .metrics) (lsn end)) r) l
 copyDataBy (C.refused n) r i l = endedWith n r l
 
--- no byte is taken
+-- no byte is taken: ErrorResponse is 19; the server's CopyDone is answered in kind, and the run ends; CopyData gives its event; others are skipped
 unfoldable pub handlingOf : Run → Input → Lent → Outcome
 handlingOf r i l =
-    firstOf
-    ((isError (r .whole .tag) ⇒ endedWith 19 r l)
-    ∷ (isCopyData (r .whole .tag) ⇒ copyDataBy (copyDataOf (take (r .whole .len) (l .payload))) r i l)
-    ∷ [])
+    whileStreaming (r .whole .tag)
+    (endedWith 19 r l)
+    (doneWith Nothing r l)
+    (copyDataBy (copyDataOf (take (r .whole .len) (l .payload))) r i l)
     (moved (back r) l)
 
 -- ---- Offering: SCOPE 6.9

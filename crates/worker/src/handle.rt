@@ -12,6 +12,7 @@ ghost use Rattle.worker.specs.Answer.{lent, outcomeBy};
 ghost use Rattle.worker.specs.Events.{given, givenBy, dataGives};
 ghost use Rattle.worker.specs.Run.{withMetrics};
 ghost use Rattle.worker.specs.Step.{keepAliveBy, boundaryBy, copyDataBy, handlingOf};
+ghost use Rattle.worker.specs.Streaming.{isCopyDone};
 ghost use Rattle.worker.specs.declared.Event.{Event};
 use crate::DataEvent;
 use crate::Event;
@@ -23,6 +24,7 @@ use crate::changes::with_metrics;
 use crate::deliver::back;
 use crate::deliver::offers;
 use crate::deliver::offers_at;
+use crate::ends::done;
 use crate::ends::ended;
 use crate::ends::moved;
 use crate::status::send_feedback;
@@ -226,7 +228,14 @@ fn copy_data(said: CopyData, run: Run, input: Input, payload: &[u8], out: &mut [
     }
 }
 
-// No byte is taken.
+// The server's CopyDone; no other message has its tag.
+fn is_copy_done(tag: u8) -> bool
+    ensures { λ r. ⌜ r ≡ isCopyDone tag ⌝ }
+{
+    tag == b'c'
+}
+
+// No byte is taken; the server's CopyDone is answered in kind, and the run ends.
 pub(crate) fn handling(run: Run, input: Input, payload: &[u8], out: &mut [u8]) -> Stepped
     requires { ⌜ 39 ≤ length (now out) ⌝ }
     ensures { λ s. ⌜ ((u : List ℕ) → outcomeBy s (now (payload .entry)) (now (out .exit)) ≡ handlingOf run input (lent u (now (payload .entry)) (now (out .entry)))) ⌝ }
@@ -234,6 +243,9 @@ pub(crate) fn handling(run: Run, input: Input, payload: &[u8], out: &mut [u8]) -
     let tag = run.whole.tag;
     if is_error(tag) {
         return ended(Refusal::ServerError, run);
+    }
+    if is_copy_done(tag) {
+        return done(Event::Nothing, run, out);
     }
     if is_copy_data(tag) {
         let said = copy_data_in(payload, run.whole.len);

@@ -44,6 +44,7 @@ fn runs<R: Steps>(mut second: Stepped<R>, scenarios: u64, seed: u64) {
     println!("{reached}");
     println!("{scenarios} scenarios, rust and {}, {} steps, in {:.0} s, no difference", second.name, second.steps, begun.elapsed().as_secs_f64());
     println!("{} of them left the domain, by a report or time inside a step: compared up to there", second.outside);
+    println!("{} of them ended at the server's CopyDone: compared up to that message", second.done);
     println!("ends: {}", ends.iter().map(|(end, n)| format!("{end}: {n}")).collect::<Vec<_>>().join(", "));
     if scenarios >= 100_000 && !missing.is_empty() {
         fails(format!("not reached: {}", missing.join("; ")));

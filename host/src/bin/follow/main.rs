@@ -17,7 +17,7 @@ use ffi::Waiter;
 use link::Link;
 use options::{Options, Wanted};
 use rufflesquash::{Lsn, Run, Settings};
-use session::{Clock, Session, Totals};
+use session::{Clock, End, Session, Totals};
 use startup::Talk;
 use std::io::{self, Write};
 use std::process::ExitCode;
@@ -96,7 +96,8 @@ fn follow(options: &Options) -> Result<(), Failure> {
     result
 }
 
-// Until the stream ends well or with a failure that does not go away; after a cut a pause that grows while nothing new is confirmed.
+// Until the stream ends as wanted or with a failure that does not go away; after a cut, and after the server's own end, a pause that grows while
+// nothing new is confirmed.
 fn connect_again(options: &Options, waiter: &Waiter, outbox: &mut Outbox, totals: &mut Totals) -> Result<(), Failure> {
     let settings = settings(options);
     let mut payload = vec![0; settings.payload_len()];
@@ -106,7 +107,11 @@ fn connect_again(options: &Options, waiter: &Waiter, outbox: &mut Outbox, totals
     loop {
         let connected = connect(options, waiter, &mut first);
         let result = connected.and_then(|talk| one_stream(options, talk, &mut payload, clock, outbox, totals));
-        let Err(failure) = result else { return Ok(()) };
+        let failure = match result {
+            Ok(End::Server) if !options.no_loop => Failure::cut("the server ended the stream"),
+            Ok(_) => return Ok(()),
+            Err(failure) => failure,
+        };
         // All that was handed on is printed before more is asked for: the position is then the consumer's.
         settle(outbox, waiter, None);
         if ffi::stop_requested() || outbox.failed() {
@@ -147,7 +152,7 @@ fn connect<'a>(options: &Options, waiter: &'a Waiter, first: &mut bool) -> Resul
     Ok(talk)
 }
 
-fn one_stream(options: &Options, talk: Talk, payload: &mut [u8], clock: Clock, outbox: &mut Outbox, totals: &mut Totals) -> Result<(), Failure> {
+fn one_stream(options: &Options, talk: Talk, payload: &mut [u8], clock: Clock, outbox: &mut Outbox, totals: &mut Totals) -> Result<End, Failure> {
     let settings = settings(options);
     let names: Vec<Vec<u8>> = options.publications.iter().map(|name| identifier(name)).collect();
     let names: Vec<&[u8]> = names.iter().map(Vec::as_slice).collect();

@@ -33,7 +33,7 @@ How:
   -V, --version                print the version
 
 Ctrl-C stops: what was printed is confirmed first. A second Ctrl-C ends at once.
-Exit status: 0 stopped or --endpos reached; 1 connection or server error; 2 bad options; 3 to 25 the refusal of that number.
+Exit status: 0 stopped, --endpos reached, or with --no-loop the server ended the stream; 1 connection or server error; 2 bad options; 3 to 25 the refusal of that number.
 ";
 
 /// What the command line asks for.

@@ -5,7 +5,7 @@ use crate::ffi;
 use crate::link::Link;
 use crate::print::Item;
 use crate::startup::Talk;
-use rufflesquash::{Input, Lsn, Moment, NextStep, Refusal, Run, Settings, State, STEP_OUTPUT};
+use rufflesquash::{Event, Input, Lsn, Moment, NextStep, Refusal, Run, Settings, State, STEP_OUTPUT};
 use std::time::{Duration, Instant, SystemTime, UNIX_EPOCH};
 
 const PIECE: usize = 131_072;
@@ -42,6 +42,15 @@ pub struct Totals {
     pub last_status: Option<Lsn>,
 }
 
+/// Who ended a stream that ended well.
+#[derive(Clone, Copy, Debug, PartialEq)]
+pub enum End {
+    /// A stop request, or the stop position.
+    Wanted,
+    /// The server, with its CopyDone.
+    Server,
+}
+
 /// Follows one connection.
 pub struct Session<'a> {
     link: Link<'a>,
@@ -53,6 +62,7 @@ pub struct Session<'a> {
     at: usize,
     filled: usize,
     ended: bool,
+    end: End,
 }
 
 impl<'a> Session<'a> {
@@ -62,18 +72,18 @@ impl<'a> Session<'a> {
         link.send(opened.1)?;
         let filled = input.len();
         input.resize(PIECE, 0);
-        Ok(Session { link, settings, run: opened.0, payload, clock, input, at: 0, filled, ended: false })
+        Ok(Session { link, settings, run: opened.0, payload, clock, input, at: 0, filled, ended: false, end: End::Server })
     }
 
-    /// Until the stream ends: by the stop position or a stop request well, otherwise with the failure.
-    pub fn stream(&mut self, outbox: &mut Outbox, totals: &mut Totals) -> Result<(), Failure> {
+    /// Until the stream ends: by the stop position, a stop request or the server's CopyDone well, otherwise with the failure.
+    pub fn stream(&mut self, outbox: &mut Outbox, totals: &mut Totals) -> Result<End, Failure> {
         let result = self.steps(outbox, totals);
         let metrics = self.run.metrics();
         totals.streams += u64::from(self.run.last_sent().is_some());
         totals.events += metrics.events_forwarded;
         totals.statuses += metrics.feedback_sent;
         totals.stalls += metrics.stall_count;
-        result
+        result.map(|()| self.end)
     }
 
     fn steps(&mut self, outbox: &mut Outbox, totals: &mut Totals) -> Result<(), Failure> {
@@ -122,6 +132,10 @@ impl<'a> Session<'a> {
         let step = self.run.advance(&input, unread, self.payload, out);
         self.at += step.taken;
         let (refusal, written) = (step.refusal, step.written);
+        // A run that ends neither at a stop request nor with StoppedAt was ended by the server.
+        if input.stop || matches!(step.event, Some(Event::StoppedAt { .. })) {
+            self.end = End::Wanted;
+        }
         if let Some(event) = step.event {
             let item = Item::of(event).ok_or_else(|| Failure::new(FAILED, "the library hands on an event that follow cannot print"))?;
             outbox.hand_on(item);

@@ -1,0 +1,2 @@
+pub mod ServerDone
+pub mod Cases

@@ -1,0 +1,1 @@
+// Definitions and theorems alone: what follows the server's CopyDone.
