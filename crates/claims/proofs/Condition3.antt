@@ -1,4 +1,4 @@
--- Condition 3, its eight parts together; the second of them, that each call answers as the table says, is read off what holds after any list of
+-- Condition 3, its nine parts together; the second of them, that each call answers as the table says, is read off what holds after any list of
 -- calls (Preserved).
 use mathlib.Core.List.{List}
 use Prim.Native.Nat.{ℕ}
@@ -14,6 +14,7 @@ use Rattle.claims.proofs.Counters.{counters-traced}
 use Rattle.claims.proofs.Failed.{error-shown}
 use Rattle.claims.proofs.HandsOn.{hands-on, events-begin}
 use Rattle.claims.proofs.Preserved.{step-next, refused-leaves, played-preserved}
+use Rattle.claims.proofs.Views.{views-traced}
 
 pub calls-traced : Calls-traced
 calls-traced s b bytes p cs =
@@ -34,6 +35,7 @@ condition-3 =
       answers = calls-traced;
       refused = calls-refused;
       error = error-shown;
+      views = views-traced;
       counters = counters-traced;
       events = hands-on;
       begins = events-begin;

@@ -11,6 +11,7 @@ pub mod Rows
 pub mod Preserved
 pub mod Counters
 pub mod Failed
+pub mod Views
 pub mod HandsOn
 pub mod Confirms
 pub mod Condition3

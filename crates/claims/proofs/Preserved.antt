@@ -163,7 +163,7 @@ module _ (s : Setup) (trace : Trace) (z : Played) (w : Preserved s trace z) (i :
 
 -- ---- any list of calls
 
-calls-preserved : (s : Setup) (cs : List Call) (trace : Trace) (z : Played) → Preserved s trace z
+pub calls-preserved : (s : Setup) (cs : List Call) (trace : Trace) (z : Played) → Preserved s trace z
     → Preserved s (traceAll s trace cs) (playAll (s .bytes) z cs)
 unfolding playAll traceAll reportOf stateAfter takenBy handedBy observationsOf
 calls-preserved s [] trace z w = w

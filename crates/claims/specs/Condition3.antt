@@ -1,4 +1,4 @@
--- Condition 3, whole: one claim about every list of calls, in eight parts. Each part's statement stands in the file named beside it. SCOPE 8; 01,
+-- Condition 3, whole: one claim about every list of calls, in nine parts. Each part's statement stands in the file named beside it. SCOPE 8; 01,
 -- "Events and confirmations".
 use Rattle.claims.specs.Beginnings.{Beginnings-answer}
 use Rattle.claims.specs.Confirms.{Confirms-largest}
@@ -7,6 +7,7 @@ use Rattle.claims.specs.Refused.{Refused-leaves}
 use Rattle.claims.specs.Traced.{Calls-traced}
 use Rattle.claims.specs.Counters.{Counters-traced}
 use Rattle.claims.specs.HandsOn.{Hands-on, Events-begin}
+use Rattle.claims.specs.Views.{Views-traced}
 
 pub record Condition-3 : Type 0 where
   -- Beginnings: `open` and `already_open` refuse, write and answer by their arguments; each part below is about a run that they made
@@ -19,6 +20,8 @@ pub record Condition-3 : Type 0 where
   pub refused : Refused-leaves
   -- Failed: after 19 the run shows the server's error, the payload of the last whole message
   pub error : Error-shown
+  -- Views: the last status, and no error without 19, also after the run's end
+  pub views : Views-traced
   -- Counters: the numbers of `metrics` are those that the calls and the server's bytes give
   pub counters : Counters-traced
   -- HandsOn: if no queue closes, the events handed on are exactly the plain reading

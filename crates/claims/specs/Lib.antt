@@ -13,5 +13,6 @@ pub mod Traced
 pub mod Counters
 pub mod Refused
 pub mod Failed
+pub mod Views
 pub mod HandsOn
 pub mod Condition3
