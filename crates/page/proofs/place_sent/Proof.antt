@@ -1,0 +1,18 @@
+-- A position, or a hyphen.
+use Rattle.config.specs.ReadBack.{ascii}
+use borrow.Author.Needs.{needs}
+use Rattle.page.proofs.place_sent.Statement.{statement}
+use Rattle.page.proofs.place_sent.Tie as tie
+
+returns : tie.Need-returns
+unfolding ascii
+returns c = rw (c .before .before .before .before .before .if1 .taken) (c .before .before .place-position .ensures)
+
+returns-2 : tie.Need-returns-2
+unfolding ascii
+returns-2 c = rw (c .before .before .before .before .before .before .if1 .left) (c .before .before .place-line .ensures)
+
+pub place-sent-spec : {M : Type 1} → statement M
+place-sent-spec =
+    tie.close
+    (tie.spec (search needs) (search needs) (search needs) returns (search needs) (search needs) (search needs) (search needs) returns-2)
