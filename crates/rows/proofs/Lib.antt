@@ -1,0 +1,14 @@
+pub mod BothWays
+pub mod Cases
+pub mod Columns
+pub mod Cut
+pub mod Descriptions
+pub mod Ends
+pub mod Heads
+pub mod Letters
+pub mod Parts
+pub mod Places
+pub mod Readers
+pub mod Sent
+pub mod Steps
+pub mod Within

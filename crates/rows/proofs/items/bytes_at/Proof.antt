@@ -1,0 +1,58 @@
+-- A length that is not negative, and so many bytes.
+use mathlib.Core.Option.{some}
+use mathlib.Core.Path.{_≡_, sym}
+use Prim.Native.Nat.{_+_, _≤_}
+use lib.ListN.{length}
+use Rattle.wire.specs.Field.{fieldAt, u32Of}
+use Rattle.wire.proofs.FieldLaws.{told as said, field-within}
+use Rattle.rows.proofs.Steps.{value-cut, value-negative, value-short, value-whole}
+use native.Mathlib.Omega.{arith}
+use borrow.Author.Needs.{needs}
+use Rattle.rows.proofs.items.bytes_at.Statement.{statement}
+use Rattle.rows.proofs.items.bytes_at.Tie as tie
+
+abbrev start : tie.After-known-told → tie.Start
+start c = c .before .before .before .before .before
+
+length-read : (c : tie.After-known-told) → let a = start c .args in fieldAt 4 (a .bytes .now) (a .at) ≡ some (c .before .len .given .0 .0)
+length-read c = said u32Of (c .before .before .before .read-u32 .ensures) (c .before .len .given .1)
+
+within : (c : tie.After-known-told) → let a = start c .args in a .at + 4 ≤ length (a .bytes .now)
+within c = field-within 4 _ _ _ (length-read c)
+
+returns : tie.Need-returns
+returns c =
+    let a = c .before .before .before .before .args in
+    sym (value-cut (a .bytes .now) (a .at) (said u32Of (c .before .before .read-u32 .ensures) (c .enum-told .given .1)))
+
+returns-2 : tie.Need-returns-2
+returns-2 c =
+    let k = c .before in
+    let a = start k .args in
+    sym (value-negative (a .bytes .now) (a .at) (k .before .len .given .0 .0) (length-read k) (c .if1 .taken))
+
+add-from : tie.Need-add-from
+add-from c = omega (arith, within (c .before))
+
+sub-if2 : tie.Need-sub-if2
+sub-if2 c = omega (arith, within (c .before))
+
+returns-3 : tie.Need-returns-3
+returns-3 c =
+    let k = c .before .before in
+    let a = start k .args in
+    sym (value-short (a .bytes .now) (a .at) (k .before .len .given .0 .0) (length-read k) (c .before .if1 .left) (c .if2 .taken))
+
+add-t9 : tie.Need-add-t9
+add-t9 c = omega (arith, within (c .before .before))
+
+returns-4 : tie.Need-returns-4
+returns-4 c =
+    let k = c .before .before in
+    let a = start k .args in
+    sym (value-whole (a .bytes .now) (a .at) (k .before .len .given .0 .0) (length-read k) (c .before .if1 .left) (c .if2 .left))
+
+pub bytes-at-spec : {M : Type 1} → statement M
+bytes-at-spec =
+    tie.close
+    (tie.spec (search needs) (search needs) (search needs) returns returns-2 add-from (search needs) sub-if2 returns-3 add-t9 returns-4)

@@ -1,0 +1,5 @@
+pub mod Head
+pub mod Layout
+pub mod RowCases
+pub mod RowLayout
+pub mod Rows
