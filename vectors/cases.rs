@@ -31,6 +31,7 @@ pub fn all(add: Add) {
     step_refusals(add);
     moments(add);
     reports(add);
+    files(add);
     timings(add);
     intervals(add);
     buffers(add);
@@ -415,7 +416,17 @@ fn handling_refusals(add: Add) {
 /// The server's CopyDone: from draining and waiting alike, with nothing else looked at, and the run's last call.
 fn copy_dones(add: Add) {
     let done = framed(b'c', b"");
-    let ways = [at(2), at(2).stop(), at(2).full(), at(2).closed(), at(2).closed().stop(), at(9_000), at(9_000).full().stop(), at(2).unread(0), at(2).ended()];
+    let ways = [
+        at(2),
+        at(2).stop(),
+        at(2).full(),
+        at(2).closed(),
+        at(2).closed().stop(),
+        at(9_000),
+        at(9_000).full().stop(),
+        at(2).unread(0),
+        at(2).ended(),
+    ];
     for way in ways {
         // after the event of a message before it, which waits for the queue
         let mut s = offered(&[&keepalive(0x70, 0, 0), &done, &keepalive(1, 1, 1)]);
@@ -629,6 +640,70 @@ fn reports(add: Add) {
     let mut s = pending(&[]);
     s.report(0x33, 2).steps(&[at(2), at(1_000)]).report(0x34, 1_000).steps(&[at(1_001), at(1_001), at(1_001), at(1_001)]);
     add(&s);
+}
+
+/// Every order of the four files.
+fn orders() -> Vec<[u8; 4]> {
+    let mut all = Vec::new();
+    for n in 0..256u32 {
+        let order = [0, 2, 4, 6].map(|bit| (n >> bit & 3) as u8);
+        if (0..4).all(|file| order.contains(&file)) {
+            all.push(order);
+        }
+    }
+    all
+}
+
+/// One confirmation for four files.
+fn files(add: Add) {
+    for timing in [true, false] {
+        // 02's reading: nothing is confirmed, signalled or stored before the last of the four; its own moment is stored
+        let mut s = waiting(&[]);
+        (s.settings.timing, s.start) = (timing, 0);
+        s.file(0, 5, 11).file(1, 5, 12).file(2, 5, 13).steps(&[at(20), at(21)]).file(3, 5, 14).steps(&[at(22), at(22), at(22), at(1_022), at(6_022)]);
+        add(&s);
+        // one a file in every order, from a start and from files apart; and as one report to all
+        for order in orders().into_iter().filter(|order| timing || order[0] == 3) {
+            let mut s = waiting(&[]);
+            s.settings.timing = timing;
+            order.iter().for_each(|file| _ = s.file(*file, 0x20, 3));
+            s.file(1, 0x50, 4).file(2, 0x30, 5).step(at(5));
+            order.iter().for_each(|file| _ = s.file(*file, 0x40, 6));
+            s.report(0x40, 7).report(0x60, 8).step(at(1_001)).step(at(1_002));
+            add(&s);
+        }
+        // a file lags, is overtaken by the others, repeats itself and goes back; the smallest rises in steps
+        let mut s = waiting(&[]);
+        s.settings.timing = timing;
+        s.file(0, 0x90, 2)
+            .file(1, 0x70, 3)
+            .file(2, 0x80, 4)
+            .step(at(4))
+            .file(3, 0x30, 5)
+            .file(3, 0x30, 6)
+            .file(3, 0x20, 7)
+            .steps(&[at(7), at(1_007)]);
+        s.file(3, 0x71, 1_008).file(1, 0x85, 1_009).file(3, u64::MAX, 1_010).steps(&[at(1_010), at(2_010), at(2_011)]);
+        s.file(2, 0x90, 2_012).file(1, 0x91, 2_013).steps(&[at(2_014), at(3_014), at(8_014)]);
+        add(&s);
+        // a report below the start moves nothing: the status confirms the start
+        let mut s = Script::new(&[]);
+        s.settings.timing = timing;
+        s.file(0, 3, 1).file(1, 0x0F, 1).file(2, 0x10, 1).file(3, 0, 1).steps(&[at(1), at(2), at(2)]);
+        add(&s);
+    }
+    // 31 for every number above 3, on a fresh, a streaming and an ended run; nothing changes
+    for file in [4, 5, 127, 128, 255] {
+        let mut s = Script::new(&[]);
+        s.settings.timing = true;
+        s.file(file, 0x99, 1).step(at(1)).file(file, u64::MAX, 2).steps(&[at(2), at(3)]).file(file, 0x99, 3).steps(&[at(4), at(1_004)]);
+        s.file(0, 0x20, 5).file(1, 0x20, 5).file(2, 0x20, 5).file(file, 0x20, 5).step(at(1_005)).file(3, 0x20, 6).steps(&[at(1_006), at(1_007)]);
+        s.step(at(1_008).stop()).step(at(1_009).stop()).file(file, 0x99, 7).file(3, 0x99, 7).report(0x98, 8).file(file, 0, 0);
+        add(&s);
+        let mut s = Script::opened(&[&both()]);
+        s.file(file, 0x99, 1).steps(&[at(1), at(2)]).file(file, 0x99, 1).step(at(3));
+        add(&s);
+    }
 }
 
 fn timings(add: Add) {

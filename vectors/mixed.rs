@@ -8,7 +8,7 @@ use crate::scripts::{at, Script, Step};
 use crate::server::{begin, both, commit, data, error, keepalive, message, notice};
 use crate::shared::Draw;
 
-const SCRIPTS: usize = 185;
+const SCRIPTS: usize = 160;
 
 fn position(draw: &mut Draw) -> u64 {
     *draw.pick(&[0, 1, 0x10, 0xFF, 0x100, 0x101, 0x200, 0x1_0000_0000, u64::MAX, 0x16_B374_D848])
@@ -103,6 +103,10 @@ fn script(draw: &mut Draw) -> Script {
         moment += *draw.pick(&[0, 0, 1, 250, 499, 500, 501, 1_000, 5_000]);
         if draw.below(7) == 0 {
             s.report(position(draw) & 0xFFFF_FFFF, *draw.pick(&[0, 1, moment, moment + 700, moment / 2]));
+        }
+        if draw.below(10) == 0 {
+            let file = *draw.pick(&[0, 1, 2, 3, 0, 1, 2, 3, 0, 1, 2, 3, 4, 255]);
+            s.file(file, position(draw) & 0xFFFF, *draw.pick(&[0, 1, moment, moment + 700, moment / 2]));
         }
         let next = step(draw, moment, i >= asked);
         s.step(next);

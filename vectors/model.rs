@@ -121,7 +121,9 @@ pub struct Run {
     pub state: State,
     reader: Reader,
     last_moment: u64,
-    pub position: u64,
+    start: u64,
+    /// Every report that was not refused: its file and its position.
+    reports: Vec<(u64, u64)>,
     signalled: bool,
     stored: u64,
     sent: Option<Sent>,
@@ -166,7 +168,8 @@ impl Run {
             settings,
             state,
             last_moment: 0,
-            position: start,
+            start,
+            reports: Vec::new(),
             signalled: false,
             stored: 0,
             sent: None,
@@ -182,16 +185,40 @@ impl Run {
         }
     }
 
-    pub fn report(&mut self, position: u64, moment: u64) {
+    /// The largest of the start and a file's reports.
+    fn reached(&self, file: u64) -> u64 {
+        self.reports.iter().filter(|(f, _)| *f == file).map(|(_, position)| *position).fold(self.start, u64::max)
+    }
+
+    /// What a status would confirm: the smallest of the four files.
+    pub fn position(&self) -> u64 {
+        (0..4).map(|file| self.reached(file)).min().unwrap()
+    }
+
+    /// A file's report, and its refusal. There is a signal, and a moment to store, only where the smallest of the four rises.
+    pub fn report(&mut self, file: u64, position: u64, moment: u64) -> u8 {
         if self.state == State::Ended {
-            seen("report on an ended run");
+            seen(if file > 3 { "report of no file on an ended run" } else { "report on an ended run" });
         }
-        if position <= self.position {
-            seen(if position == self.position { "report of the same position" } else { "report of a lower position" });
-            return;
+        if file > 3 {
+            seen("report of no file");
+            return 31;
         }
-        seen("report that raises");
-        self.position = position;
+        let (reached, before) = (self.reached(file), self.position());
+        self.reports.push((file, position));
+        let now = self.position();
+        if now > before {
+            seen(if now < position { "report that raises to another file" } else { "report that raises" });
+            self.raised(moment);
+        } else if position > reached {
+            seen(if reached > before { "report of a file that is ahead" } else { "report of a file that is not alone behind" });
+        } else {
+            seen(if position == reached { "report of the same position" } else { "report of a lower position" });
+        }
+        0
+    }
+
+    fn raised(&mut self, moment: u64) {
         self.signalled = true;
         if self.settings.timing {
             seen(if self.stored != 0 {
@@ -285,16 +312,16 @@ impl Run {
     }
 
     fn status(&mut self, call: &mut Call, reply: u8) {
-        let position = self.position.to_be_bytes();
+        let position = self.position().to_be_bytes();
         let body = [&b"r"[..], &position, &position, &position, &call.input.client_time.to_be_bytes(), &[reply]].concat();
         call.write(&framed(b'd', &body));
-        let rises = self.sent.as_ref().is_none_or(|sent| self.position > sent.position);
+        let rises = self.sent.as_ref().is_none_or(|sent| self.position() > sent.position);
         if self.settings.timing {
             call.answer.waited = self.waited(rises, call.input.moment);
         }
-        self.sent = Some(Sent { position: self.position, at: call.input.moment });
+        self.sent = Some(Sent { position: self.position(), at: call.input.moment });
         self.metrics.statuses = self.metrics.statuses.wrapping_add(1);
-        self.metrics.last_applied = self.position;
+        self.metrics.last_applied = self.position();
     }
 
     fn waited(&mut self, rises: bool, moment: u64) -> Option<u64> {
@@ -388,7 +415,7 @@ impl Run {
             seen("Drain: none drained, 4 bytes");
         }
         self.signalled = false;
-        self.pending = self.sent.as_ref().is_none_or(|sent| self.position > sent.position);
+        self.pending = self.sent.as_ref().is_none_or(|sent| self.position() > sent.position);
         seen(if self.pending { "Drain: wait, pending" } else { "Drain: wait, not pending" });
         self.wait_began = call.input.moment;
         self.state = State::Waiting;
@@ -497,7 +524,7 @@ impl Run {
             ("queue full", matches!(input.queue, Queue::Full)),
             ("queue closed", matches!(input.queue, Queue::Closed)),
             ("interval passed", self.due(input.moment)),
-            ("position above the last sent", self.sent.as_ref().is_none_or(|sent| self.position > sent.position)),
+            ("position above the last sent", self.sent.as_ref().is_none_or(|sent| self.position() > sent.position)),
         ];
         ignored.iter().filter(|test| test.1).for_each(|test| seen(&format!("Handling: CopyDone, {}", test.0)));
     }

@@ -57,7 +57,9 @@ impl Step {
 
 pub enum Call {
     Step(Step),
+    /// For all four files.
     Report(u64, u64),
+    FileReport(u8, u64, u64),
 }
 
 pub struct Script {
@@ -110,6 +112,11 @@ impl Script {
         self
     }
 
+    pub fn file(&mut self, file: u8, position: u64, moment: u64) -> &mut Script {
+        self.calls.push(Call::FileReport(file, position, moment));
+        self
+    }
+
     pub fn bytes(&self) -> Vec<u8> {
         let s = &self.settings;
         let mut b = vec![b'R', self.already_open as u8];
@@ -152,8 +159,12 @@ impl Script {
             match call {
                 Call::Step(step) => lines += &step.line(&mut run, &mut rest, &mut payload),
                 Call::Report(position, moment) => {
-                    run.report(*position, *moment);
-                    writeln!(lines, "P {}", display(run.position)).unwrap();
+                    (0..4).for_each(|file| assert_eq!(run.report(file, *position, *moment), 0));
+                    writeln!(lines, "P {}", display(run.position())).unwrap();
+                }
+                Call::FileReport(file, position, moment) => {
+                    let refusal = run.report(*file as u64, *position, *moment);
+                    writeln!(lines, "F {refusal} {}", display(run.position())).unwrap();
                 }
             }
         }
@@ -219,6 +230,7 @@ impl Call {
             ]
             .concat(),
             Call::Report(position, moment) => [&b"P"[..], &position.to_be_bytes(), &moment.to_be_bytes()].concat(),
+            Call::FileReport(file, position, moment) => [&b"F"[..], &[*file], &position.to_be_bytes(), &moment.to_be_bytes()].concat(),
         }
     }
 }

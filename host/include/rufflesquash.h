@@ -25,7 +25,7 @@ extern "C" {
 #endif
 
 /* The number of this list and of the functions; it grows with every change of either. */
-#define RUFFLESQUASH_ABI 3
+#define RUFFLESQUASH_ABI 4
 
 /* Settings: intervals are nanoseconds, a flag is true unless 0. */
 #define RUFFLESQUASH_SETTINGS_WORDS 7
@@ -58,7 +58,7 @@ extern "C" {
 #define RUFFLESQUASH_RUN_LAST_MOMENT 16
 #define RUFFLESQUASH_RUN_WAIT_BEGAN 17
 #define RUFFLESQUASH_RUN_STALL_BEGAN 18
-#define RUFFLESQUASH_RUN_APPLIED 19
+#define RUFFLESQUASH_RUN_FILE_0 19
 #define RUFFLESQUASH_RUN_SIGNALLED 20
 #define RUFFLESQUASH_RUN_PENDING_SINCE 21
 #define RUFFLESQUASH_RUN_TIMED 22
@@ -87,7 +87,13 @@ extern "C" {
 #define RUFFLESQUASH_RUN_STALL_MICROS_TOTAL 45
 #define RUFFLESQUASH_RUN_LAST_APPLIED_LSN 46
 #define RUFFLESQUASH_RUN_LAST_WAL_END 47
-#define RUFFLESQUASH_RUN_SPARE 48
+#define RUFFLESQUASH_RUN_FILE_1 48
+#define RUFFLESQUASH_RUN_FILE_2 49
+#define RUFFLESQUASH_RUN_FILE_3 50
+#define RUFFLESQUASH_RUN_SPARE 51
+
+/* Files; every other number is none. */
+#define RUFFLESQUASH_FILES 4
 
 /* States of a run; every other number is Ended. */
 #define RUFFLESQUASH_STATE_OPENING 0
@@ -284,8 +290,9 @@ void rufflesquash_advance(uint64_t run[RUFFLESQUASH_RUN_WORDS], uint64_t moment,
                           const uint8_t *unread, size_t unread_len, uint8_t *payload, size_t payload_len, uint8_t *out, size_t out_len,
                           uint64_t answer[RUFFLESQUASH_ANSWER_WORDS]);
 
-/* The consumer has applied all before a position. */
-void rufflesquash_report(uint64_t run[RUFFLESQUASH_RUN_WORDS], uint64_t position, uint64_t moment);
+/* A file, 0 to 3, has applied all before a position. A status confirms the smallest over the four files of the largest of the start and that
+ * file's reports; a host with fewer files reports for all four. 31 for every other number, on any run, and the words are as they were. */
+uint64_t rufflesquash_report(uint64_t run[RUFFLESQUASH_RUN_WORDS], uint64_t file, uint64_t position, uint64_t moment);
 
 /* When a step moves next while no byte is unread, the input has not ended, no stop is requested, the queue stays as it is and nothing is
  * reported: its kind, and for FROM the moment. A host that has unread bytes, an ended input or a stop request steps at once instead. */

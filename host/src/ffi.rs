@@ -8,7 +8,7 @@
 #![allow(dead_code)]
 
 // ---- the number of this list and of the functions; it grows with every change of either
-pub const ABI: u64 = 3;
+pub const ABI: u64 = 4;
 
 // ---- settings: intervals are nanoseconds, a flag is true unless 0
 pub const SETTINGS_WORDS: usize = 7;
@@ -41,7 +41,7 @@ pub const RUN_READER_REFUSED: usize = 15;
 pub const RUN_LAST_MOMENT: usize = 16;
 pub const RUN_WAIT_BEGAN: usize = 17;
 pub const RUN_STALL_BEGAN: usize = 18;
-pub const RUN_APPLIED: usize = 19;
+pub const RUN_FILE_0: usize = 19;
 pub const RUN_SIGNALLED: usize = 20;
 pub const RUN_PENDING_SINCE: usize = 21;
 pub const RUN_TIMED: usize = 22;
@@ -70,7 +70,13 @@ pub const RUN_STALL_COUNT: usize = 44;
 pub const RUN_STALL_MICROS_TOTAL: usize = 45;
 pub const RUN_LAST_APPLIED_LSN: usize = 46;
 pub const RUN_LAST_WAL_END: usize = 47;
-pub const RUN_SPARE: usize = 48;
+pub const RUN_FILE_1: usize = 48;
+pub const RUN_FILE_2: usize = 49;
+pub const RUN_FILE_3: usize = 50;
+pub const RUN_SPARE: usize = 51;
+
+// ---- files; every other number is none
+pub const FILES: u64 = 4;
 
 // ---- states of a run; every other number is Ended
 pub const STATE_OPENING: u64 = 0;
@@ -284,7 +290,7 @@ extern "C" {
         answer: *mut [u64; ANSWER_WORDS],
     );
 
-    pub fn rufflesquash_report(run: *mut [u64; RUN_WORDS], position: u64, moment: u64);
+    pub fn rufflesquash_report(run: *mut [u64; RUN_WORDS], file: u64, position: u64, moment: u64) -> u64;
 
     pub fn rufflesquash_next_step(run: *const [u64; RUN_WORDS], payload_len: usize, queue: u64, next: *mut [u64; NEXT_WORDS]);
 
@@ -300,14 +306,7 @@ extern "C" {
 
     pub fn rufflesquash_lossy(text: *const u8, text_len: usize, out: *mut u8, out_len: usize, written: *mut u64, marks: *mut u64) -> u64;
 
-    pub fn rufflesquash_error_text(
-        payload: *const u8,
-        payload_len: usize,
-        out: *mut u8,
-        out_len: usize,
-        written: *mut u64,
-        marks: *mut u64,
-    ) -> u64;
+    pub fn rufflesquash_error_text(payload: *const u8, payload_len: usize, out: *mut u8, out_len: usize, written: *mut u64, marks: *mut u64) -> u64;
 
     pub fn rufflesquash_display_position(position: u64, out: *mut u8, out_len: usize, written: *mut u64) -> u64;
 
@@ -469,9 +468,9 @@ pub fn already_open(settings: &[u64; SETTINGS_WORDS], start: u64) -> (u64, RunWo
     (number, run)
 }
 
-pub fn report(run: &mut RunWords, position: u64, moment: u64) {
+pub fn report(run: &mut RunWords, file: u64, position: u64, moment: u64) -> u64 {
     // SAFETY: the array has the length that the function names.
-    unsafe { rufflesquash_report(run, position, moment) }
+    unsafe { rufflesquash_report(run, file, position, moment) }
 }
 
 pub fn next_step(run: &RunWords, payload_len: usize, queue: u64) -> [u64; NEXT_WORDS] {

@@ -62,10 +62,11 @@ refusals! {
     23 InvalidHighPart "the part of a position before the slash is not 1 to 8 hexadecimal digits",
     24 InvalidLowPart "the part of a position after the slash is not 1 to 8 hexadecimal digits",
     25 InputTooLong "the lent inputs have more than 1,048,576 bytes together",
+    31 NoSuchFile "the file's number is above 3",
 }
 
 impl Refusal {
-    /// The refusal's number, 1 to 25; 255 for [`Refusal::Unknown`], which no call of the archive that belongs to this crate gives.
+    /// The refusal's number, 1 to 25 and 31; 255 for [`Refusal::Unknown`], which no call of the archive that belongs to this crate gives.
     pub fn number(self) -> u8 {
         self as u8
     }
@@ -128,10 +129,10 @@ mod tests {
     #[test]
     fn a_number_of_no_refusal_is_no_success() {
         assert_eq!(Refusal::checked(0), Ok(()));
-        for number in 1..=25 {
+        for number in (1..=25).chain([31]) {
             assert_eq!(Refusal::checked(number).map_err(|r| u64::from(r.number())), Err(number));
         }
-        for number in [26, 35, 254, 255, 256, 257, u64::MAX] {
+        for number in [26, 30, 32, 254, 255, 256, 257, u64::MAX] {
             assert_eq!(Refusal::checked(number), Err(Refusal::Unknown), "{number}");
         }
     }

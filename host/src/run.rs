@@ -55,9 +55,22 @@ impl Run {
         Step::of_words(answer, payload)
     }
 
-    /// Tells the run that the consumer has applied all before a position. A lower position than before changes nothing.
-    pub fn report(&mut self, position: Lsn, moment: Moment) {
-        ffi::report(&mut self.words, position.0, moment.0)
+    /// How many files a run has. They are numbered from 0.
+    pub const FILES: u64 = ffi::FILES;
+
+    /// Tells the run that one of the four files has applied all before a position. A lower position than this file's changes nothing.
+    ///
+    /// A status confirms the smallest over the four files of the largest of the start and that file's reports. A number above 3 is refused with
+    /// [`Refusal::NoSuchFile`], and nothing changes.
+    pub fn report(&mut self, file: u64, position: Lsn, moment: Moment) -> Result<(), Refusal> {
+        Refusal::checked(ffi::report(&mut self.words, file, position.0, moment.0))
+    }
+
+    /// The same for all four files, none of which is refused: what a consumer does that has fewer of them.
+    pub fn report_all(&mut self, position: Lsn, moment: Moment) {
+        for file in 0..Self::FILES {
+            ffi::report(&mut self.words, file, position.0, moment.0);
+        }
     }
 
     /// When to step again while nothing new comes, with a payload buffer of this length and the queue as it is now.
@@ -92,7 +105,7 @@ impl Run {
         }
     }
 
-    /// What a status would confirm now: the largest of the start and the reports.
+    /// What a status would confirm now: the smallest over the four files of the largest of the start and that file's reports.
     pub fn position(&self) -> Lsn {
         Lsn(ffi::position(&self.words))
     }

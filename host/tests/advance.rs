@@ -108,7 +108,7 @@ fn on_streams() {
             at += answer.taken;
             events += answer.event.is_some() as u64;
             if draw.below(10) == 0 {
-                held.run.report(Lsn(draw.below(64)), Moment(moment));
+                held.run.report(draw.below(4), Lsn(draw.below(64)), Moment(moment)).unwrap();
             }
         }
         ends += (held.run.state() == State::Ended) as u64;

@@ -75,21 +75,66 @@ fn status(position: u64, reply: u8) -> Vec<u8> {
 }
 
 #[test]
-fn a_status_confirms_the_largest_report() {
+fn a_status_confirms_the_smallest_of_the_largest_reports() {
     let s = Settings { timing: true, ..settings() };
     let mut fed = Fed::new(Run::already_open(&s, Lsn(0x10)).unwrap(), b"");
     assert_eq!(fed.step().written, 39);
     assert_eq!(fed.out[..39], status(0x10, 0));
     assert!(fed.out[39..].iter().all(|&b| b == FILL));
     assert_eq!(fed.run.last_sent().map(|l| (l.position, l.at)), Some((Lsn(0x10), Moment(1000))));
-    fed.run.report(Lsn(0x50), Moment(3000));
-    fed.run.report(Lsn(0x40), Moment(4000));
+    for (file, position, moment) in [(2, 0x90, 1500), (0, 0x50, 2000), (3, 0x60, 2500)] {
+        fed.run.report(file, Lsn(position), Moment(moment)).unwrap();
+        assert_eq!(fed.run.position(), Lsn(0x10), "one file is at the start");
+    }
+    fed.run.report(1, Lsn(0x70), Moment(3000)).unwrap();
+    fed.run.report(0, Lsn(0x40), Moment(4000)).unwrap();
     assert_eq!(fed.run.position(), Lsn(0x50));
     fed.moment = 30_000_000;
     let answer = (0..9).map(|_| fed.step()).find(|answer| answer.written > 0).unwrap();
     assert_eq!(fed.out[..39], status(0x50, 0));
     assert_eq!(answer.waited, Some(Duration::from_nanos(fed.moment - 3000)));
     assert_eq!(fed.run.metrics().last_applied_lsn, Lsn(0x50));
+}
+
+#[test]
+fn four_reports_are_one_report_for_all() {
+    let orders = [[0, 1, 2, 3], [3, 2, 1, 0], [2, 0, 3, 1], [1, 3, 0, 2]];
+    for order in orders {
+        let s = Settings { timing: true, ..settings() };
+        let mut one = Run::already_open(&s, Lsn(0x10)).unwrap();
+        one.report(2, Lsn(0x30), Moment(1)).unwrap();
+        let mut all = one.clone();
+        order.into_iter().for_each(|file| one.report(file, Lsn(0x20), Moment(7)).unwrap());
+        all.report_all(Lsn(0x20), Moment(7));
+        assert_eq!(one, all);
+        assert_eq!(one.position(), Lsn(0x20));
+    }
+}
+
+// 31 on a fresh, a streaming and an ended run, for every number above 3: none is narrowed before the test.
+#[test]
+fn a_report_of_no_file_changes_nothing() {
+    let s = Settings { timing: true, ..settings() };
+    let fresh = Run::already_open(&s, Lsn(0x10)).unwrap();
+    let mut streaming = Fed::new(fresh.clone(), &keepalive(0x30, 1, 0));
+    (0..3).for_each(|_| _ = streaming.step());
+    let mut ended = Fed::new(fresh.clone(), b"");
+    ended.stop = true;
+    while ended.run.state() != State::Ended {
+        ended.step();
+    }
+    let opening = Run::open(&s, b"s", &[b"p"], Lsn(0), Lsn(0), &mut [0; 256]).unwrap().0;
+    for run in [fresh, streaming.run, ended.run, opening] {
+        for file in [4, 5, 0xFF, 0x100, 0x103, 1 << 32, (1 << 32) + 1, 1 << 63, u64::MAX - 3, u64::MAX] {
+            let mut told = run.clone();
+            assert_eq!(told.report(file, Lsn(u64::MAX), Moment(9)), Err(Refusal::NoSuchFile), "{file}");
+            assert_eq!(told, run, "{file}");
+        }
+        let mut told = run.clone();
+        told.report(3, Lsn(u64::MAX), Moment(9)).unwrap();
+        assert_ne!(told, run);
+        assert_eq!(told.position(), run.position());
+    }
 }
 
 #[test]
@@ -277,7 +322,9 @@ fn any_words_are_a_run() {
             let answer = fed.step();
             assert!(answer.refusal.is_none_or(|r| (2..=19).contains(&r.number())));
             assert!(matches!(answer.written, 0 | 5 | 39));
-            fed.run.report(Lsn(draw.word()), Moment(draw.word()));
+            let file = draw.word() >> draw.below(64);
+            let told = fed.run.report(file, Lsn(draw.word()), Moment(draw.word()));
+            assert_eq!(told, if file < Run::FILES { Ok(()) } else { Err(Refusal::NoSuchFile) });
             let _ = (fed.run.next_step(4096, fed.queue), fed.run.error(&fed.payload));
             assert_eq!(fed.run, Run::from_words(*fed.run.as_words()));
             assert!(format!("{:?}", fed.run).starts_with("Run { state: "));

@@ -124,6 +124,15 @@ static uint8_t payload[LIMIT + 8], out[64];
 static uint64_t moment, queue;
 static bool stop, ended;
 
+/* What a status would confirm, of the words. */
+static uint64_t smallest(void) {
+    uint64_t least = run[R(RUN_FILE_0)];
+    for (size_t i = R(RUN_FILE_1); i <= R(RUN_FILE_3); i++) {
+        if (run[i] < least) least = run[i];
+    }
+    return least;
+}
+
 /* One step or advance with these bytes, a microsecond later; the words that the header documents are held to their other readers. */
 static void call(bool several, const uint8_t *unread, size_t len) {
     uint64_t metrics[R(METRICS_WORDS)], last[R(STATUS_WORDS)];
@@ -134,7 +143,7 @@ static void call(bool several, const uint8_t *unread, size_t len) {
                                                          sizeof out, answer);
     for (size_t i = answer[R(ANSWER_WRITTEN)]; i < sizeof out; i++) SAME(out[i], FILL);
     SAME(rufflesquash_state(run), run[R(RUN_STATE)]);
-    SAME(rufflesquash_position(run), run[R(RUN_APPLIED)]);
+    SAME(rufflesquash_position(run), smallest());
     SAME(run[R(RUN_TIMED)], 1);
     if (answer[R(ANSWER_REFUSAL)] == 0) SAME(run[R(RUN_LAST_MOMENT)], moment);
     rufflesquash_metrics(run, metrics);
@@ -191,12 +200,17 @@ static void opening(void) {
     SAME(written, expected.len);
     BYTES(room, expected.at, expected.len);
     SAME(room[written], FILL);
-    /* A fresh run: settings, the state, the start, whether it is timed; all else is 0. */
-    WORDS(run, 10 * MS, 30 * MS, LIMIT, 1, 0x900000009, 1, 1, R(STATE_OPENING), 0, 0, 0, 0, 0, 0, 0, 0, 0, 0, 0, 0x77, 0, 0, 1);
-    SAME(run[R(RUN_APPLIED)], 0x77);
+    /* A fresh run: settings, the state, the start for each file, whether it is timed; all else is 0. */
+    WORDS(run, 10 * MS, 30 * MS, LIMIT, 1, 0x900000009, 1, 1, R(STATE_OPENING), 0, 0, 0, 0, 0, 0, 0, 0, 0, 0, 0, 0x77, 0, 0, 1,
+          [R(RUN_FILE_1)] = 0x77, 0x77, 0x77);
+    SAME(run[R(RUN_FILE_0)], 0x77);
+    SAME(run[R(RUN_FILE_1)], 0x77);
+    SAME(run[R(RUN_FILE_2)], 0x77);
+    SAME(run[R(RUN_FILE_3)], 0x77);
     SAME(run[R(RUN_TIMED)], 1);
     SAME(rufflesquash_already_open(settings, 0x78, run), 0);
-    WORDS(run, 10 * MS, 30 * MS, LIMIT, 1, 0x900000009, 1, 1, R(STATE_TURN), 0, 0, 0, 0, 0, 0, 0, 0, 0, 0, 0, 0x78, 0, 0, 1);
+    WORDS(run, 10 * MS, 30 * MS, LIMIT, 1, 0x900000009, 1, 1, R(STATE_TURN), 0, 0, 0, 0, 0, 0, 0, 0, 0, 0, 0, 0x78, 0, 0, 1,
+          [R(RUN_FILE_1)] = 0x78, 0x78, 0x78);
 }
 
 /* Each flag by itself: binary is seen in the query, timing in the run. */
@@ -282,17 +296,27 @@ static void states(void) {
     WORDS(next, R(NEXT_FROM), moment + 30 * MS);
 }
 
-/* A report, in the words of the run's cell, and the status that confirms it; a lower report changes nothing. */
+/* Reports, in the words of the run, and the status that confirms the smallest; a lower report changes nothing, nor does one of no file. */
 static void reports(void) {
     uint64_t next[R(NEXT_WORDS)], before[R(RUN_WORDS)];
     begin_waiting(0x10);
     const uint64_t sent = run[R(RUN_STATUS_AT)], reported = moment + 5;
     memcpy(before, run, sizeof run);
-    rufflesquash_report(run, 0x44, reported);
-    rufflesquash_report(run, 0x33, reported + 7);
-    before[R(RUN_APPLIED)] = 0x44, before[R(RUN_SIGNALLED)] = 1, before[R(RUN_PENDING_SINCE)] = reported;
+    SAME(rufflesquash_report(run, 1, 0x55, reported - 3), 0);
+    SAME(rufflesquash_report(run, 3, 0x77, reported - 2), 0);
+    SAME(rufflesquash_report(run, 0, 0x44, reported - 1), 0);
+    before[R(RUN_FILE_0)] = 0x44, before[R(RUN_FILE_1)] = 0x55, before[R(RUN_FILE_3)] = 0x77;
     BYTES(run, before, sizeof run);
-    SAME(run[R(RUN_APPLIED)], 0x44);
+    SAME(rufflesquash_position(run), 0x10);
+    SAME(rufflesquash_report(run, 2, 0x66, reported), 0);
+    before[R(RUN_FILE_2)] = 0x66, before[R(RUN_SIGNALLED)] = 1, before[R(RUN_PENDING_SINCE)] = reported;
+    BYTES(run, before, sizeof run);
+    SAME(rufflesquash_report(run, 2, 0x33, reported + 7), 0);
+    SAME(rufflesquash_report(run, R(FILES), 0x99, reported + 7), 31);
+    SAME(rufflesquash_report(run, UINT64_C(1) << 32, 0x99, reported + 7), 31);
+    SAME(rufflesquash_report(run, UINT64_MAX, 0x99, reported + 7), 31);
+    BYTES(run, before, sizeof run);
+    SAME(run[R(RUN_FILE_0)], 0x44);
     SAME(run[R(RUN_SIGNALLED)], 1);
     SAME(run[R(RUN_PENDING_SINCE)], reported);
     SAME(rufflesquash_position(run), 0x44);
@@ -622,7 +646,7 @@ static void several_steps(void) {
     WORDS(answer, 0, 4);
     /* A status with its waiting time. */
     begin_waiting(0x10);
-    rufflesquash_report(run, 0x44, moment + 3);
+    for (uint64_t file = 0; file < R(FILES); file++) SAME(rufflesquash_report(run, file, 0x44, moment + 3), 0);
     const uint64_t reported = moment + 3;
     moment = run[R(RUN_STATUS_AT)] + 10 * MS;
     call(true, NULL, 0);
@@ -975,6 +999,9 @@ static void kinds(void) {
         SAME(rufflesquash_refusal_is_transient(i), i == 8 || i == 9);
     }
     SAME(rufflesquash_refusal_kind(26), R(KIND_NONE));
+    SAME(rufflesquash_refusal_kind(31), R(KIND_USAGE));
+    SAME(rufflesquash_refusal_is_transient(31), 0);
+    SAME(rufflesquash_refusal_kind(UINT64_C(1) << 32 | 31), R(KIND_NONE));
     SAME(rufflesquash_refusal_kind(UINT64_MAX), R(KIND_NONE));
     SAME(rufflesquash_refusal_is_transient(UINT64_MAX), 0);
 }

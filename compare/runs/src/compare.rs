@@ -99,6 +99,7 @@ fn smaller(what: &Happening) -> Vec<Happening> {
         Happening::Pass(n) if n > 1 => vec![Happening::Pass(1)],
         Happening::ReportFrom(p, _) => vec![Happening::Report(p)],
         Happening::Report(p) => (1..p.min(4)).map(Happening::Report).collect(),
+        Happening::File(file, p) => (1..p.min(4)).map(|p| Happening::File(file, p)).chain([Happening::Report(p)]).collect(),
         _ => Vec::new(),
     }
 }

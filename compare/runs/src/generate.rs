@@ -1,7 +1,7 @@
 //! Scenarios from a seed, inside the domain of the comparison (SCOPE 10).
 
 use crate::draw::Draw;
-use crate::scenario::{Happening, Round, Scenario, LAST_MOMENT, LONGEST_PIECE};
+use crate::scenario::{Happening, Round, Scenario, FILES, LAST_MOMENT, LONGEST_PIECE};
 use crate::server::{accepted, begin, commit, data, framed, headed, keepalive, message};
 
 const POSITIONS: &[u64] = &[0, 1, 0x10, 0xFE, 0xFF, 0x100, 0x101, 0x200, 0xFFFF_FFFF, 0x1_0000_0000, 0x16_B374_D848, u64::MAX - 1, u64::MAX];
@@ -210,7 +210,8 @@ fn messages(draw: &mut Draw, limit: u64) -> Vec<Vec<u8>> {
 /// What the server says before `W`, and `W` or what stands in its place.
 fn opening(draw: &mut Draw, limit: u64) -> Vec<Vec<u8>> {
     let within = |m: &Vec<u8>| m.len() as u64 <= limit + 5;
-    let mut all: Vec<Vec<u8>> = (0..draw.below(4)).map(|_| if draw.once_in(3) { copy_done(draw) } else { skipped(draw) }).filter(|m| m[0] != b'W' && within(m)).collect();
+    let mut all: Vec<Vec<u8>> =
+        (0..draw.below(4)).map(|_| if draw.once_in(3) { copy_done(draw) } else { skipped(draw) }).filter(|m| m[0] != b'W' && within(m)).collect();
     let last = match draw.below(16) {
         0 => error(draw),
         1 => headed(draw.pick(b"WNE"), draw.pick(&[3, 0, -1, i32::MIN]), &[]),
@@ -343,14 +344,40 @@ fn gap(draw: &mut Draw, s: &Scenario) -> u64 {
     wished.min(most * status.min(idle))
 }
 
-/// Now and then with another moment than the clock's, before it or ahead of it.
+/// Now and then with another moment than the clock's, before it or ahead of it; as often of one file, rarely of none.
 fn report(draw: &mut Draw, at: u64) -> Happening {
     let p = position(draw);
+    if draw.once_in(2) {
+        return file_report(draw, p);
+    }
     match draw.below(12) {
         0 => Happening::ReportFrom(p, at.saturating_sub(draw.below(10))),
         1 => Happening::ReportFrom(p, at + draw.below(20)),
         _ => Happening::Report(p),
     }
+}
+
+fn file_report(draw: &mut Draw, p: u64) -> Happening {
+    Happening::File(if draw.once_in(20) { draw.pick(&[FILES, 255]) } else { draw.below(FILES) }, p)
+}
+
+/// Each file's reports in a row: some lag, overtake each other and repeat themselves, and the smallest rises now and then.
+fn four_files(draw: &mut Draw) -> Vec<Happening> {
+    let far = draw.pick(&[2, 5, 40]);
+    let mut at = [draw.below(far); FILES as usize];
+    (0..2 + draw.below(8))
+        .map(|_| {
+            let file = draw.below(FILES);
+            let i = file as usize;
+            at[i] = match draw.below(6) {
+                0 => at[i],
+                1 => at[i].saturating_sub(1 + draw.below(far)),
+                2 => at[draw.size(4) % 4] + draw.below(2),
+                _ => at[i] + 1 + draw.below(far),
+            };
+            Happening::File(file, at[i])
+        })
+        .collect()
 }
 
 /// How the host of a run behaves.
@@ -382,6 +409,9 @@ impl Habits {
             _ => {}
         }
         if draw.once_in(self.reporting) {
+            if draw.once_in(3) {
+                what.extend(four_files(draw));
+            }
             (0..1 + draw.below(2)).for_each(|_| what.push(report(draw, at)));
         }
         if draw.once_in(12) {
@@ -530,6 +560,10 @@ fn busy(draw: &mut Draw, s: &mut Scenario) {
                 20.. => Happening::Pass(gap(draw, &settings)),
                 3 => Happening::Fill(1 + draw.size(2)),
                 4..=10 => Happening::Take(1 + draw.size(3)),
+                11 | 12 => {
+                    let p = position(draw);
+                    file_report(draw, p)
+                }
                 _ => Happening::Report(position(draw)),
             };
             round.during.push((call, what));

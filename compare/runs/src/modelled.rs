@@ -81,8 +81,8 @@ impl Steps for Modelled {
         }
     }
 
-    fn report(&mut self, position: u64, moment: Moment) {
-        self.run().report(position, moment.0)
+    fn report(&mut self, file: u64, position: u64, moment: Moment) -> u8 {
+        self.run().report(file, position, moment.0)
     }
 
     fn metrics(&self) -> Metrics {

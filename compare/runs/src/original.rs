@@ -1,6 +1,6 @@
 //! The Rust, unchanged, on a scripted stream under tokio's paused clock.
 
-use crate::scenario::{Happening, Scenario};
+use crate::scenario::{Files, Happening, Scenario, FILES};
 use crate::server::accepted;
 use crate::side::Side;
 use crate::trace::{client_time, put_client_time, Event, Line, Metrics, Trace};
@@ -57,6 +57,7 @@ struct Wire {
     passed: bool,
     stop: watch::Sender<bool>,
     progress: Arc<SharedProgress>,
+    files: Files,
     queue: ReplicationEventReceiver,
     filling: mpsc::Sender<Result<ReplicationEvent, PgWireError>>,
     taken: VecDeque<Event>,
@@ -106,14 +107,9 @@ impl Wire {
                 self.arrived();
             }
             Happening::Stop => drop(self.stop.send_replace(true)),
-            Happening::Report(position) => self.progress.update_applied(Lsn(*position)),
-            // The Rust stores its clock's moment where none is stored: another is stored before, where the report would store one.
-            Happening::ReportFrom(position, at) => {
-                if self.progress.load_applied() < Lsn(*position) && self.progress.pending_since().is_none() {
-                    self.progress.carry_pending((self.begun + Duration::from_millis(*at)).into_std());
-                }
-                self.progress.update_applied(Lsn(*position));
-            }
+            Happening::Report(position) => (0..FILES).for_each(|file| self.told(file, *position, None)),
+            Happening::ReportFrom(position, at) => (0..FILES).for_each(|file| self.told(file, *position, Some(*at))),
+            Happening::File(file, position) => self.told(*file, *position, None),
             Happening::Take(n) => self.take(*n),
             // Its events are errors, which the run sends none of.
             Happening::Fill(n) => drop((0..*n).all(|_| self.filling.try_send(Err(PgWireError::Task(String::new()))).is_ok())),
@@ -125,6 +121,16 @@ impl Wire {
                 self.passed = true;
             }
         }
+    }
+
+    /// A file's report. The Rust is told the smallest of the four, each time it rises and only then. It stores its clock's moment where none is
+    /// stored: another is stored before, where the report would store one.
+    fn told(&mut self, file: u64, position: u64, at: Option<u64>) {
+        let Some(smallest) = self.files.report(file, position) else { return };
+        if let Some(at) = at.filter(|_| self.progress.pending_since().is_none()) {
+            self.progress.carry_pending((self.begun + Duration::from_millis(at)).into_std());
+        }
+        self.progress.update_applied(Lsn(smallest));
     }
 
     fn take(&mut self, n: usize) {
@@ -495,6 +501,7 @@ impl Original {
             passed: false,
             stop,
             progress: progress.clone(),
+            files: Files::new(s.start),
             queue,
             filling: out.clone(),
             taken: VecDeque::new(),

@@ -71,8 +71,9 @@ impl Steps for Ours {
         }
     }
 
-    fn report(&mut self, position: u64, moment: Moment) {
-        self.run.as_mut().expect("a run that was begun").report(Lsn(position), moment)
+    fn report(&mut self, file: u64, position: u64, moment: Moment) -> u8 {
+        let told = self.run.as_mut().expect("a run that was begun").report(file, Lsn(position), moment);
+        told.map_or_else(|refusal| refusal.number(), |()| 0)
     }
 
     fn metrics(&self) -> Metrics {

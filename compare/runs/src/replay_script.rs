@@ -7,7 +7,7 @@
 use crate::compare::compare;
 use crate::modelled::Modelled;
 use crate::original::Original;
-use crate::scenario::{Happening, Scenario};
+use crate::scenario::{Files, Happening, Scenario};
 use crate::stepped::{Answer, Stepped, Steps};
 use crate::text::position;
 use crate::trace::{Metrics, STATUS};
@@ -18,7 +18,7 @@ use std::fmt::Write;
 #[derive(Default)]
 pub struct Recorder {
     model: Modelled,
-    reported: u64,
+    files: Files,
     pub script: Vec<u8>,
     pub lines: String,
     /// Where the number of calls stands in the script, and it.
@@ -72,7 +72,7 @@ impl Steps for Recorder {
             .collect();
         out.extend((server.len() as u32).to_be_bytes());
         out.extend(server);
-        (self.script, self.place, self.calls, self.reported) = (out, 0, 0, s.start);
+        (self.script, self.place, self.calls, self.files) = (out, 0, 0, Files::new(s.start));
         self.place = self.script.len();
         self.script.extend([0; 4]);
         let query = self.model.begin(s);
@@ -112,14 +112,25 @@ impl Steps for Recorder {
         answer
     }
 
-    fn report(&mut self, p: u64, moment: Moment) {
+    fn report(&mut self, file: u64, p: u64, moment: Moment) -> u8 {
+        self.call();
+        self.script.extend([b'F', u8::try_from(file).expect("a script's file has one byte")]);
+        self.script.extend(p.to_be_bytes());
+        self.script.extend(moment.0.to_be_bytes());
+        let refusal = self.model.report(file, p, moment);
+        self.files.report(file, p);
+        let _ = writeln!(self.lines, "F {refusal} {}", position(self.files.smallest()));
+        refusal
+    }
+
+    fn report_all(&mut self, p: u64, moment: Moment) {
         self.call();
         self.script.push(b'P');
         self.script.extend(p.to_be_bytes());
         self.script.extend(moment.0.to_be_bytes());
-        self.model.report(p, moment);
-        self.reported = self.reported.max(p);
-        let _ = writeln!(self.lines, "P {}", position(self.reported));
+        self.model.report_all(p, moment);
+        self.files.report_all(p);
+        let _ = writeln!(self.lines, "P {}", position(self.files.smallest()));
     }
 
     fn metrics(&self) -> Metrics {

@@ -83,9 +83,12 @@ pub enum Happening {
     /// The input ends; no piece comes after it.
     End,
     Stop,
+    /// A report for all four files.
     Report(u64),
-    /// A report that carries a moment of its own, in milliseconds from the beginning.
+    /// The same with a moment of its own, in milliseconds from the beginning.
     ReportFrom(u64, u64),
+    /// A report of one file, which a number above 3 is none of.
+    File(u64, u64),
     /// The consumer takes so many events, or as many as there are.
     Take(usize),
     /// Another producer puts so many events into the queue, or as many as there is room for.
@@ -235,6 +238,39 @@ impl Scenario {
     }
 }
 
+/// How many files a run has.
+pub const FILES: u64 = 4;
+
+/// Where each of the four files is: the largest of the start and its own reports.
+#[derive(Clone, Debug, Default)]
+pub struct Files([u64; FILES as usize]);
+
+impl Files {
+    pub fn new(start: u64) -> Files {
+        Files([start; FILES as usize])
+    }
+
+    /// What is to be confirmed: the smallest of the four.
+    pub fn smallest(&self) -> u64 {
+        *self.0.iter().min().unwrap()
+    }
+
+    /// A report; the smallest of the four, where it rises.
+    pub fn report(&mut self, file: u64, position: u64) -> Option<u64> {
+        let before = self.smallest();
+        let at = self.0.get_mut(usize::try_from(file).ok()?)?;
+        *at = position.max(*at);
+        Some(self.smallest()).filter(|now| *now > before)
+    }
+
+    /// A report for all four.
+    pub fn report_all(&mut self, position: u64) {
+        for at in &mut self.0 {
+            *at = position.max(*at);
+        }
+    }
+}
+
 impl Happening {
     fn print(&self) -> String {
         match self {
@@ -243,6 +279,7 @@ impl Happening {
             Happening::Stop => "stop".to_string(),
             Happening::Report(p) => format!("report {}", position(*p)),
             Happening::ReportFrom(p, at) => format!("report {} from {at}", position(*p)),
+            Happening::File(file, p) => format!("file {file} {}", position(*p)),
             Happening::Fill(n) => format!("fill {n}"),
             Happening::Take(n) => format!("take {n}"),
             Happening::Close => "close".to_string(),
@@ -260,6 +297,10 @@ impl Happening {
                 Some((p, at)) => Happening::ReportFrom(unposition(p)?, at.parse().ok()?),
                 None => Happening::Report(unposition(rest)?),
             },
+            "file" => {
+                let (file, p) = rest.split_once(' ')?;
+                Happening::File(file.parse().ok()?, unposition(p)?)
+            }
             "fill" => Happening::Fill(rest.parse().ok()?),
             "take" => Happening::Take(rest.parse().ok()?),
             "close" => Happening::Close,

@@ -2,7 +2,7 @@
 //! a step is made as long as one does something, then at the next moment at which something happens or a time is up.
 
 use crate::coverage::{Coverage, Up};
-use crate::scenario::{Happening, Scenario};
+use crate::scenario::{Files, Happening, Scenario, FILES};
 use crate::side::Side;
 use crate::trace::{Done, Event, Line, Metrics, Trace};
 use rufflesquash::{Input, Moment, Queue, State};
@@ -26,7 +26,12 @@ pub trait Steps {
     /// Begins a fresh run of the scenario's settings, its names and positions; the bytes of the query, none where it is open.
     fn begin(&mut self, scenario: &Scenario) -> Vec<u8>;
     fn step(&mut self, input: &Input, unread: &[u8]) -> Answer;
-    fn report(&mut self, position: u64, moment: Moment);
+    /// A file's report; the number of its refusal, 0 for none.
+    fn report(&mut self, file: u64, position: u64, moment: Moment) -> u8;
+    /// A report for all four files.
+    fn report_all(&mut self, position: u64, moment: Moment) {
+        (0..FILES).for_each(|file| assert_eq!(self.report(file, position, moment), 0, "the refusal of a report"));
+    }
     fn metrics(&self) -> Metrics;
 }
 
@@ -75,6 +80,8 @@ struct Host<'a> {
     during: VecDeque<&'a (usize, Happening)>,
     /// The position of the last status.
     confirmed: Option<u64>,
+    /// Where each file is.
+    files: Files,
     /// Milliseconds from the beginning.
     now: u64,
     trace: Trace,
@@ -123,13 +130,23 @@ impl<R: Steps> Stepped<R> {
             Happening::Bytes(bytes) => host.pieces.push_back(bytes),
             Happening::End => host.ended = true,
             Happening::Stop => host.stop = true,
-            Happening::Report(position) => self.run.report(*position, moment_of(host.now)),
-            Happening::ReportFrom(position, at) => self.run.report(*position, moment_of(*at)),
+            Happening::Report(position) => self.report_all(host, *position, moment_of(host.now)),
+            Happening::ReportFrom(position, at) => self.report_all(host, *position, moment_of(*at)),
+            Happening::File(file, position) => {
+                host.files.report(*file, *position);
+                let refusal = self.run.report(*file, *position, moment_of(host.now));
+                assert_eq!(refusal, if *file < FILES { 0 } else { 31 }, "the refusal of a report of file {file}");
+            }
             Happening::Take(n) => host.queued -= host.queued.min(*n),
             Happening::Fill(n) => host.fill(*n, inside),
             Happening::Close => host.closed = true,
             Happening::Pass(time) => host.now += time,
         }
+    }
+
+    fn report_all(&mut self, host: &mut Host, position: u64, moment: Moment) {
+        host.files.report_all(position);
+        self.run.report_all(position, moment);
     }
 
     /// What happens during the calls of a step happens after it: a step is told of the stop and the queue before it, and reports come
@@ -233,6 +250,7 @@ impl<'a> Host<'a> {
             calls: 0,
             during: VecDeque::new(),
             confirmed: None,
+            files: Files::new(scenario.start),
             now: 0,
             trace: Trace::default(),
         }
@@ -279,12 +297,23 @@ impl<'a> Host<'a> {
         let Call::Status(confirmed) = made[at] else { return false };
         let new = self.confirmed.is_none_or(|last| confirmed > last);
         match what {
-            Happening::Report(position) => {
-                *position > confirmed && (call < at || call == at && self.scenario.timing && new && !made.contains(&Call::Told))
+            Happening::Report(_) | Happening::File(..) => {
+                self.told(what) > confirmed && (call < at || call == at && self.scenario.timing && new && !made.contains(&Call::Told))
             }
             Happening::Pass(time) => *time > 0,
             _ => false,
         }
+    }
+
+    /// The smallest of the four files after a report.
+    fn told(&self, what: &Happening) -> u64 {
+        let mut files = self.files.clone();
+        match what {
+            Happening::Report(position) => files.report_all(*position),
+            Happening::File(file, position) => _ = files.report(*file, *position),
+            _ => {}
+        }
+        files.smallest()
     }
 
     fn take_in(&mut self, answer: Answer) {

@@ -206,6 +206,18 @@ fn a_report_carries_its_own_moment() {
     assert_eq!(played(&format!("{status}report 0/1 from 9\nat 5\n"))[2], "5 waited 0");
 }
 
+/// Three files confirm nothing; the moment that counts is that of the report which raises the smallest.
+#[test]
+fn four_files_have_one_confirmation() {
+    let status = "status 5\nidle 100\ntiming\nat 0\nat 1\nfile 0 0/5\nfile 1 0/7\nat 2\nfile 2 0/6\n";
+    assert_eq!(played(&format!("{status}at 5\n")).len(), 2);
+    assert_eq!(played(&format!("{status}at 3\nfile 3 0/9\nat 5\n"))[2], "5 waited 2000000");
+    assert_eq!(played(&format!("{status}at 3\nfile 4 0/9\nat 5\n")).len(), 2);
+    let last = |text: &str| played(text).pop().unwrap();
+    assert_eq!(last(&format!("{status}at 3\nfile 3 0/9\nat 5\n")), "metrics 0 2 0 0 0 0/5 0/0");
+    assert_eq!(last(&format!("{status}at 3\nfile 3 0/9\nfile 0 0/4\nfile 0 0/8\nat 5\n")), "metrics 0 2 0 0 0 0/6 0/0");
+}
+
 #[test]
 fn what_happens_during_a_call_is_seen_after_it() {
     let keepalives = "64000000166b000000000000000000000000000000000164000000166b0000000000000000000000000000000000";

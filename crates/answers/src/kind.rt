@@ -1,12 +1,17 @@
 // Kinds of refusals by their numbers, and after which of them a new connection may help. SCOPE 7.4.
 ghost use mathlib.Core.Path.{_≡_};
-ghost use Rattle.error.specs.Refusal.{kindAt};
-ghost use Rattle.answers.specs.Kinds.{transientAt};
+ghost use Rattle.answers.specs.Kinds.{kindBy, transientAt};
 use words::layout;
 
+// The refusal of a report, of crate `progress`.
+const NO_SUCH_FILE: u64 = 31;
+
 pub fn kind_word(refusal: u64) -> u64
-    ensures { λ r. ⌜ r ≡ kindAt refusal ⌝ }
+    ensures { λ r. ⌜ r ≡ kindBy refusal ⌝ }
 {
+    if refusal == NO_SUCH_FILE {
+        return layout::KIND_USAGE;
+    }
     if 255 < refusal {
         return layout::KIND_NONE;
     }

@@ -16,6 +16,7 @@ use Rattle.worker.specs.declared.Input.{Input}
 use Rattle.worker.specs.declared.Event.{Event}
 use Rattle.worker.specs.declared.Event.the-variants.{Nothing}
 use Rattle.worker.specs.declared.Run.{Run}
+use Rattle.worker.specs.Run.{cellIn}
 use Rattle.worker.specs.Step.{Lent, doneWith, handing, moved, refusedWith, feedbackOf, waitedBy}
 use Rattle.worker.specs.Events as E
 use Rattle.claims.specs.Happened.{Happened, happenedOf, Parts}
@@ -74,7 +75,7 @@ module _ {s : Setup} {h : Trace} {i : Input} {l : Lent} where
             w;
       }
 
-  pub status-answers : (reply : Bool) (to : State) (r : Run) → cellPosition (r .progress) ≡ confirmedOf (s .start) h
+  pub status-answers : (reply : Bool) (to : State) (r : Run) → cellPosition (cellIn r) ≡ confirmedOf (s .start) h
       → waitedBy r ≡ T.waitedBy s h i (status reply)
       → Answers s h i l (writes (status reply) to) (feedbackOf reply to r i l)
   unfolding feedbackOf

@@ -1,15 +1,21 @@
--- Condition 3, its nine parts together; the second of them, that each call answers as the table says, is read off what holds after any list of
+-- Condition 3, its eleven parts together; one of them, that each call answers as the table says, is read off what holds after any list of
 -- calls (Preserved).
 use mathlib.Core.List.{List}
+use mathlib.Core.Path.{ap}
 use Prim.Native.Nat.{ℕ}
 use lib.ListN.{length}
+use Rattle.progress.specs.declared.files.Progress.{Progress}
+use Rattle.progress.proofs.FileLaws.{refused-at, accepted-at}
+use Rattle.worker.specs.declared.Run.{Run}
+use Rattle.worker.specs.Opening.{reportOf}
+use Rattle.worker.specs.Run.{withProgress}
 use Rattle.claims.specs.Trace.{Setup}
 use Rattle.claims.specs.Calls.{played, setupOf}
 use Rattle.claims.specs.Traced.{traceOf, Calls-traced}
-use Rattle.claims.specs.Refused.{Refused-leaves}
+use Rattle.claims.specs.Refused.{Refused-leaves, Reports-answer}
 use Rattle.claims.specs.Condition3.{Condition-3}
 use Rattle.claims.proofs.Beginnings.{beginnings-answer}
-use Rattle.claims.proofs.Confirms.{confirms-largest}
+use Rattle.claims.proofs.Confirms.{confirms-smallest, no-file-behind}
 use Rattle.claims.proofs.Counters.{counters-traced}
 use Rattle.claims.proofs.Failed.{error-shown}
 use Rattle.claims.proofs.HandsOn.{hands-on, events-begin}
@@ -27,13 +33,25 @@ calls-refused s b bytes p cs i n out =
     let x : Setup = setupOf s b bytes (length p) in
     refused-leaves x (traceOf x cs) (played s b bytes p cs) (played-preserved s b bytes p cs) i n out .left
 
+-- whatever the run is
+pub reports-answer : Reports-answer
+unfolding reportOf
+reports-answer s b bytes p cs =
+    let r : Run = played s b bytes p cs .run in
+    record {
+      refused = λ file x m k. ap (λ (a : ℕ × Progress). (a .0, withProgress (a .1) r)) (refused-at (r .progress) file x m k);
+      accepted = λ file x m k. accepted-at (r .progress) file x m k;
+    }
+
 pub condition-3 : Condition-3
 condition-3 =
     record {
       beginnings = beginnings-answer;
-      confirms = confirms-largest;
+      confirms = confirms-smallest;
+      none-behind = no-file-behind;
       answers = calls-traced;
       refused = calls-refused;
+      reports = reports-answer;
       error = error-shown;
       views = views-traced;
       counters = counters-traced;

@@ -34,32 +34,32 @@ events-are : (h : Trace) → events h ≡ wrapped (length (handedBy h))
 unfolding events handedBy
 events-are [] = refl
 events-are (a-step i from y ∷ h) = counted-as (y .event) (handedBy h) (events h) (events-are h)
-events-are (a-report p m ∷ h) = events-are h
+events-are (a-report file p m ∷ h) = events-are h
 
 statuses-are : (h : Trace) → statuses h ≡ wrapped (statusCount h)
 unfolding statuses statusCount
 statuses-are [] = refl
 statuses-are (a-step i from y ∷ h) = picked (isStatus (y .writing)) (statuses h) (statusCount h) 1 (statuses-are h)
-statuses-are (a-report p m ∷ h) = statuses-are h
+statuses-are (a-report file p m ∷ h) = statuses-are h
 
 replies-are : (h : Trace) → replies h ≡ wrapped (replyCount h)
 unfolding replies replyCount
 replies-are [] = refl
 replies-are (a-step i from y ∷ h) = picked (isReply (y .writing)) (replies h) (replyCount h) 1 (replies-are h)
-replies-are (a-report p m ∷ h) = replies-are h
+replies-are (a-report file p m ∷ h) = replies-are h
 
 stalls-are : (h : Trace) → stalls h ≡ wrapped (stallCount h)
 unfolding stalls stallCount
 stalls-are [] = refl
 stalls-are (a-step i from y ∷ h) = picked (beginsStall h i from y) (stalls h) (stallCount h) 1 (stalls-are h)
-stalls-are (a-report p m ∷ h) = stalls-are h
+stalls-are (a-report file p m ∷ h) = stalls-are h
 
 micros-are : (h : Trace) → stall-micros h ≡ wrapped (stallMicros h)
 unfolding stall-micros stallMicros
 micros-are [] = refl
 micros-are (a-step i from y ∷ h) =
     picked (endsStall h i from y) (stall-micros h) (stallMicros h) (micros (sinceOf (i .moment) (stallBegan h))) (micros-are h)
-micros-are (a-report p m ∷ h) = micros-are h
+micros-are (a-report file p m ∷ h) = micros-are h
 
 metrics-are : (s : Setup) (h : Trace) → factsOf s h .metrics ≡ countersOf s h
 unfolding factsOf

@@ -16,7 +16,11 @@ use Rattle.metrics.specs.Metrics.{more, metrics, withStatus, withReply, withEnd
 use Rattle.moment.specs.declared.Moment.{Moment}
 use Rattle.moment.specs.Moment.{sinceOf}
 use Rattle.progress.specs.declared.ProgressCell.{ProgressCell}
+use Rattle.progress.specs.declared.files.Files.{Files}
+use Rattle.progress.specs.declared.files.Progress.{Progress}
 use Rattle.progress.specs.Progress.{noMoment, isNone, cellPosition, cellSignal, cellPending, cellTiming, raiseOf, reportedOf}
+use Rattle.progress.specs.Files.{smallest, raisedIn, asCell, beside, filedOf}
+use Rattle.progress.proofs.FileLaws.{filesAt, raised-at, filed-is}
 use Rattle.worker.specs.declared.Clock.{Clock}
 use Rattle.worker.specs.declared.Input.{Input}
 use Rattle.worker.specs.declared.LastStatus.{LastStatus}
@@ -30,7 +34,7 @@ use Rattle.worker.specs.Step.{confirmed, isEnded, isStoppedAt, takesPending}
 use Rattle.worker.specs.Opening.{reportOf}
 use Rattle.claims.specs.Happened.{Happened}
 use Rattle.claims.specs.Plain.{isRefusedEarly}
-use Rattle.claims.specs.Trace.{Setup, Trace, a-step, a-report, nothing, isStatus, isReply, confirmedOf, lastAccepted, hasSent, sentAt, sentPosition, pendingSince, waitBegan, pendingOf, signalledOf, drainedOf, readInWait, fullBefore, goneOf}
+use Rattle.claims.specs.Trace.{Setup, Trace, a-step, a-report, nothing, isStatus, isReply, reachedBy, confirmedOf, lastAccepted, hasSent, sentAt, sentPosition, pendingSince, waitBegan, pendingOf, signalledOf, drainedOf, readInWait, fullBefore, goneOf}
 use Rattle.claims.specs.Table.{respond}
 use Rattle.claims.specs.Counters.{beginsStall, endsStall, stallBegan, lastEnd}
 
@@ -44,44 +48,47 @@ counted (e ∷ es) n = more n (length es + 1)
 unfoldable pub events : Trace → ℕ
 events [] = 0
 events (a-step i from y ∷ h) = counted (y .event) (events h)
-events (a-report p m ∷ h) = events h
+events (a-report file p m ∷ h) = events h
 
 unfoldable pub statuses : Trace → ℕ
 statuses [] = 0
 statuses (a-step i from y ∷ h) = pick (isStatus (y .writing)) (more (statuses h) 1) (statuses h)
-statuses (a-report p m ∷ h) = statuses h
+statuses (a-report file p m ∷ h) = statuses h
 
 unfoldable pub replies : Trace → ℕ
 replies [] = 0
 replies (a-step i from y ∷ h) = pick (isReply (y .writing)) (more (replies h) 1) (replies h)
-replies (a-report p m ∷ h) = replies h
+replies (a-report file p m ∷ h) = replies h
 
 unfoldable pub stalls : Trace → ℕ
 stalls [] = 0
 stalls (a-step i from y ∷ h) = pick (beginsStall h i from y) (more (stalls h) 1) (stalls h)
-stalls (a-report p m ∷ h) = stalls h
+stalls (a-report file p m ∷ h) = stalls h
 
 unfoldable pub stall-micros : Trace → ℕ
 stall-micros [] = 0
 stall-micros (a-step i from y ∷ h) =
     pick (endsStall h i from y) (more (stall-micros h) (micros (sinceOf (i .moment) (stallBegan h)))) (stall-micros h)
-stall-micros (a-report p m ∷ h) = stall-micros h
+stall-micros (a-report file p m ∷ h) = stall-micros h
 
 -- ---- facts
 
--- of the reports: the position to confirm, whether a report has raised it since the wait began, the pending moment, whether timing is on
+-- of the reports: where each file is, the position to confirm, whether a report has raised it since the wait began, the pending moment, whether
+-- timing is on
 pub record Reports : Type 0 where
+  pub files : Files
   pub applied : Lsn
   pub signalled : Bool
   pub since : Moment
   pub timed : Bool
 
-abbrev reports : Lsn → Bool → Moment → Bool → Reports
-reports applied signalled since timed = record { applied = applied; signalled = signalled; since = since; timed = timed }
+abbrev reports : Files → Lsn → Bool → Moment → Bool → Reports
+reports files applied signalled since timed =
+    record { files = files; applied = applied; signalled = signalled; since = since; timed = timed }
 
--- the reports of a cell
-abbrev told-by : ProgressCell → Reports
-told-by c = reports (cellPosition c) (cellSignal c) (cellPending c) (cellTiming c)
+-- the reports of a run's progress
+abbrev told-by : Progress → Reports
+told-by p = reports (p .files) (cellPosition (asCell p)) (cellSignal (asCell p)) (cellPending (asCell p)) (cellTiming (asCell p))
 
 -- of the offered event: whether its stall has begun, and how many events of its message are gone
 pub record Tries : Type 0 where
@@ -126,52 +133,79 @@ factsBy r =
     facts (r .settings) (r .clock) (told-by (r .progress))
     (r .status) (r .drained) (r .pending) (tries (r .offer .stalled) (gone-by (isStoppedAt (r .offer .event)))) (r .whole .«in_wait») (r .metrics)
 
+-- where each file is, as the trace says
+abbrev filesBy : Lsn → Trace → Files
+filesBy start h = filesAt (reachedBy 0 start h) (reachedBy 1 start h) (reachedBy 2 start h) (reachedBy 3 start h)
+
 -- as the trace says; unfolding it unfolds each question that is asked of the trace
 unfoldable pub factsOf : Setup → Trace → Facts
-unfolding lastAccepted waitBegan stallBegan sentAt confirmedOf sentPosition pendingSince signalledOf hasSent drainedOf pendingOf readInWait fullBefore goneOf lastEnd events statuses replies stalls stall-micros
+unfolding lastAccepted waitBegan stallBegan sentAt reachedBy confirmedOf sentPosition pendingSince signalledOf hasSent drainedOf pendingOf readInWait fullBefore goneOf lastEnd events statuses replies stalls stall-micros
 factsOf s h =
     facts (s .settings) (clock (lastAccepted h) (waitBegan h) (stallBegan h))
-    (reports (confirmedOf (s .start) h) (signalledOf (s .start) h) (pendingSince s h) (s .settings .timing))
+    (reports (filesBy (s .start) h) (confirmedOf (s .start) h) (signalledOf (s .start) h) (pendingSince s h) (s .settings .timing))
     (lastStatus (hasSent h) (sentPosition (s .start) h) (sentAt h)) (drainedOf h) (pendingOf (s .start) h) (tries (fullBefore h) (goneOf h))
     (readInWait h)
     (metrics (events h) (statuses h) (replies h) (stalls h) (stall-micros h) (sentPosition (s .start) h) (lastEnd s h))
 
 pub fresh-facts : (s : Setup) (state : State) → factsBy (freshRun (s .settings) state (s .start)) ≡ factsOf s []
-unfolding freshRun factsOf
+unfolding freshRun factsOf smallest
 fresh-facts s state = refl
 
 -- ---- a report
 
--- the position rises with a signal and perhaps a pending moment, or nothing changes
-abbrev raised-by : Lsn → Moment → Reports → Reports
-raised-by p m c =
-    reports (pick (isBelow (c .applied) p) p (c .applied)) (pick (isBelow (c .applied) p) true (c .signalled))
+-- a file rises; where the smallest does, there is a signal and perhaps a pending moment
+abbrev raised-to : Files → Lsn → Moment → Reports → Reports
+raised-to f p m c =
+    reports f p (pick (isBelow (c .applied) p) true (c .signalled))
     (pick (both (c .timed) (both (isBelow (c .applied) p) (isNone (c .since)))) m (c .since)) (c .timed)
 
-abbrev raised : Lsn → Moment → Facts → Facts
-raised p m f =
-    facts (f .settings) (f .clock) (raised-by p m (f .reports)) (f .status) (f .drained) (f .pending) (f .tries) (f .in-wait) (f .metrics)
+abbrev raised-by : ℕ → Lsn → Moment → Reports → Reports
+raised-by file p m c = raised-to (raisedIn file p (c .files)) (smallest (raisedIn file p (c .files))) m c
 
-raise-cell : (c : ProgressCell) (p : Lsn) (m : Moment) → told-by (raiseOf c p m .cell) ≡ raised-by p m (told-by c)
+abbrev raised : ℕ → Lsn → Moment → Facts → Facts
+raised file p m f =
+    facts (f .settings) (f .clock) (raised-by file p m (f .reports)) (f .status) (f .drained) (f .pending) (f .tries) (f .in-wait) (f .metrics)
+
+-- a cell that is raised, beside files
+raise-cell : (f : Files) (c : ProgressCell) (p : Lsn) (m : Moment)
+    → reports f p (cellSignal (raiseOf c p m .cell)) (cellPending (raiseOf c p m .cell)) (cellTiming (raiseOf c p m .cell))
+    ≡ raised-to f p m (reports f (cellPosition c) (cellSignal c) (cellPending c) (cellTiming c))
 unfolding raiseOf
-raise-cell c p m = by (isBelow (cellPosition c) p) (cellTiming c) (isNone (cellPending c)) refl refl refl
+raise-cell f c p m = by (isBelow (cellPosition c) p) (cellTiming c) (isNone (cellPending c)) refl refl refl
   where
     by : (a b d : Bool) → isBelow (cellPosition c) p ≡ a → cellTiming c ≡ b → isNone (cellPending c) ≡ d
-        → told-by (raiseOf c p m .cell) ≡ raised-by p m (told-by c)
+        → reports f p (cellSignal (raiseOf c p m .cell)) (cellPending (raiseOf c p m .cell)) (cellTiming (raiseOf c p m .cell))
+        ≡ raised-to f p m (reports f (cellPosition c) (cellSignal c) (cellPending c) (cellTiming c))
     by true true true ea eb ed = simp (ea, eb, ed)
     by true true false ea eb ed = simp (ea, eb, ed)
     by true false d ea eb ed = simp (ea, eb)
     by false true d ea eb ed = simp (ea, eb)
     by false false d ea eb ed = simp (ea, eb)
 
-report-facts : (s : Setup) (h : Trace) (r : Run) (p : Lsn) (m : Moment) → factsBy r ≡ factsOf s h
-    → factsBy (reportOf r p m) ≡ factsOf s (a-report p m ∷ h)
-unfolding reportOf factsOf
-report-facts s h r p m e =
+-- what a report does to a run's progress
+filed-told : (p : Progress) (file : ℕ) (x : Lsn) (m : Moment) → told-by (filedOf p file x m .1) ≡ raised-by file x m (told-by p)
+filed-told p file x m =
+    let f : Files = raisedIn file x (p .files) in ap told-by (filed-is p file x m) ∙ raise-cell f (asCell p) (smallest f) m
+
+-- .. is what it does to the trace
+raised-trace : (s : Setup) (h : Trace) (file : ℕ) (x : Lsn) (m : Moment) → raised file x m (factsOf s h) ≡ factsOf s (a-report file x m ∷ h)
+unfolding factsOf smallest
+raised-trace s h file x m =
+    let g : Facts = factsOf s h in
+    ap (λ (f : Files).
+    facts (g .settings) (g .clock) (raised-to f (smallest f) m (g .reports)) (g .status) (g .drained) (g .pending) (g .tries) (g .in-wait)
+    (g .metrics))
+    (raised-at file x (reachedBy 0 (s .start) h) (reachedBy 1 (s .start) h) (reachedBy 2 (s .start) h) (reachedBy 3 (s .start) h))
+
+report-facts : (s : Setup) (h : Trace) (r : Run) (file : ℕ) (p : Lsn) (m : Moment) → factsBy r ≡ factsOf s h
+    → factsBy (reportOf r file p m .1) ≡ factsOf s (a-report file p m ∷ h)
+unfolding reportOf
+report-facts s h r file p m e =
     let f : Facts = factsBy r in
     ap (λ (c : Reports). facts (f .settings) (f .clock) c (f .status) (f .drained) (f .pending) (f .tries) (f .in-wait) (f .metrics))
-    (raise-cell (r .progress) p m)
-    ∙ ap (raised p m) e
+    (filed-told (r .progress) file p m)
+    ∙ ap (raised file p m) e
+    ∙ raised-trace s h file p m
 
 -- ---- a step refused with 2 to 5
 
@@ -195,13 +229,16 @@ takes f = both (f .reports .timed) (pick (f .status .sent) (isBelow (f .status .
 
 -- the position and the signal stay
 abbrev pub reported-by : Bool → Reports → Reports
-reported-by b c = reports (c .applied) (c .signalled) (pick b noMoment (c .since)) (c .timed)
+reported-by b c = reports (c .files) (c .applied) (c .signalled) (pick b noMoment (c .since)) (c .timed)
 
-pub status-cell : (b : Bool) (c : ProgressCell) (m : Moment) → told-by (pick b (reportedOf c (cellPosition c) m .cell) c) ≡ reported-by b (told-by c)
+pub status-cell : (b : Bool) (p : Progress) (m : Moment)
+    → told-by (beside (p .files) (pick b (reportedOf (asCell p) (cellPosition (asCell p)) m .cell) (asCell p))) ≡ reported-by b (told-by p)
 unfolding reportedOf
-status-cell true c m =
-    let e : isBelow (cellPosition c) (cellPosition c) ≡ false = le-ltb (cellPosition c .0) (cellPosition c .0) (omega arith) in simp e
-status-cell false c m = refl
+status-cell true p m =
+    let x : Lsn = smallest (p .files) in
+    let e : isBelow x x ≡ false = le-ltb (x .0) (x .0) (omega arith) in
+    ap (λ (b : Bool). reports (p .files) x (p .signalled) (pick b m noMoment) (p .timed)) e
+status-cell false p m = refl
 
 -- a status was sent now
 abbrev pub with-status : Moment → Facts → Facts
@@ -232,7 +269,7 @@ with-drained d f = facts (f .settings) (f .clock) (f .reports) (f .status) d (f 
 -- the wait begins
 abbrev pub with-wait : Moment → Facts → Facts
 with-wait m f =
-    facts (f .settings) (clock m m (f .clock .«stall_began»)) (reports (f .reports .applied) false (f .reports .since) (f .reports .timed))
+    facts (f .settings) (clock m m (f .clock .«stall_began»)) (reports (f .reports .files) (f .reports .applied) false (f .reports .since) (f .reports .timed))
     (f .status) (f .drained)
     (pick (f .status .sent) (isBelow (f .status .position) (f .reports .applied)) true) (f .tries) (f .in-wait) (f .metrics)
 
@@ -306,14 +343,14 @@ agree-metrics Handling f g a = ap (λ (k : Facts). k .metrics) a
 agree-metrics Offering f g a = ap (λ (k : Facts). k .metrics) a
 agree-metrics Ended f g a = a
 
-pub report-agrees : (s : Setup) (h : Trace) (x : State) (r : Run) (p : Lsn) (m : Moment) → Agrees x (factsBy r) (factsOf s h)
-    → Agrees x (factsBy (reportOf r p m)) (factsOf s (a-report p m ∷ h))
+pub report-agrees : (s : Setup) (h : Trace) (x : State) (r : Run) (file : ℕ) (p : Lsn) (m : Moment) → Agrees x (factsBy r) (factsOf s h)
+    → Agrees x (factsBy (reportOf r file p m .1)) (factsOf s (a-report file p m ∷ h))
 unfolding reportOf factsOf
-report-agrees s h Opening r p m a = report-facts s h r p m a
-report-agrees s h Turn r p m a = report-facts s h r p m a
-report-agrees s h Drain r p m a = report-facts s h r p m a
-report-agrees s h Reading r p m a = (report-facts s h r p m (a .0), a .1)
-report-agrees s h Waiting r p m a = report-facts s h r p m a
-report-agrees s h Handling r p m a = report-facts s h r p m a
-report-agrees s h Offering r p m a = report-facts s h r p m a
-report-agrees s h Ended r p m a = a
+report-agrees s h Opening r file p m a = report-facts s h r file p m a
+report-agrees s h Turn r file p m a = report-facts s h r file p m a
+report-agrees s h Drain r file p m a = report-facts s h r file p m a
+report-agrees s h Reading r file p m a = (report-facts s h r file p m (a .0), a .1)
+report-agrees s h Waiting r file p m a = report-facts s h r file p m a
+report-agrees s h Handling r file p m a = report-facts s h r file p m a
+report-agrees s h Offering r file p m a = report-facts s h r file p m a
+report-agrees s h Ended r file p m a = a

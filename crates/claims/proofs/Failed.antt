@@ -35,8 +35,8 @@ shown-on bytes m [] z h = h
 shown-on bytes m (step i n out ∷ ds) z h =
     shown-on bytes m ds (playOne bytes z (step i n out))
     (subst (λ (o : Outcome). Shown m (stepped z i o)) (sym (ended-step (z .run) i (lentTo bytes z n out) (h .0))) h)
-shown-on bytes m (report p t ∷ ds) z h =
-    shown-on bytes m ds (playOne bytes z (report p t)) (h .0, record { part = h .1 .part; bytes = h .1 .bytes })
+shown-on bytes m (report file p t ∷ ds) z h =
+    shown-on bytes m ds (playOne bytes z (report file p t)) (h .0, record { part = h .1 .part; bytes = h .1 .bytes })
 
 shown-after : (bytes m : List ℕ) (ds : List Call) (z : Played) (c : Call) → Shown m (playOne bytes z c)
     → Shows m (playAll bytes z (c ∷ ds) .run) (playAll bytes z (c ∷ ds) .payload)

@@ -78,7 +78,7 @@ unfolding playAll
 observed-closed bytes [] z q h = h
 observed-closed bytes (step i n out ∷ cs) z q h =
     observed-closed bytes cs (playOne bytes z (step i n out)) (q .1) (closed-more (z .observed) _ h (q .0))
-observed-closed bytes (report position moment ∷ cs) z q h = observed-closed bytes cs (playOne bytes z (report position moment)) q h
+observed-closed bytes (report file position moment ∷ cs) z q h = observed-closed bytes cs (playOne bytes z (report file position moment)) q h
 
 module _ (s : Settings) (b : Beginning) (bytes p : List ℕ) (cs : List Call) (q : NoQueueCloses cs) where
   played-closed : NoneClosed (played s b bytes p cs .observed)

@@ -169,12 +169,12 @@ unfolding playAll traceAll reportOf stateAfter takenBy handedBy observationsOf
 calls-preserved s [] trace z w = w
 calls-preserved s (step i n out ∷ cs) trace z w =
     calls-preserved s cs (traceOne s trace (step i n out)) (playOne (s .bytes) z (step i n out)) (step-preserved s trace z w i n out)
-calls-preserved s (report p m ∷ cs) trace z w =
+calls-preserved s (report file p m ∷ cs) trace z w =
     let f = w .follows in
-    calls-preserved s cs (traceOne s trace (report p m)) (playOne (s .bytes) z (report p m))
+    calls-preserved s cs (traceOne s trace (report file p m)) (playOne (s .bytes) z (report file p m))
     (record {
       follows = record { state = f .state; taken = f .taken; events = f .events; observed = f .observed };
-      agrees = report-agrees s trace (z .run .state) (z .run) p m (w .agrees);
+      agrees = report-agrees s trace (z .run .state) (z .run) file p m (w .agrees);
       invariant = w .invariant;
     })
 

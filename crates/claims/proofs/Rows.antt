@@ -42,7 +42,7 @@ use Rattle.worker.specs.declared.Offer.{Offer}
 use Rattle.worker.specs.declared.Event.{Event}
 use Rattle.worker.specs.declared.Event.the-variants.{Nothing, KeepAlive, StoppedAt}
 use Rattle.worker.specs.declared.Run.{Run}
-use Rattle.worker.specs.Run.{lsn, clock, wholeOf, offer, withState, withReader, withClock, withDrained, withWhole, withOffer, withMetrics, accepted}
+use Rattle.worker.specs.Run.{lsn, cellIn, clock, wholeOf, offer, withState, withReader, withClock, withDrained, withWhole, withOffer, withMetrics, accepted}
 use Rattle.worker.specs.Rows.{both, unless}
 use Rattle.worker.specs.Streaming.{isCopyDone}
 use Rattle.worker.specs.Step.{Lent, Outcome, boundaryBy, copyDataBy, doneWith, drainOf, endedWith, firstBy, handing, handlingOf, having, idleOf, intervalPassed, isReadable, isStoppedAt, moved, nextEvent, offeringOf, offers, openingBy, openingOf, reaches, readBy, readingBy, readingOf, stalledBy, stalledOf, stalls, stepIn, statusDue, feedbackOf, turnOf, waitedBy, waitingBy, waitingOf}
@@ -171,7 +171,7 @@ module _ (s : Setup) (trace : Trace) (z : Played) (i : Input) (n : ℕ) (out : L
     unfolding factsOf
     settings-is = part (λ f. f .settings)
 
-    applied-is : cellPosition (r .progress) ≡ confirmedOf (s .start) trace
+    applied-is : cellPosition (cellIn r) ≡ confirmedOf (s .start) trace
     unfolding factsOf
     applied-is = part (λ f. f .reports .applied)
 
@@ -392,7 +392,7 @@ module _ (s : Setup) (trace : Trace) (z : Played) (i : Input) (n : ℕ) (out : L
           (λ a.
           either (both (r .pending) (intervalPassed (in-state Waiting))) (λ c. wakes)
           (λ c.
-          either (unless (r .pending) (cellSignal (r .progress))) (λ d. next refl (moved-answers _) same stays)
+          either (unless (r .pending) (cellSignal (cellIn r))) (λ d. next refl (moved-answers _) same stays)
           (λ d. either (isReadable i l) (λ f. waiting-read (x .0) refl .row) (λ f. idle-next)))))
 
     -- ---- Handling

@@ -35,7 +35,7 @@ use Rattle.worker.specs.declared.LastStatus.{LastStatus}
 use Rattle.worker.specs.declared.Whole.{Whole}
 use Rattle.worker.specs.declared.Run.{Run}
 use Rattle.worker.specs.Answer.{errorPartOf}
-use Rattle.worker.specs.Run.{lsn, lastStatus, freshRun, withReader, withDrained, withMetrics, accepted}
+use Rattle.worker.specs.Run.{lsn, cellIn, lastStatus, freshRun, withReader, withDrained, withMetrics, accepted}
 use Rattle.worker.specs.Rows.{both, unless}
 use Rattle.worker.specs.Streaming.{isCopyDone}
 use Rattle.worker.specs.Opening.{reportOf}
@@ -75,7 +75,7 @@ record Fine (o : Outcome) : Type 0 where
 module _ (i : Input) (l : Lent) where
   -- no change of another part of the run touches these
   abbrev K : Run → Outcome → Type 0
-  K r o = Kept (r .status) (cellPosition (r .progress)) (r .clock .last) (r .whole) o
+  K r o = Kept (r .status) (cellPosition (cellIn r)) (r .clock .last) (r .whole) o
 
   either : {x : LastStatus} {c : Lsn} {m : Moment} {w : Whole} (b : Bool) {y z : Outcome} → Kept x c m w y → Kept x c m w z
       → Kept x c m w (pick b y z)
@@ -163,7 +163,7 @@ module _ (i : Input) (l : Lent) where
   waiting-keeps r =
       either (i .stop) (done-keeps Nothing r)
       (either (both (r .pending) (intervalPassed r)) (status-keeps false Turn r)
-      (either (unless (r .pending) (cellSignal (r .progress))) (moved-keeps _)
+      (either (unless (r .pending) (cellSignal (cellIn r))) (moved-keeps _)
       (either (isReadable i l) (waiting-read r) (idle-keeps r))))
 
   boundary-by : (a : B.Said) (start end : ℕ) (time : ℤ) (from len : ℕ) (r : Run) → K r (boundaryBy a start end time from len r l)
@@ -227,7 +227,7 @@ module _ (i : Input) (l : Lent) where
   state-keeps Offering r = offering-keeps r
   state-keeps Ended r = refused-keeps 2 r
 
-  step-keeps : (r : Run) → Kept (r .status) (cellPosition (r .progress)) (i .moment) (r .whole) (stepOf r i l)
+  step-keeps : (r : Run) → Kept (r .status) (cellPosition (cellIn r)) (i .moment) (r .whole) (stepOf r i l)
   unfolding stepOf
   step-keeps r =
       either (isEnded (r .state)) (refused-keeps 2 r)
@@ -293,8 +293,8 @@ cleaned h r y o v f g false k z = by (f (v z) .fine)
 
 -- one step more, over any response with this writing and refusal
 step-now : (s : Setup) (h : Trace) (r : Run) (i : Input) (from : State) (y : Response) (o : Outcome)
-    → Now s h r → (o .written ≡ 39 → cellPosition (r .progress) ≡ confirmedOf (s .start) h)
-    → Sent (r .status) (cellPosition (r .progress)) (i .moment) o → Counted (y .writing) (o .written)
+    → Now s h r → (o .written ≡ 39 → cellPosition (cellIn r) ≡ confirmedOf (s .start) h)
+    → Sent (r .status) (cellPosition (cellIn r)) (i .moment) o → Counted (y .writing) (o .written)
     → (Clean r → Fine o) → o .refusal ≡ y .refusal → Now s (a-step i from y ∷ h) (o .run)
 unfolding hasSent sentPosition sentAt hasFailed
 step-now s h r i from y o v p (unsent a e) (a-status b c) f g = absurd (omega arith)
@@ -315,9 +315,9 @@ step-now s h r i from y o v p (sent a e) (a-status b c) f g =
     }
 
 -- a report touches nothing of this
-report-now : (s : Setup) (h : Trace) (r : Run) (p : Lsn) (m : Moment) → Now s h r → Now s (a-report p m ∷ h) (reportOf r p m)
+report-now : (s : Setup) (h : Trace) (r : Run) (file : ℕ) (p : Lsn) (m : Moment) → Now s h r → Now s (a-report file p m ∷ h) (reportOf r file p m .1)
 unfolding reportOf hasSent sentPosition sentAt hasFailed
-report-now s h r p m v = record { sent = v .sent; sent-position = v .sent-position; sent-at = v .sent-at; clean = v .clean }
+report-now s h r file p m v = record { sent = v .sent; sent-position = v .sent-position; sent-at = v .sent-at; clean = v .clean }
 
 -- a step that writes a status finds the run not ended, and what it remembers is what the trace says
 ended-unsent : (r : Run) (i : Input) (l : Lent) → isEnded (r .state) ≡ true → stepOf r i l .written ≡ 0
@@ -325,7 +325,7 @@ unfolding stepOf
 ended-unsent r i l e = rw e refl
 
 position-is : (s : Setup) (h : Trace) (z : Played) → Preserved s h z → (i : Input) (l : Lent) → stepOf (z .run) i l .written ≡ 39
-    → cellPosition (z .run .progress) ≡ confirmedOf (s .start) h
+    → cellPosition (cellIn (z .run)) ≡ confirmedOf (s .start) h
 unfolding factsOf
 position-is s h z w i l e =
     by-test (isEnded (z .run .state))
@@ -343,9 +343,9 @@ calls-now s (step i n out ∷ cs) h z w v =
     calls-now s cs (traceOne s h (step i n out)) (playOne (s .bytes) z (step i n out)) (calls-preserved s (step i n out ∷ []) h z w)
     (step-now s h (z .run) i (stateAfter (s .opening) h) (responseOf s h i n (length out)) (stepOf (z .run) i l) v (position-is s h z w i l)
     (step-keeps i l (z .run) .status) c (step-fine i l (z .run)) (a .refusal))
-calls-now s (report p m ∷ cs) h z w v =
-    calls-now s cs (traceOne s h (report p m)) (playOne (s .bytes) z (report p m)) (calls-preserved s (report p m ∷ []) h z w)
-    (report-now s h (z .run) p m v)
+calls-now s (report file p m ∷ cs) h z w v =
+    calls-now s cs (traceOne s h (report file p m)) (playOne (s .bytes) z (report file p m)) (calls-preserved s (report file p m ∷ []) h z w)
+    (report-now s h (z .run) file p m v)
 
 -- no error is shown
 none-shown : (r : Run) → Clean r → errorPartOf r ≡ none

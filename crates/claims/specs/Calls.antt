@@ -37,10 +37,10 @@ abbrev pub startOf : Beginning → Lsn
 startOf (opens slot publications position start out) = start
 startOf (is-open start) = start
 
--- a step with so many of the next untaken bytes unread and an output, or a report
+-- a step with so many of the next untaken bytes unread and an output, or a report of a file, which may be any number
 pub data Call : Type 0 where
   step : Input → ℕ → List ℕ → Call
-  report : Lsn → Moment → Call
+  report : ℕ → Lsn → Moment → Call
 
 -- what the calls left: the run, the payload buffer, how many bytes the run took, what can be observed of each step, the events handed on, and
 -- what each step wrote
@@ -76,7 +76,7 @@ lentTo bytes s n out = record { unread = take n (drop (s .taken) bytes); payload
 -- one call more
 abbrev pub playOne : List ℕ → Played → Call → Played
 playOne bytes s (step i n out) = stepped s i (stepOf (s .run) i (lentTo bytes s n out))
-playOne bytes s (report position moment) = reported s (reportOf (s .run) position moment)
+playOne bytes s (report file position moment) = reported s (reportOf (s .run) file position moment .1)
 
 -- call after call
 unfoldable pub playAll : List ℕ → Played → List Call → Played

@@ -29,13 +29,13 @@ use Rattle.claims.specs.Traced.{traceOf}
 unfoldable pub statusCount : Trace → ℕ
 statusCount [] = 0
 statusCount (a-step i from y ∷ h) = pick (isStatus (y .writing)) (statusCount h + 1) (statusCount h)
-statusCount (a-report p m ∷ h) = statusCount h
+statusCount (a-report file p m ∷ h) = statusCount h
 
 -- those with reply byte 1
 unfoldable pub replyCount : Trace → ℕ
 replyCount [] = 0
 replyCount (a-step i from y ∷ h) = pick (isReply (y .writing)) (replyCount h + 1) (replyCount h)
-replyCount (a-report p m ∷ h) = replyCount h
+replyCount (a-report file p m ∷ h) = replyCount h
 
 -- ---- stalls
 
@@ -54,20 +54,20 @@ endsStall h i from y = both (isOffer from y) (both (fullBefore h) (unless (i .st
 unfoldable pub stallCount : Trace → ℕ
 stallCount [] = 0
 stallCount (a-step i from y ∷ h) = pick (beginsStall h i from y) (stallCount h + 1) (stallCount h)
-stallCount (a-report p m ∷ h) = stallCount h
+stallCount (a-report file p m ∷ h) = stallCount h
 
 -- when the last stall began
 unfoldable pub stallBegan : Trace → Moment
 stallBegan [] = noMoment
 stallBegan (a-step i from y ∷ h) = pick (beginsStall h i from y) (i .moment) (stallBegan h)
-stallBegan (a-report p m ∷ h) = stallBegan h
+stallBegan (a-report file p m ∷ h) = stallBegan h
 
 -- how long the ended stalls lasted, each in whole microseconds from its first full offer
 unfoldable pub stallMicros : Trace → ℕ
 stallMicros [] = 0
 stallMicros (a-step i from y ∷ h) =
     pick (endsStall h i from y) (stallMicros h + micros (sinceOf (i .moment) (stallBegan h))) (stallMicros h)
-stallMicros (a-report p m ∷ h) = stallMicros h
+stallMicros (a-report file p m ∷ h) = stallMicros h
 
 -- ---- the server's end
 
@@ -89,7 +89,7 @@ unfoldable pub lastEnd : Setup → Trace → Lsn
 lastEnd s [] = lsn 0
 lastEnd s (a-step i from y ∷ h) =
     pick (handles from y) (endAfter (lastMessage (limitBy s) (take (takenBy h) (s .bytes))) (lastEnd s h)) (lastEnd s h)
-lastEnd s (a-report p m ∷ h) = lastEnd s h
+lastEnd s (a-report file p m ∷ h) = lastEnd s h
 
 -- ---- the promise
 

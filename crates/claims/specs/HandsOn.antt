@@ -19,7 +19,7 @@ use Rattle.claims.specs.Traced.{traceOf}
 abbrev pub NoQueueCloses : List Call → Type 0
 NoQueueCloses [] = Unit
 NoQueueCloses (step i n out ∷ cs) = (isClosed (i .queue) ≡ false) × NoQueueCloses cs
-NoQueueCloses (report position moment ∷ cs) = NoQueueCloses cs
+NoQueueCloses (report file position moment ∷ cs) = NoQueueCloses cs
 
 -- what was handed on is the plain reading, for any settings, beginning, server bytes, first payload buffer and list of calls
 abbrev pub Hands-on : Type 0

@@ -14,6 +14,7 @@ use Rattle.frontend.specs.Frontend.{copyData, copyDone, statusBody, statusUpdat
 use Rattle.replication.specs.CopyData.{copyDataOf, xlogData, keepAlive}
 use Rattle.pgoutput.specs.Boundary.{boundaryOf, beginBytes, commitBytes}
 use Rattle.progress.specs.Progress.{raiseOf, lookedOf, reportedOf}
+use Rattle.progress.specs.Files.{smallest}
 use Rattle.worker.specs.declared.Settings.{Settings}
 use Rattle.worker.specs.declared.Queue.the-variants.{Free}
 use Rattle.worker.specs.Run.{lsn, freshRun}
@@ -124,7 +125,7 @@ pub record WrongTurns : Type 0 where
 
 -- all that the cases compute
 unfoldable pub computed : Unit {0}
-unfolding be beFrom beBytes put fieldAt signed unsigned framed frontOf cutFrom cutOf payloadOf judgedOf headerOf readOf copyData copyDone statusBody statusUpdate copyDataOf xlogData keepAlive boundaryOf beginBytes raiseOf lookedOf reportedOf freshRun alreadyOpenOf feedbackOf openingOf turnOf drainOf readingOf waitingOf handlingOf stalledOf offeringOf stepIn stepOf wholeOnes afterOpening given spanOf afterByte acceptedOnes offered takenOf plainOf playAll played steps refusals commitBytes
+unfolding be beFrom beBytes put fieldAt signed unsigned framed frontOf cutFrom cutOf payloadOf judgedOf headerOf readOf copyData copyDone statusBody statusUpdate copyDataOf xlogData keepAlive boundaryOf beginBytes smallest raiseOf lookedOf reportedOf freshRun alreadyOpenOf feedbackOf openingOf turnOf drainOf readingOf waitingOf handlingOf stalledOf offeringOf stepIn stepOf wholeOnes afterOpening given spanOf afterByte acceptedOnes offered takenOf plainOf playAll played steps refusals commitBytes
 computed = tt
 
 -- each by computing the definitions

@@ -1,10 +1,11 @@
 -- The trace of a list of calls: each step with its input, the state that the step table found and what the table responded, and each report;
 -- the newest call first. It holds nothing of a run. Below stand the questions that the step table asks of it. SCOPE 8.3; 01, "Events and
 -- confirmations".
-use Prim.Native.Nat.{ℕ, _+_}
+use Prim.Native.Nat.{ℕ, _+_, min, max}
 use mathlib.Core.Bool.{Bool, true, false}
 use mathlib.Core.List.{List, [], _∷_, _++_}
 use mathlib.Core.Option.{some, none}
+use lib.Dec.{eqb}
 use Rattle.wire.specs.Bytes.{pick}
 use Rattle.framing.specs.Read.{limitOf}
 use Rattle.lsn.specs.declared.Lsn.{Lsn}
@@ -62,7 +63,7 @@ pub record Response : Type 0 where
 
 pub data Entry : Type 0 where
   a-step : Input → State → Response → Entry
-  a-report : Lsn → Moment → Entry
+  a-report : ℕ → Lsn → Moment → Entry
 
 abbrev pub Trace : Type 0
 Trace = List Entry
@@ -71,26 +72,26 @@ Trace = List Entry
 unfoldable pub stateAfter : Bool → Trace → State
 stateAfter opening [] = pick opening Opening Turn
 stateAfter opening (a-step i from y ∷ h) = y .entered
-stateAfter opening (a-report p m ∷ h) = stateAfter opening h
+stateAfter opening (a-report file p m ∷ h) = stateAfter opening h
 
 -- how many bytes were taken
 unfoldable pub takenBy : Trace → ℕ
 takenBy [] = 0
 takenBy (a-step i from y ∷ h) = takenBy h + y .taken
-takenBy (a-report p m ∷ h) = takenBy h
+takenBy (a-report file p m ∷ h) = takenBy h
 
 -- the events handed on, the oldest first
 unfoldable pub handedBy : Trace → List Happened
 handedBy [] = []
 handedBy (a-step i from y ∷ h) = handedBy h ++ y .event
-handedBy (a-report p m ∷ h) = handedBy h
+handedBy (a-report file p m ∷ h) = handedBy h
 
 -- what the plain reading observes, the oldest step first
 unfoldable pub observationsOf : Trace → List Observation
 observationsOf [] = []
 observationsOf (a-step i from y ∷ h) =
     observationsOf h ++ (record { stop = i .stop; queue = i .queue; refusal = y .refusal; taken = y .taken } ∷ [])
-observationsOf (a-report p m ∷ h) = observationsOf h
+observationsOf (a-report file p m ∷ h) = observationsOf h
 
 -- a step went from a to b
 abbrev pub went : State → State → State → State → Bool
@@ -98,35 +99,43 @@ went a b from to = pick (isIn a from) (isIn b to) false
 
 -- ---- positions and moments
 
--- the largest of the start and the positions reported so far
+-- the largest of the start and the positions that one file reported so far
+unfoldable pub reachedBy : ℕ → Lsn → Trace → ℕ
+reachedBy n start [] = start .0
+reachedBy n start (a-step i from y ∷ h) = reachedBy n start h
+reachedBy n start (a-report file p m ∷ h) = pick (eqb file n) (max (reachedBy n start h) (p .0)) (reachedBy n start h)
+
+-- the smallest of that over the files 0 to 3, which is what a status confirms; a report of any other number is refused and counts for nothing
 unfoldable pub confirmedOf : Lsn → Trace → Lsn
-confirmedOf start [] = start
-confirmedOf start (a-step i from y ∷ h) = confirmedOf start h
-confirmedOf start (a-report p m ∷ h) = pick (isBelow (confirmedOf start h) p) p (confirmedOf start h)
+confirmedOf start h = lsn (min (min (reachedBy 0 start h) (reachedBy 1 start h)) (min (reachedBy 2 start h) (reachedBy 3 start h)))
+
+-- a report raises it
+abbrev pub raises : Lsn → ℕ → Lsn → Moment → Trace → Bool
+raises start file p m h = isBelow (confirmedOf start h) (confirmedOf start (a-report file p m ∷ h))
 
 -- the moment of the last step that was not refused with 2 to 5
 unfoldable pub lastAccepted : Trace → Moment
 lastAccepted [] = noMoment
 lastAccepted (a-step i from y ∷ h) = pick (isRefusedEarly (y .refusal)) (lastAccepted h) (i .moment)
-lastAccepted (a-report p m ∷ h) = lastAccepted h
+lastAccepted (a-report file p m ∷ h) = lastAccepted h
 
 -- whether a status was written, when the last was, and what it confirmed
 unfoldable pub hasSent : Trace → Bool
 hasSent [] = false
 hasSent (a-step i from y ∷ h) = pick (isStatus (y .writing)) true (hasSent h)
-hasSent (a-report p m ∷ h) = hasSent h
+hasSent (a-report file p m ∷ h) = hasSent h
 
 -- (when)
 unfoldable pub sentAt : Trace → Moment
 sentAt [] = noMoment
 sentAt (a-step i from y ∷ h) = pick (isStatus (y .writing)) (i .moment) (sentAt h)
-sentAt (a-report p m ∷ h) = sentAt h
+sentAt (a-report file p m ∷ h) = sentAt h
 
 -- (what)
 unfoldable pub sentPosition : Lsn → Trace → Lsn
 sentPosition start [] = lsn 0
 sentPosition start (a-step i from y ∷ h) = pick (isStatus (y .writing)) (confirmedOf start h) (sentPosition start h)
-sentPosition start (a-report p m ∷ h) = sentPosition start h
+sentPosition start (a-report file p m ∷ h) = sentPosition start h
 
 -- no status was sent, or the position is above the last sent
 abbrev pub isAboveSent : Lsn → Trace → Bool
@@ -136,12 +145,12 @@ isAboveSent start h = pick (hasSent h) (isBelow (sentPosition start h) (confirme
 abbrev pub takesPending : Setup → Trace → Bool
 takesPending s h = both (s .settings .timing) (isAboveSent (s .start) h)
 
--- the pending moment, of the first report that raised the position since a status took the last one; 0 stands for none
+-- the pending moment, of the first report that raised the smallest since a status took the last one; 0 stands for none
 unfoldable pub pendingSince : Setup → Trace → Moment
 pendingSince s [] = noMoment
 pendingSince s (a-step i from y ∷ h) = pick (both (isStatus (y .writing)) (takesPending s h)) noMoment (pendingSince s h)
-pendingSince s (a-report p m ∷ h) =
-    pick (both (s .settings .timing) (both (isBelow (confirmedOf (s .start) h) p) (isNone (pendingSince s h)))) m (pendingSince s h)
+pendingSince s (a-report file p m ∷ h) =
+    pick (both (s .settings .timing) (both (raises (s .start) file p m h) (isNone (pendingSince s h)))) m (pendingSince s h)
 
 -- ---- the wait, which a step of Drain begins
 
@@ -149,19 +158,19 @@ pendingSince s (a-report p m ∷ h) =
 unfoldable pub waitBegan : Trace → Moment
 waitBegan [] = noMoment
 waitBegan (a-step i from y ∷ h) = pick (went Drain Waiting from (y .entered)) (i .moment) (waitBegan h)
-waitBegan (a-report p m ∷ h) = waitBegan h
+waitBegan (a-report file p m ∷ h) = waitBegan h
 
 -- "pending" as it was fixed then
 unfoldable pub pendingOf : Lsn → Trace → Bool
 pendingOf start [] = false
 pendingOf start (a-step i from y ∷ h) = pick (went Drain Waiting from (y .entered)) (isAboveSent start h) (pendingOf start h)
-pendingOf start (a-report p m ∷ h) = pendingOf start h
+pendingOf start (a-report file p m ∷ h) = pendingOf start h
 
--- "signalled": a report since then was above what there was
+-- "signalled": a report since then raised the smallest
 unfoldable pub signalledOf : Lsn → Trace → Bool
 signalledOf start [] = false
 signalledOf start (a-step i from y ∷ h) = pick (went Drain Waiting from (y .entered)) false (signalledOf start h)
-signalledOf start (a-report p m ∷ h) = pick (isBelow (confirmedOf start h) p) true (signalledOf start h)
+signalledOf start (a-report file p m ∷ h) = pick (raises start file p m h) true (signalledOf start h)
 
 -- ---- messages and offers
 
@@ -170,14 +179,14 @@ unfoldable pub drainedOf : Trace → ℕ
 drainedOf [] = 0
 drainedOf (a-step i from y ∷ h) =
     pick (went Turn Drain from (y .entered)) 0 (pick (went Reading Handling from (y .entered)) (drainedOf h + 1) (drainedOf h))
-drainedOf (a-report p m ∷ h) = drainedOf h
+drainedOf (a-report file p m ∷ h) = drainedOf h
 
 -- the message that was read last outside Opening was read in a wait: the step that entered Handling came from Waiting
 unfoldable pub readInWait : Trace → Bool
 readInWait [] = false
 readInWait (a-step i from y ∷ h) =
     pick (went Waiting Handling from (y .entered)) true (pick (went Reading Handling from (y .entered)) false (readInWait h))
-readInWait (a-report p m ∷ h) = readInWait h
+readInWait (a-report file p m ∷ h) = readInWait h
 
 -- an accepted step offered an event, and after it another is offered, or the same
 abbrev pub offersOn : State → Response → Bool
@@ -188,11 +197,11 @@ unfoldable pub fullBefore : Trace → Bool
 fullBefore [] = false
 fullBefore (a-step i from y ∷ h) =
     pick (went Handling Offering from (y .entered)) false (pick (offersOn from y) (isFull (i .queue)) (fullBefore h))
-fullBefore (a-report p m ∷ h) = fullBefore h
+fullBefore (a-report file p m ∷ h) = fullBefore h
 
 -- how many events of the message were handed on or dropped since it was handled
 unfoldable pub goneOf : Trace → ℕ
 goneOf [] = 0
 goneOf (a-step i from y ∷ h) =
     pick (went Handling Offering from (y .entered)) 0 (pick (offersOn from y) (pick (isFull (i .queue)) (goneOf h) (goneOf h + 1)) (goneOf h))
-goneOf (a-report p m ∷ h) = goneOf h
+goneOf (a-report file p m ∷ h) = goneOf h

@@ -24,7 +24,7 @@ use Rattle.claims.specs.Table.{limitBy, lastMessage, responseOf}
 -- one call more
 abbrev pub traceOne : Setup → Trace → Call → Trace
 traceOne s h (step i n out) = a-step i (stateAfter (s .opening) h) (responseOf s h i n (length out)) ∷ h
-traceOne s h (report p m) = a-report p m ∷ h
+traceOne s h (report file p m) = a-report file p m ∷ h
 
 -- call after call
 unfoldable pub traceAll : Setup → Trace → List Call → Trace

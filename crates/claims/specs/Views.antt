@@ -19,7 +19,7 @@ use Rattle.claims.specs.Traced.{traceOf}
 unfoldable pub hasFailed : Trace → Bool
 hasFailed [] = false
 hasFailed (a-step i from y ∷ h) = pick (eqb (y .refusal) 19) true (hasFailed h)
-hasFailed (a-report p m ∷ h) = hasFailed h
+hasFailed (a-report file p m ∷ h) = hasFailed h
 
 -- what a run shows after a trace
 pub record Seen (s : Setup) (h : Trace) (r : Run) : Type 0 where

@@ -15,17 +15,16 @@ use Rattle.framing.specs.Read.{Result, limitOf, headerOf, readOf}
 use Rattle.framing.specs.Read as R
 use Rattle.framing.proofs.Laws.{pick-both, payload-taken, judged-taken}
 use Rattle.stream.specs.Tag.{isError, isCopyBothResponse, isCopyData}
-use Rattle.lsn.specs.declared.Lsn.{Lsn}
 use Rattle.lsn.specs.Position.{isBelow}
 use Rattle.metrics.specs.Metrics.{withEvent, withReply, withEnd}
-use Rattle.moment.specs.declared.Moment.{Moment}
 use Rattle.moment.specs.Moment.{sinceOf}
 use Rattle.pgoutput.specs.Boundary.{boundaryOf}
 use Rattle.pgoutput.specs.Boundary as B
 use Rattle.replication.specs.CopyData.{copyDataOf}
 use Rattle.replication.specs.CopyData as C
-use Rattle.progress.specs.declared.ProgressCell.{ProgressCell}
-use Rattle.progress.specs.Progress.{cellPosition, cellSignal, lookedOf, reportedOf}
+use Rattle.progress.specs.declared.files.Files.{Files}
+use Rattle.progress.specs.Progress.{cellSignal}
+use Rattle.progress.specs.Files.{smallest}
 use Rattle.worker.specs.declared.State.{State}
 use Rattle.worker.specs.declared.State.the-variants.{Opening, Turn, Drain, Reading, Waiting, Handling, Offering, Ended}
 use Rattle.worker.specs.declared.Queue.{Queue}
@@ -34,10 +33,10 @@ use Rattle.worker.specs.declared.Input.{Input}
 use Rattle.worker.specs.declared.Event.{Event}
 use Rattle.worker.specs.declared.Event.the-variants.{Nothing, KeepAlive, StoppedAt}
 use Rattle.worker.specs.declared.Run.{Run}
-use Rattle.worker.specs.Run.{lsn, withReader, withDrained, withMetrics, accepted}
+use Rattle.worker.specs.Run.{lsn, cellIn, withReader, withDrained, withMetrics, accepted}
 use Rattle.worker.specs.Rows.{both, unless}
+use Rattle.worker.specs.Step.{Lent, Outcome, back, badMoment, boundaryBy, copyDataBy, doneWith, drainOf, firstBy, handing, handlingOf, having, idleOf, intervalPassed, isEnded, isReadable, isStoppedAt, keepAliveBy, moved, nextEvent, offeringOf, offers, openingBy, openingOf, readBy, readingBy, readingOf, refusedWith, stalledBy, stalledOf, stalls, stallEnded, stepIn, statusDue, feedbackOf, stepOf, turnOf, waitingBy, waitingOf, waitingRead}
 use Rattle.worker.specs.Streaming.{isCopyDone}
-use Rattle.worker.specs.Step.{Lent, Outcome, back, badMoment, boundaryBy, copyDataBy, doneWith, drainOf, firstBy, handing, handlingOf, having, idleOf, intervalPassed, isEnded, isReadable, isStoppedAt, keepAliveBy, moved, nextEvent, offeringOf, offers, openingBy, openingOf, readBy, readingBy, readingOf, refusedWith, stalledBy, stalledOf, stalls, stallEnded, stepIn, statusDue, feedbackOf, stepOf, takesPending, turnOf, waitingBy, waitingOf, waitingRead}
 use Rattle.effects.specs.Effects.{Writing, nothing, done, status, Effects, Step-effects}
 
 -- ---- a read
@@ -61,13 +60,6 @@ reads-within s r u e p =
     (pick-both P (r .refused) _ _ z
     (pick-both P (ltb (r .filled) 5) _ _ (header-taken (limitOf s) r u e p) (payload-taken r u e p)))
 
--- ---- a status
-
-reported-position : (b : Bool) (c : ProgressCell) (m : Moment) → cellPosition (pick b (reportedOf c (cellPosition c) m .cell) c) ≡ cellPosition c
-unfolding reportedOf
-reported-position true c m = refl
-reported-position false c m = refl
-
 -- ---- the rows of the table
 
 module _ (i : Input) (l : Lent) where
@@ -77,11 +69,11 @@ module _ (i : Input) (l : Lent) where
   read-taken : (r : Run) → readBy r i l .2 ≤ length (l .unread)
   read-taken r = reads-within (r .settings .«max_message_size») (r .reader) (l .unread) (i .ended) (l .payload)
 
-  -- the position is that of a run, and no change of another part touches it
+  -- the files are those of a run, and no change of another part touches them
   abbrev K : Run → Outcome → Type 0
-  K r o = Effects i l (cellPosition (r .progress)) o
+  K r o = Effects i l (r .progress .files) o
 
-  either : {p : Lsn} (b : Bool) {x y : Outcome} → Effects i l p x → Effects i l p y → Effects i l p (pick b x y)
+  either : {p : Files} (b : Bool) {x y : Outcome} → Effects i l p x → Effects i l p y → Effects i l p (pick b x y)
   either true hx hy = hx
   either false hx hy = hy
 
@@ -100,10 +92,10 @@ module _ (i : Input) (l : Lent) where
   done-keeps e r = record { taken = none; preserved = refl; writes = done refl refl }
 
   -- bytes that were taken, no more than are unread, and a payload buffer change neither
-  having-keeps : {p : Lsn} (k : ℕ) (b : List ℕ) (o : Outcome) → k ≤ length (l .unread) → Effects i l p o → Effects i l p (having k b o)
+  having-keeps : {p : Files} (k : ℕ) (b : List ℕ) (o : Outcome) → k ≤ length (l .unread) → Effects i l p o → Effects i l p (having k b o)
   having-keeps {p} k b o t h = record { taken = t; preserved = h .preserved; writes = by (h .writes) }
     where
-      by : Writing (p .0) i l o → Writing (p .0) i l (having k b o)
+      by : Writing (smallest p .0) i l o → Writing (smallest p .0) i l (having k b o)
       by (nothing a c) = nothing a c
       by (done a c) = done a c
       by (status reply a c) = status reply a c
@@ -111,7 +103,7 @@ module _ (i : Input) (l : Lent) where
   status-keeps : (reply : Bool) (to : State) (r : Run) → K r (feedbackOf reply to r i l)
   unfolding feedbackOf
   status-keeps reply to r =
-      record { taken = none; preserved = reported-position (takesPending r) (r .progress) (r .clock .last); writes = status reply refl refl }
+      record { taken = none; preserved = refl; writes = status reply refl refl }
 
   -- ---- each state
 
@@ -129,7 +121,7 @@ module _ (i : Input) (l : Lent) where
   turn-keeps r = either (statusDue r) (status-keeps false Drain (withDrained 0 r)) (moved-keeps _)
 
   drain-keeps : (r : Run) → K r (drainOf r i l)
-  unfolding drainOf lookedOf
+  unfolding drainOf
   drain-keeps r =
       either (both (ltb (r .drained) 256) (leb 5 (length (l .unread)))) (moved-keeps _)
       (either (eqb (r .drained) 0) (moved-keeps _)
@@ -162,7 +154,7 @@ module _ (i : Input) (l : Lent) where
   waiting-keeps r =
       either (i .stop) (done-keeps Nothing r)
       (either (both (r .pending) (intervalPassed r)) (status-keeps false Turn r)
-      (either (unless (r .pending) (cellSignal (r .progress))) (moved-keeps _)
+      (either (unless (r .pending) (cellSignal (cellIn r))) (moved-keeps _)
       (either (isReadable i l) (waiting-read r) (idle-keeps r))))
 
   boundary-by : (a : B.Said) (start end : ℕ) (time : ℤ) (from len : ℕ) (r : Run) → K r (boundaryBy a start end time from len r l)

@@ -1,13 +1,13 @@
--- What one step can do, for every run value and whatever it is lent: how many bytes it takes, what it writes, and that the confirmed position stays.
--- SCOPE 5.5, 4.2.
+-- What one step can do, for every run value and whatever it is lent: how many bytes it takes, what it writes, and that every file's position stays.
+-- SCOPE 5.5, 4.2, 4.5.
 use Prim.Native.Nat.{ℕ, _≤_}
 use mathlib.Core.Bool.{Bool}
 use mathlib.Core.Path.{_≡_}
 use lib.ListN.{length}
 use Rattle.wire.specs.Bytes.{put}
 use Rattle.frontend.specs.Frontend.{statusUpdate, copyDone}
-use Rattle.lsn.specs.declared.Lsn.{Lsn}
-use Rattle.progress.specs.Progress.{cellPosition}
+use Rattle.progress.specs.declared.files.Files.{Files}
+use Rattle.progress.specs.Files.{smallest}
 use Rattle.worker.specs.declared.Input.{Input}
 use Rattle.worker.specs.declared.Run.{Run}
 use Rattle.worker.specs.Step.{Outcome, Lent, stepOf}
@@ -19,11 +19,11 @@ pub data Writing (position : ℕ) (i : Input) (l : Lent) (o : Outcome) : Type 0 
   status : (reply : Bool) → o .written ≡ 39 → o .out ≡ put (l .out) 0 (statusUpdate position (i .«client_time») reply)
       → Writing position i l o
 
--- it takes no more than it is lent, the position stays, and what it writes is by that position
-pub record Effects (i : Input) (l : Lent) (position : Lsn) (o : Outcome) : Type 0 where
+-- it takes no more than it is lent, the four files stay, and a status that it writes confirms the smallest of them
+pub record Effects (i : Input) (l : Lent) (files : Files) (o : Outcome) : Type 0 where
   pub taken : o .taken ≤ length (l .unread)
-  pub preserved : cellPosition (o .run .progress) ≡ position
-  pub writes : Writing (position .0) i l o
+  pub preserved : o .run .progress .files ≡ files
+  pub writes : Writing (smallest files .0) i l o
 
 abbrev pub Step-effects : Type 0
-Step-effects = (r : Run) (i : Input) (l : Lent) → Effects i l (cellPosition (r .progress)) (stepOf r i l)
+Step-effects = (r : Run) (i : Input) (l : Lent) → Effects i l (r .progress .files) (stepOf r i l)

@@ -1,14 +1,18 @@
 -- What an exported call leaves, of what the calls in it answered. Over variables, so that no rewriting meets the code.
-use mathlib.Core.Path.{_≡_, ap, _∙_}
+use mathlib.Core.Path.{_≡_, sym, ap, _∙_}
 use mathlib.Core.List.{List}
 use mathlib.Core.Option.{Option}
 use Prim.Native.Nat.{ℕ}
 use lib.ListN.{length}
-use borrow.Author.Tests.{ne-eqb}
+use borrow.Author.Tests.{ltb-true, ltb-false, ne-eqb}
 use denote.Ref.{RefT}
+use Rattle.wire.proofs.Laws.{by-test}
 use Rattle.error.specs.Writer.{outcome}
 use Rattle.lsn.specs.declared.Lsn.{Lsn}
 use Rattle.moment.specs.declared.Moment.{Moment}
+use Rattle.progress.specs.declared.files.Progress.{Progress}
+use Rattle.progress.specs.Files.{fileVerdict, noFile}
+use Rattle.progress.proofs.FileLaws.{refused-at, accepted-at}
 use Rattle.schedule.specs.declared.NextStep.{NextStep}
 use Rattle.schedule.specs.NextStep.{nextBy, nextStepOf}
 use Rattle.worker.specs.declared.AlreadyOpen.{AlreadyOpen}
@@ -16,15 +20,17 @@ use Rattle.worker.specs.declared.ErrorPart.{ErrorPart}
 use Rattle.worker.specs.declared.Input.{Input}
 use Rattle.worker.specs.declared.Opened.{Opened}
 use Rattle.worker.specs.declared.Queue.{Queue}
+use Rattle.worker.specs.declared.Reporting.{Reporting}
 use Rattle.worker.specs.declared.Run.{Run}
 use Rattle.worker.specs.declared.Settings.{Settings}
 use Rattle.worker.specs.declared.Stepped.{Stepped}
-use Rattle.worker.specs.Answer.{verdictNumber, waitedOption, outcomeBy, openedBy, alreadyOpenBy, errorPart, errorPartOf}
+use Rattle.worker.specs.Answer.{verdictNumber, waitedOption, outcomeBy, openedBy, alreadyOpenBy, reportingBy, errorPart, errorPartOf}
 use Rattle.worker.specs.Events.{saidBy}
 use Rattle.worker.specs.Opening as O
 use Rattle.worker.specs.Opening.{openOf, alreadyOpenOf, reportOf}
+use Rattle.worker.specs.Run.{withProgress}
 use Rattle.worker.specs.Step.{Lent, Outcome}
-use Rattle.words.specs.Step.{clipped, answerWords, steppedWords, openedWords, alreadyOpenWords}
+use Rattle.words.specs.Step.{clipped, answerWords, steppedWords, openedWords, alreadyOpenWords, reportWords}
 use Rattle.words.specs.Words.{runOf, wordsOf}
 use Rattle.answers.specs.Next.{nextWords}
 use Rattle.answers.specs.Parts.{errorWords}
@@ -40,14 +46,6 @@ module _ {r z : Run} (pr : r ≡ z) where
   made f {i} {j} l s {p} {o} pi e pw pa =
       let h : outcomeBy s p o ≡ f z j l = e ∙ ap (λ (x : Run). f x i l) pr ∙ ap (λ (x : Input). f z x l) pi in
       (rw (← h, pw .0, pa), pw .1 ∙ ap (λ (x : Outcome). x .run) h)
-
-  pub reported : {x : Run} (p : Lsn) (m : Moment) {ws : List ℕ}
-      → x ≡ reportOf r p m
-      → (ws ≡ wordsOf x) × (runOf ws ≡ x)
-      → (ws ≡ wordsOf (reportOf z p m)) × (runOf ws ≡ reportOf z p m)
-  reported {x} p m e pw =
-      let h : x ≡ reportOf z p m = e ∙ ap (λ (y : Run). reportOf y p m) pr in
-      (pw .0 ∙ ap wordsOf h, pw .1 ∙ h)
 
   pub next : (n : ℕ) {q k : Queue} (x : NextStep) {ws : List ℕ}
       → q ≡ k
@@ -87,6 +85,33 @@ module _ (a : AlreadyOpen) {n : ℕ} {y : ℕ × Run} (e : alreadyOpenBy a ≡ y
 
   pub not-already : {before : List ℕ} → (n ≡ 0 → ⊥) → ((n, before) ≡ alreadyOpenWords before y) × (n ≡ 0 → runOf before ≡ y .1)
   not-already z = (rw (← e, ← p, ne-eqb _ _ z), λ h. absurd (z h))
+
+-- a report that is refused leaves the run
+kept : (r : Run) (file : ℕ) (p : Lsn) (m : Moment) → (reportOf r file p m .0 ≡ 0 → ⊥) → reportOf r file p m .1 ≡ r
+unfolding reportOf
+kept r file p m h =
+    by-test (noFile file)
+    (λ t. ap (λ (a : ℕ × Progress). withProgress (a .1) r) (refused-at (r .progress) file p m (ltb-true 3 file t)))
+    (λ t. absurd (h (accepted-at (r .progress) file p m (ltb-false 3 file t))))
+
+-- from what a report gives; refused, the run's words are as they were
+module _ (a : Reporting) {n : ℕ} {r z : Run} (file : ℕ) (p : Lsn) (m : Moment) (pr : r ≡ z) (e : reportingBy a ≡ reportOf r file p m)
+    (v : n ≡ fileVerdict (a .verdict)) where
+  same-report : reportingBy a ≡ reportOf z file p m
+  same-report = e ∙ ap (λ (y : Run). reportOf y file p m) pr
+
+  pub reported : (before : List ℕ) {ws : List ℕ}
+      → n ≡ 0
+      → (ws ≡ wordsOf (a .run)) × (runOf ws ≡ a .run)
+      → ((n, ws) ≡ reportWords before (reportOf z file p m)) × (runOf ws ≡ reportOf z file p m .1)
+  reported before k pw = (rw (← same-report, ← v, k, pw .0), pw .1 ∙ ap (λ (x : ℕ × Run). x .1) same-report)
+
+  pub not-reported : (before : List ℕ) → runOf before ≡ z → (n ≡ 0 → ⊥)
+      → ((n, before) ≡ reportWords before (reportOf z file p m)) × (runOf before ≡ reportOf z file p m .1)
+  not-reported before same k = (
+    rw (← same-report, ← v, ne-eqb _ _ k),
+    same ∙ sym (kept z file p m (λ q. k (v ∙ ap (λ (x : ℕ × Run). x .0) same-report ∙ q))),
+  )
 
 -- the settings of their words for the settings that a call was given
 module _ {s z : Settings} (ps : s ≡ z) where

@@ -18,10 +18,10 @@ ghost use Rattle.schedule.specs.NextStep.{nextStepOf};
 ghost use Rattle.advance.specs.Advance.{advanceOf};
 ghost use Rattle.worker.specs.Answer.{errorPartOf, lent};
 ghost use Rattle.worker.specs.Opening.{alreadyOpenOf, openOf, reportOf};
-ghost use Rattle.worker.specs.Run.{stateNumber, lsn};
+ghost use Rattle.worker.specs.Run.{stateNumber, lsn, cellIn};
 ghost use Rattle.worker.specs.Step.{stepOf};
-ghost use Rattle.words.specs.Step.{queueOf, inputOf, steppedWords, openedWords, alreadyOpenWords};
-ghost use Rattle.words.specs.Words.{moment as momentOf, settingsOf, metricsWords, lastStatusWords, runOf, wordsOf};
+ghost use Rattle.words.specs.Step.{queueOf, inputOf, steppedWords, openedWords, alreadyOpenWords, reportWords};
+ghost use Rattle.words.specs.Words.{moment as momentOf, settingsOf, metricsWords, lastStatusWords, runOf};
 ghost use Rattle.answers.specs.Next.{nextWords};
 ghost use Rattle.answers.specs.Parts.{errorWords};
 ghost use Rattle.export.specs.Abi.{abi};
@@ -37,12 +37,14 @@ use words::run::last_status_of;
 use words::run::last_status_words;
 use words::run::metrics_of;
 use words::run::metrics_words;
+use words::run::progress_of;
 use words::run::run_of;
 use words::run::settings_of;
 use words::run::state_of;
 use words::run::state_word;
 use words::run::words_of;
 use words::step::answer_words;
+use words::step::file_verdict_word;
 use words::step::input_of;
 use words::step::queue_of;
 use words::step::verdict_word;
@@ -155,18 +157,26 @@ pub extern "C" fn rufflesquash_advance(
     *answer = answer_words(s, payload.len());
 }
 
-// The consumer has applied all before a position.
+// A file, 0 to 3, has applied all before a position. Every other number is refused, and the run's words are as they were.
 #[no_mangle]
 pub extern "C" fn rufflesquash_report(
     run: &mut [u64; layout::RUN_WORDS],
+    file: u64,
     position: u64,
     moment: u64,
-)
-    ensures { λ _. ⌜ now (run .exit) ≡ wordsOf (reportOf (runOf (now (run .entry))) (lsn position) (momentOf moment)) ⌝ }
-    ensures preserved { λ _. ⌜ runOf (now (run .exit)) ≡ reportOf (runOf (now (run .entry))) (lsn position) (momentOf moment) ⌝ }
+) -> u64
+    ensures { λ r. ⌜ (r, now (run .exit)) ≡ reportWords (now (run .entry)) (reportOf (runOf (now (run .entry))) file (lsn position) (momentOf moment)) ⌝ }
+    ensures preserved { λ _. ⌜ runOf (now (run .exit)) ≡ reportOf (runOf (now (run .entry))) file (lsn position) (momentOf moment) .1 ⌝ }
 {
     let before = run_of(*run);
-    *run = words_of(worker::session::report(before, Lsn(position), Moment(moment)));
+    let a = worker::session::report(before, file, Lsn(position), Moment(moment));
+    let verdict = a.verdict;
+    let refusal = file_verdict_word(verdict);
+    if refusal == 0 {
+        let after = a.run;
+        *run = words_of(after);
+    }
+    refusal
 }
 
 // When a step moves next while no byte is unread, the input has not ended, no stop is requested, the queue stays as it is and nothing is
@@ -209,10 +219,11 @@ pub extern "C" fn rufflesquash_metrics(
 // What a status would confirm now.
 #[no_mangle]
 pub extern "C" fn rufflesquash_position(run: &[u64; layout::RUN_WORDS]) -> u64
-    ensures { λ r. ⌜ r ≡ cellPosition (runOf (now (run .entry)) .progress) .0 ⌝ }
+    ensures { λ r. ⌜ r ≡ cellPosition (cellIn (runOf (now (run .entry)))) .0 ⌝ }
 {
-    let w = *run;
-    w[layout::RUN_APPLIED]
+    let progress = progress_of(*run);
+    let position = progress.position();
+    position.0
 }
 
 // Whether a status was sent, the position that the last one confirmed, its moment.

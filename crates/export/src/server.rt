@@ -1,7 +1,6 @@
 // What a host reads of the server outside the stream: messages, authentication requests, the answers to a simple query, errors; and kinds of
 // refusals. SCOPE 9.4. `preserved`: the words at exit stand for the reader or the query that the call leaves.
 ghost use mathlib.Core.Path.{_≡_};
-ghost use Rattle.error.specs.Refusal.{kindAt};
 ghost use Rattle.framing.specs.Read.{readOf};
 ghost use Rattle.messages.specs.Auth.{authOf};
 ghost use Rattle.messages.specs.Fields.{fieldsOf, indexed};
@@ -9,7 +8,7 @@ ghost use Rattle.query.specs.Fold.{messageOf};
 ghost use Rattle.query.specs.Row.{columnsOf, countOf, columnOf};
 ghost use Rattle.words.specs.Words.{readerOf};
 ghost use Rattle.answers.specs.Fold.{simpleQueryOf, foldedWords};
-ghost use Rattle.answers.specs.Kinds.{transientAt};
+ghost use Rattle.answers.specs.Kinds.{kindBy, transientAt};
 ghost use Rattle.answers.specs.Parts.{authWords, columnReply, fieldWords};
 ghost use Rattle.answers.specs.Read.{resultWords};
 use answers::fold::fold_words;
@@ -119,7 +118,7 @@ pub extern "C" fn rufflesquash_error_field(
 // The kind of a refusal by its number, 0 where no refusal has it.
 #[no_mangle]
 pub extern "C" fn rufflesquash_refusal_kind(refusal: u64) -> u64
-    ensures { λ r. ⌜ r ≡ kindAt refusal ⌝ }
+    ensures { λ r. ⌜ r ≡ kindBy refusal ⌝ }
 {
     kind_word(refusal)
 }

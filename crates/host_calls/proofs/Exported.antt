@@ -60,9 +60,15 @@ module _ (bytes : List ℕ) {h : Held} {z : Played} (s : Stands h z) where
   one : (c : HostCall) {g : Held} → Called bytes h c g → Stands g (mixOne bytes z (callOf c)) × (g .answers ≡ h .answers ++ answersOne bytes z (callOf c))
   one (step a n out) c = (stands-on stepOf a n out c, answers-on stepOf a n out c)
   one (advance a n out) c = (stands-on advanceOf a n out c, answers-on advanceOf a n out c)
-  one (report p m) c = (
-    record { run = c .preserved ∙ ap (λ (r : Run). reportOf r (lsn p) (moment m)) (s .run); payload = c .payload ∙ s .payload; taken = c .taken ∙ s .taken },
-    c .answers ∙ sym (append-nil (h .answers)),
+  one (report file p m) c = (
+    record {
+      run = c .preserved ∙ ap (λ (r : Run). reportOf r file (lsn p) (moment m) .1) (s .run);
+      payload = c .payload ∙ s .payload;
+      taken = c .taken ∙ s .taken;
+    },
+    c .answers
+        ∙ ap (λ (x : ℕ). h .answers ++ ((x ∷ []) ∷ []))
+        (ap (λ (x : ℕ × List ℕ). x .0) (c .ensures) ∙ ap (λ (r : Run). reportOf r file (lsn p) (moment m) .0) (s .run)),
   )
 
 all-calls : (bytes : List ℕ) {h g : Held} {z : Played} (cs : List HostCall) → Stands h z → CalledAll bytes h cs g

@@ -133,9 +133,9 @@ module _ (bytes : List ℕ) {z y : Played} (s : Same z y) where
       → Same (stepped z i (f (z .run) i (lentTo bytes z n out))) (stepped y i (f (y .run) i (lentTo bytes y n out)))
   same-stepped f i n out = same-at (ap (stepped y i) (same-call f i n out)) (with-outcome i (f (z .run) i (lentTo bytes z n out)))
 
-  same-report : (q : Lsn) (m : Moment) → Same (playOne bytes z (C.report q m)) (playOne bytes y (C.report q m))
-  same-report q m =
-      record { run = ap (λ (r : Run). reportOf r q m) (s .run); payload = s .payload; taken = s .taken; events = s .events; written = s .written }
+  same-report : (file : ℕ) (q : Lsn) (m : Moment) → Same (playOne bytes z (C.report file q m)) (playOne bytes y (C.report file q m))
+  same-report file q m =
+      record { run = ap (λ (r : Run). reportOf r file q m .1) (s .run); payload = s .payload; taken = s .taken; events = s .events; written = s .written }
 
 -- ---- call after call
 
@@ -151,9 +151,9 @@ mixed bytes z y [] s = record { calls = []; unrolls = none; same = s }
 mixed bytes z y (step i n out ∷ cs) s =
     let x = mixed bytes (playOne bytes z (C.step i n out)) (playOne bytes y (C.step i n out)) cs (same-stepped bytes s stepOf i n out) in
     record { calls = C.step i n out ∷ x .calls; unrolls = steps (x .unrolls); same = x .same }
-mixed bytes z y (report q m ∷ cs) s =
-    let x = mixed bytes (playOne bytes z (C.report q m)) (playOne bytes y (C.report q m)) cs (same-report bytes s q m) in
-    record { calls = C.report q m ∷ x .calls; unrolls = reports (x .unrolls); same = x .same }
+mixed bytes z y (report file q m ∷ cs) s =
+    let x = mixed bytes (playOne bytes z (C.report file q m)) (playOne bytes y (C.report file q m)) cs (same-report bytes s file q m) in
+    record { calls = C.report file q m ∷ x .calls; unrolls = reports (x .unrolls); same = x .same }
 mixed bytes z y (advance i n out ∷ cs) s =
     let u = advance-is-steps (y .run) i (lentTo bytes y n out) in
     let ds : List C.Call = stepsOf (u .steps) n out in

@@ -18,8 +18,8 @@ use Rattle.worker.specs.Opening.{openOf, alreadyOpenOf, reportOf}
 use Rattle.worker.specs.Run.{lsn}
 use Rattle.worker.specs.Step.{Lent, Outcome, stepOf}
 use Rattle.advance.specs.Advance.{advanceOf}
-use Rattle.words.specs.Words.{moment, settingsOf, runOf, wordsOf}
-use Rattle.words.specs.Step.{inputOf, steppedWords, openedWords, alreadyOpenWords}
+use Rattle.words.specs.Words.{moment, settingsOf, runOf}
+use Rattle.words.specs.Step.{inputOf, steppedWords, openedWords, alreadyOpenWords, reportWords}
 use Rattle.claims.specs.Calls.{Played, lentTo, begun, Beginning, opens, is-open}
 use Rattle.claims.specs.Calls as C
 use Rattle.host_calls.specs.Mixed.{Call, mixOne, mixAll, AsSteps}
@@ -36,17 +36,17 @@ pub record Words : Type 0 where
 abbrev pub inputBy : Words → Input
 inputBy a = inputOf (a .moment) (a .time) (a .stop) (a .queue) (a .ended)
 
--- an exported call: a step or an advance with so many of the next untaken bytes and an output; a report of a position at a moment
+-- an exported call: a step or an advance with so many of the next untaken bytes and an output; a report of a file at a position and a moment
 pub data HostCall : Type 0 where
   step : Words → ℕ → List ℕ → HostCall
   advance : Words → ℕ → List ℕ → HostCall
-  report : ℕ → ℕ → HostCall
+  report : ℕ → ℕ → ℕ → HostCall
 
 -- the call of a run that it is
 abbrev pub callOf : HostCall → Call
 callOf (step a n out) = M.step (inputBy a) n out
 callOf (advance a n out) = M.advance (inputBy a) n out
-callOf (report p m) = M.report (lsn p) (moment m)
+callOf (report file p m) = M.report file (lsn p) (moment m)
 
 unfoldable pub callsOf : List HostCall → List Call
 callsOf [] = []
@@ -72,18 +72,19 @@ pub record Stepped (f : Run → Input → Lent → Outcome) (bytes : List ℕ) (
   pub taken : g .taken ≡ h .taken + getD answer 1 0
   pub answers : g .answers ≡ h .answers ++ (answer ∷ [])
 
--- `rufflesquash_report`
-pub record Reported (h : Held) (p m : ℕ) (g : Held) : Type 0 where
-  pub ensures : g .words ≡ wordsOf (reportOf (runOf (h .words)) (lsn p) (moment m))
-  pub preserved : runOf (g .words) ≡ reportOf (runOf (h .words)) (lsn p) (moment m)
+-- `rufflesquash_report`: both clauses. It answers one word
+pub record Reported (h : Held) (file p m : ℕ) (g : Held) : Type 0 where
+  pub answer : ℕ
+  pub ensures : (answer, g .words) ≡ reportWords (h .words) (reportOf (runOf (h .words)) file (lsn p) (moment m))
+  pub preserved : runOf (g .words) ≡ reportOf (runOf (h .words)) file (lsn p) (moment m) .1
   pub payload : g .payload ≡ h .payload
   pub taken : g .taken ≡ h .taken
-  pub answers : g .answers ≡ h .answers
+  pub answers : g .answers ≡ h .answers ++ ((answer ∷ []) ∷ [])
 
 abbrev pub Called : List ℕ → Held → HostCall → Held → Type 0
 Called bytes h (step a n out) g = Stepped stepOf bytes h a n out g
 Called bytes h (advance a n out) g = Stepped advanceOf bytes h a n out g
-Called bytes h (report p m) g = Reported h p m g
+Called bytes h (report file p m) g = Reported h file p m g
 
 -- call after call
 pub data CalledAll (bytes : List ℕ) : Held → List HostCall → Held → Type 0 where
@@ -104,11 +105,11 @@ pub data Opened (settings before words : List ℕ) : Beginning → Type 0 where
 
 -- ---- the promise
 
--- the answers that a list of calls of a run gives, as words; a report has none
+-- the answers that a list of calls of a run gives, as words; a report's is the number of its refusal, 0 for none
 abbrev pub answersOne : List ℕ → Played → Call → List (List ℕ)
 answersOne bytes z (M.step i n out) = steppedWords (stepOf (z .run) i (lentTo bytes z n out)) .1 ∷ []
 answersOne bytes z (M.advance i n out) = steppedWords (advanceOf (z .run) i (lentTo bytes z n out)) .1 ∷ []
-answersOne bytes z (M.report p m) = []
+answersOne bytes z (M.report file p m) = (reportOf (z .run) file p m .0 ∷ []) ∷ []
 
 unfoldable pub answersAll : List ℕ → Played → List Call → List (List ℕ)
 answersAll bytes z [] = []

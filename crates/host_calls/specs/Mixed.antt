@@ -17,13 +17,13 @@ use Rattle.claims.specs.Calls as C
 pub data Call : Type 0 where
   step : Input → ℕ → List ℕ → Call
   advance : Input → ℕ → List ℕ → Call
-  report : Lsn → Moment → Call
+  report : ℕ → Lsn → Moment → Call
 
 -- one call more; of an advance one answer is seen, as of a step
 abbrev pub mixOne : List ℕ → Played → Call → Played
 mixOne bytes z (step i n out) = playOne bytes z (C.step i n out)
 mixOne bytes z (advance i n out) = stepped z i (advanceOf (z .run) i (lentTo bytes z n out))
-mixOne bytes z (report p m) = playOne bytes z (C.report p m)
+mixOne bytes z (report file p m) = playOne bytes z (C.report file p m)
 
 -- call after call
 unfoldable pub mixAll : List ℕ → Played → List Call → Played
@@ -42,8 +42,8 @@ pub data Unrolls (bytes : List ℕ) : Played → List Call → List C.Call → T
   none : {z : Played} → Unrolls bytes z [] []
   steps : {z : Played} {i : Input} {n : ℕ} {out : List ℕ} {cs : List Call} {ds : List C.Call}
       → Unrolls bytes (playOne bytes z (C.step i n out)) cs ds → Unrolls bytes z (step i n out ∷ cs) (C.step i n out ∷ ds)
-  reports : {z : Played} {p : Lsn} {m : Moment} {cs : List Call} {ds : List C.Call}
-      → Unrolls bytes (playOne bytes z (C.report p m)) cs ds → Unrolls bytes z (report p m ∷ cs) (C.report p m ∷ ds)
+  reports : {z : Played} {file : ℕ} {p : Lsn} {m : Moment} {cs : List Call} {ds : List C.Call}
+      → Unrolls bytes (playOne bytes z (C.report file p m)) cs ds → Unrolls bytes z (report file p m ∷ cs) (C.report file p m ∷ ds)
   advances : {z : Played} {i : Input} {n : ℕ} {out : List ℕ} {cs : List Call} {ds : List C.Call}
       → (u : UpTo 4 (z .run) i (lentTo bytes z n out) (advanceOf (z .run) i (lentTo bytes z n out)))
       → Unrolls bytes (playAll bytes z (stepsOf (u .steps) n out)) cs ds

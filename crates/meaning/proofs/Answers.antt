@@ -41,7 +41,7 @@ pub field-words : Field-words
 field-words a b c = refl
 
 pub kind-words : Kind-words
-kind-words = (refl, refl, refl, refl, refl, refl, refl, refl, refl, refl, refl, refl, refl, refl, refl, refl, refl, refl, refl, refl, refl, refl)
+kind-words = (refl, refl, refl, refl, refl, refl, refl, refl, refl, refl, refl, refl, refl, refl, refl, refl, refl, refl, refl, refl, refl, refl, refl, refl)
 
 pub transient-words : Transient-words
 transient-words = (refl, refl, refl, refl, refl, refl, refl)

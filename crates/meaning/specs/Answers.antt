@@ -7,7 +7,6 @@ use mathlib.Core.Option.{some, none}
 use mathlib.Core.Path.{_≡_}
 use lib.IntN.{ℤ, pos, negsuc}
 use lib.ListN.{length, getD}
-use Rattle.error.specs.Refusal.{kindAt}
 use Rattle.framing.specs.Read as F
 use Rattle.framing.specs.Read.{readOf}
 use Rattle.framing.specs.declared.MessageReader.{MessageReader}
@@ -18,7 +17,7 @@ use Rattle.query.specs.Row.{columnsOf, columnOf}
 use Rattle.schedule.specs.NextStep.{atOnce, from, onInput, never}
 use Rattle.words.specs.Words.{flagOf, flagWord}
 use Rattle.answers.specs.Fold.{simpleQueryOf, queryWords, foldWords}
-use Rattle.answers.specs.Kinds.{transientAt}
+use Rattle.answers.specs.Kinds.{kindBy, transientAt}
 use Rattle.answers.specs.Next.{nextWords}
 use Rattle.answers.specs.Parts.{authWords, columnReply, fieldWords, errorWords}
 use Rattle.answers.specs.Read.{readWords}
@@ -73,12 +72,13 @@ Field-words = (a : Bool) (b c : ℕ) → fieldWords (record { given = a; from = 
 -- kinds by number: 0 no refusal, 1 usage, 2 input and output, 3 protocol, 4 server, 5 a message too large, 6 a position that is none
 abbrev pub Kind-words : Type 0
 Kind-words =
-    (kindAt 0 ≡ 0)
-    × (kindAt 1 ≡ 1) × (kindAt 2 ≡ 1) × (kindAt 3 ≡ 1) × (kindAt 4 ≡ 1) × (kindAt 5 ≡ 1)
-    × (kindAt 6 ≡ 3) × (kindAt 7 ≡ 5) × (kindAt 8 ≡ 2) × (kindAt 9 ≡ 2)
-    × (kindAt 10 ≡ 3) × (kindAt 13 ≡ 3) × (kindAt 14 ≡ 3) × (kindAt 18 ≡ 3)
-    × (kindAt 19 ≡ 4) × (kindAt 20 ≡ 3) × (kindAt 21 ≡ 3)
-    × (kindAt 22 ≡ 6) × (kindAt 23 ≡ 6) × (kindAt 24 ≡ 6) × (kindAt 25 ≡ 1) × (kindAt 26 ≡ 0)
+    (kindBy 0 ≡ 0)
+    × (kindBy 1 ≡ 1) × (kindBy 2 ≡ 1) × (kindBy 3 ≡ 1) × (kindBy 4 ≡ 1) × (kindBy 5 ≡ 1)
+    × (kindBy 6 ≡ 3) × (kindBy 7 ≡ 5) × (kindBy 8 ≡ 2) × (kindBy 9 ≡ 2)
+    × (kindBy 10 ≡ 3) × (kindBy 13 ≡ 3) × (kindBy 14 ≡ 3) × (kindBy 18 ≡ 3)
+    × (kindBy 19 ≡ 4) × (kindBy 20 ≡ 3) × (kindBy 21 ≡ 3)
+    × (kindBy 22 ≡ 6) × (kindBy 23 ≡ 6) × (kindBy 24 ≡ 6) × (kindBy 25 ≡ 1) × (kindBy 26 ≡ 0)
+    × (kindBy 31 ≡ 1) × (kindBy 32 ≡ 0)
 
 -- a new connection may help where the input ended in a message
 abbrev pub Transient-words : Type 0

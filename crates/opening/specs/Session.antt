@@ -1,11 +1,11 @@
--- Opening a run, a run that is already open, and a report, apart from their definitions: where each argument goes, what is refused with 1, and what a
--- report changes. SCOPE 5.1, 5.2, 5.3, 5.7; 01, "Events and confirmations".
-use Prim.Native.Nat.{ℕ, _+_, _*_, _≤_, _<_, max}
+-- Opening a run, a run that is already open, and a file's report, apart from their definitions: where each argument goes, what is refused with 1 and
+-- with 31, and what a report changes. SCOPE 5.1, 5.2, 5.3, 5.7; 01, "Events and confirmations"; 02, wish 5.
+use Prim.Native.Nat.{ℕ, _+_, _*_, _≤_, _<_, min, max}
 use mathlib.Core.Bool.{Bool, true, false}
-use mathlib.Core.List.{List}
+use mathlib.Core.List.{List, [], _∷_}
 use mathlib.Core.Logic.{_⊎_}
 use mathlib.Core.Path.{_≡_}
-use lib.ListN.{length}
+use lib.ListN.{length, getD}
 use lib.Dec.{ltb}
 use denote.Ref.{RefT}
 use Rattle.wire.specs.Bytes.{pick}
@@ -14,14 +14,17 @@ use Rattle.error.specs.Writer.{writing}
 use Rattle.frontend.specs.Frontend.{query}
 use Rattle.lsn.specs.declared.Lsn.{Lsn}
 use Rattle.moment.specs.declared.Moment.{Moment}
-use Rattle.progress.specs.Progress.{cellPosition, cellSignal, cellPending, cellTiming}
+use Rattle.progress.specs.declared.files.Files.{Files}
+use Rattle.progress.specs.Progress.{cellPosition, cellSignal, cellPending, cellTiming, raiseOf}
+use Rattle.progress.specs.Files.{files}
+use Rattle.progress.specs.FileCalls.{NamesAll}
 use Rattle.request.specs.Request.{startReplication}
 use Rattle.worker.specs.declared.Run.{Run}
 use Rattle.worker.specs.declared.Settings.{Settings}
 use Rattle.worker.specs.declared.State.{State}
 use Rattle.worker.specs.declared.State.the-variants.{Opening, Turn}
 use Rattle.worker.specs.Opening.{Opened, openOf, alreadyOpenOf, reportOf}
-use Rattle.worker.specs.Run.{stateNumber, withProgress}
+use Rattle.worker.specs.Run.{stateNumber, cellIn, withProgress}
 
 -- a day in nanoseconds: hours, minutes, seconds
 abbrev pub day : ℕ
@@ -33,14 +36,15 @@ TooLong s = (day < s .«status_interval») ⊎ (day < s .«idle_wakeup_interval�
 
 -- ---- a run that begins
 
--- the run has the settings, is in the state, and would confirm the start; nothing is signalled, pending, sent, counted or read
+-- the run has the settings, is in the state, and would confirm the start, at which all four files are; nothing is signalled, pending, sent, counted or read
 pub record Begins (s : Settings) (state : ℕ) (start : Lsn) (r : Run) : Type 0 where
   pub settings : r .settings ≡ s
   pub in-state : stateNumber (r .state) ≡ state
-  pub confirms : cellPosition (r .progress) ≡ start
-  pub not-signalled : cellSignal (r .progress) ≡ false
-  pub none-pending : cellPending (r .progress) .0 ≡ 0
-  pub timing : cellTiming (r .progress) ≡ s .timing
+  pub confirms : cellPosition (cellIn r) ≡ start
+  pub all-files : r .progress .files ≡ files start start start start
+  pub not-signalled : cellSignal (cellIn r) ≡ false
+  pub none-pending : cellPending (cellIn r) .0 ≡ 0
+  pub timing : cellTiming (cellIn r) ≡ s .timing
   pub none-sent : r .status .sent ≡ false
   pub none-forwarded : r .metrics .«events_forwarded» ≡ 0
   pub none-confirmed : r .metrics .«feedback_sent» ≡ 0
@@ -83,15 +87,42 @@ Already-open-accepted =
 
 -- ---- a report
 
--- the position is the larger of the two, a raise is signalled, and nothing of the run changes but its cell
-pub record Reported (r : Run) (position : Lsn) (moment : Moment) : Type 0 where
-  pub larger : cellPosition (reportOf r position moment .progress) .0 ≡ max (cellPosition (r .progress) .0) (position .0)
-  pub signals : cellPosition (r .progress) .0 < position .0 → cellSignal (reportOf r position moment .progress) ≡ true
-  pub lowers-nothing : position .0 ≤ cellPosition (r .progress) .0 → reportOf r position moment ≡ r
-  pub else-same : reportOf r position moment ≡ withProgress (reportOf r position moment .progress) r
+-- the position of a file by its number
+abbrev pub fileAt : ℕ → Run → ℕ
+fileAt n r = let f : Files = r .progress .files in getD (f .zero .0 ∷ f .one .0 ∷ f .two .0 ∷ f .three .0 ∷ []) n 0
+
+-- a number above 3 is refused with 31, and the run is as it was; else the file goes to the larger of its position and the reported one, and no other
+-- file moves. What a status would confirm is the smallest of the four. Where that rises it is signalled, and with timing on the moment is pending
+-- where none is; where it does not rise the cell stays. Nothing else of the run changes
+pub record Reported (r : Run) (file : ℕ) (position : Lsn) (moment : Moment) (after : Run) : Type 0 where
+  pub refused : 3 < file → reportOf r file position moment ≡ (31, r)
+  pub accepted : file ≤ 3 → reportOf r file position moment .0 ≡ 0
+  pub larger : file ≤ 3 → fileAt file after ≡ max (fileAt file r) (position .0)
+  pub others : (n : ℕ) → n ≤ 3 → (n ≡ file → ⊥) → fileAt n after ≡ fileAt n r
+  pub smallest : cellPosition (cellIn after) .0 ≡ min (min (fileAt 0 after) (fileAt 1 after)) (min (fileAt 2 after) (fileAt 3 after))
+  pub signals : cellPosition (cellIn r) .0 < cellPosition (cellIn after) .0 → cellSignal (cellIn after) ≡ true
+  pub stores : cellPosition (cellIn r) .0 < cellPosition (cellIn after) .0 → cellTiming (cellIn r) ≡ true → cellPending (cellIn r) .0 ≡ 0
+      → cellPending (cellIn after) ≡ moment
+  pub stays : cellPosition (cellIn after) .0 ≤ cellPosition (cellIn r) .0 → cellIn after ≡ cellIn r
+  pub else-same : after ≡ withProgress (after .progress) r
 
 abbrev pub Report-raises : Type 0
-Report-raises = (r : Run) (position : Lsn) (moment : Moment) → Reported r position moment
+Report-raises = (r : Run) (file : ℕ) (position : Lsn) (moment : Moment) → Reported r file position moment (reportOf r file position moment .1)
+
+-- ---- one report for all four files
+
+-- reports of one position and moment for one file after the other
+unfoldable pub reportsOn : List ℕ → Lsn → Moment → Run → Run
+reportsOn [] position moment r = r
+reportsOn (file ∷ ns) position moment r = reportOf (reportsOn ns position moment r) file position moment .1
+
+-- four reports of one position and moment, one a file, in any order, are the report that a run with one position for all has: the cell is raised
+-- once, and nothing else of the run changes. So is any list of such reports that names every file. This holds of every run, reachable or not
+abbrev pub Former-report : Type 0
+Former-report =
+    (ns : List ℕ) → NamesAll ns → (position : Lsn) (moment : Moment) (r : Run)
+    → let after : Run = reportsOn ns position moment r in
+    (cellIn after ≡ raiseOf (cellIn r) position moment .cell) × (after ≡ withProgress (after .progress) r)
 
 -- ---- all of it
 
@@ -103,3 +134,4 @@ pub record Session : Type 0 where
   pub already-open-too-long : Already-open-too-long
   pub already-open-accepted : Already-open-accepted
   pub report-raises : Report-raises
+  pub former-report : Former-report

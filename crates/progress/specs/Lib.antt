@@ -1,2 +1,4 @@
 pub mod Progress
 pub mod Calls
+pub mod Files
+pub mod FileCalls

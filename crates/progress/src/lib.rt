@@ -1,4 +1,7 @@
-// The position that a status would confirm, and what is known of reports that were not yet confirmed.
+// The position that a status would confirm, and what is known of reports that were not yet confirmed. Module `files` has the four files of a run,
+// over this cell.
+pub mod files;
+
 ghost use mathlib.Core.Path.{_≡_};
 ghost use mathlib.Core.Bool.{false};
 ghost use Rattle.progress.specs.Progress.{cell, noMoment, cellPosition, cellPending, storedBy, isNone, raiseOf, lookedOf, reportedOf, carriedOf};

@@ -6,6 +6,7 @@ use moment::Moment;
 use wire::store::least;
 use worker::Input;
 use worker::Queue;
+use worker::Reporting;
 use worker::Run;
 use worker::Stepped;
 
@@ -18,7 +19,7 @@ pub(crate) struct Play {
 }
 
 // A call as a script has it: its letter, or 0 where it is malformed; of a step the input, how many bytes are unread, and how long its output is and
-// what fills it; of a report the position.
+// what fills it; of a report the file and the position.
 struct Call {
     letter: u8,
     moment: u64,
@@ -29,6 +30,7 @@ struct Call {
     ended: bool,
     room: usize,
     fill: u8,
+    file: u8,
     position: u64,
 }
 
@@ -43,6 +45,7 @@ fn no_call() -> Call {
         ended: false,
         room: 0,
         fill: 0,
+        file: 0,
         position: 0,
     }
 }
@@ -71,6 +74,7 @@ fn step_of(call: &[u8]) -> Call {
         ended: fields::byte(call, 22) == 1,
         room: fields::half(call, 23),
         fill: fields::byte(call, 25),
+        file: 0,
         position: 0,
     }
 }
@@ -80,6 +84,15 @@ fn report_of(call: &[u8]) -> Call {
     c.letter = b'P';
     c.position = fields::long(call, 0);
     c.moment = fields::long(call, 8);
+    c
+}
+
+fn file_report_of(call: &[u8]) -> Call {
+    let mut c = no_call();
+    c.letter = b'F';
+    c.file = fields::byte(call, 0);
+    c.position = fields::long(call, 1);
+    c.moment = fields::long(call, 9);
     c
 }
 
@@ -102,6 +115,14 @@ fn read_report() -> Call {
     report_of(&call)
 }
 
+fn read_file_report() -> Call {
+    let mut call = [0u8; 17];
+    if io::read_full(0, &mut call) < 17 {
+        return no_call();
+    }
+    file_report_of(&call)
+}
+
 fn read_call() -> Call {
     let mut letter = [0u8; 1];
     if io::read_full(0, &mut letter) < 1 {
@@ -110,6 +131,7 @@ fn read_call() -> Call {
     match letter[0] {
         b'S' => read_step(),
         b'P' => read_report(),
+        b'F' => read_file_report(),
         _ => no_call(),
     }
 }
@@ -174,16 +196,41 @@ fn step(p: Play, c: Call, server: &[u8], payload: &mut [u8]) -> Play {
     with_output(p, c, server, payload, &mut out)
 }
 
-fn report(p: Play, c: Call) -> Play {
-    let run = p.run;
-    let next = worker::session::report(run, Lsn(c.position), Moment(c.moment));
-    spelled::report(worker::session::position(next));
+fn reported(run: Run, file: u64, c: Call) -> Reporting {
+    worker::session::report(run, file, Lsn(c.position), Moment(c.moment))
+}
+
+fn with_run(p: Play, run: Run) -> Play {
     Play {
-        run: next,
+        run,
         opened: true,
         taken: p.taken,
         good: true,
     }
+}
+
+// To all four files, in their order.
+fn report(p: Play, c: Call) -> Play {
+    let run = p.run;
+    let zero = reported(run, 0, c);
+    let run0 = zero.run;
+    let one = reported(run0, 1, c);
+    let run1 = one.run;
+    let two = reported(run1, 2, c);
+    let run2 = two.run;
+    let three = reported(run2, 3, c);
+    let next = three.run;
+    spelled::report(worker::session::position(next));
+    with_run(p, next)
+}
+
+fn file_report(p: Play, c: Call) -> Play {
+    let run = p.run;
+    let a = reported(run, c.file as u64, c);
+    let next = a.run;
+    let verdict = a.verdict;
+    spelled::file_report(verdict, worker::session::position(next));
+    with_run(p, next)
 }
 
 // A run that was not opened has its calls read and not made.
@@ -193,6 +240,9 @@ fn make_call(p: Play, c: Call, server: &[u8], payload: &mut [u8]) -> Play {
     }
     if c.letter == b'S' {
         return step(p, c, server, payload);
+    }
+    if c.letter == b'F' {
+        return file_report(p, c);
     }
     report(p, c)
 }

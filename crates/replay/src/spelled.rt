@@ -4,6 +4,7 @@ ghost use lib.ListN.{length};
 use lsn::Lsn;
 use metrics::Metrics;
 use playing::spelling;
+use progress::files::FileVerdict;
 use worker::Event;
 use worker::Run;
 use worker::State;
@@ -40,6 +41,27 @@ fn report_line(line: &mut [u8], position: Lsn) -> usize {
 pub(crate) fn report(position: Lsn) -> bool {
     let mut line = [0u8; 64];
     let n = report_line(&mut line, position);
+    lines::print(&line, n)
+}
+
+fn file_refusal(verdict: FileVerdict) -> u8 {
+    match verdict {
+        FileVerdict::Accepted => 0,
+        FileVerdict::Refused(r) => r.number(),
+    }
+}
+
+fn file_report_line(line: &mut [u8], refusal: u8, position: Lsn) -> usize {
+    let a = wire::store::place(line, 0, b"F");
+    let b = lines::number(line, a, refusal as u64);
+    let c = lines::position(line, b, position);
+    lines::end(line, c)
+}
+
+pub(crate) fn file_report(verdict: FileVerdict, position: Lsn) -> bool {
+    let refusal = file_refusal(verdict);
+    let mut line = [0u8; 64];
+    let n = file_report_line(&mut line, refusal, position);
     lines::print(&line, n)
 }
 

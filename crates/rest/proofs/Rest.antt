@@ -34,7 +34,7 @@ use Rattle.worker.specs.declared.Run.{Run}
 use Rattle.worker.specs.declared.State.{State}
 use Rattle.worker.specs.declared.State.the-variants.{Opening, Turn, Drain, Reading, Waiting, Handling, Offering, Ended}
 use Rattle.worker.specs.Rows.{both, unless}
-use Rattle.worker.specs.Run.{lsn, withState, wholeOf, withDrained, withMetrics, withReader, withWhole, accepted}
+use Rattle.worker.specs.Run.{lsn, cellIn, withState, wholeOf, withDrained, withMetrics, withReader, withWhole, accepted}
 use Rattle.worker.specs.Streaming.{isCopyDone}
 use Rattle.worker.specs.Step.{Lent, Outcome, afterEvent, back, badMoment, boundaryBy, copyDataBy, doneWith, drainOf, drops, endedWith, handing, handsOn, handlingOf, having, idleOf, intervalPassed, isEnded, isStoppedAt, moved, nextEvent, offeringOf, offers, openingBy, openingOf, reaches, readingBy, readingOf, stallEnded, stalledOf, stalls, stepIn, statusDue, feedbackOf, stepOf, turnOf, waitingOf, waits}
 use Rattle.schedule.specs.NextStep.{Next, atOnce, byClock, dueOf, idleMoment, beyond, isWhole, nextStepOf, offeringNext, openingNext, readingNext, stateNext, statusMoment, waitingNext}
@@ -124,10 +124,10 @@ module _ (m : Moment) (time : ℤ) (q : Queue) (p out : List ℕ) where
     -- ---- Waiting, with nothing to do now
 
     waiting-calm : r .state ≡ Waiting → both (r .pending) (intervalPassed (accepted m r)) ≡ false
-        → unless (r .pending) (cellSignal (r .progress)) ≡ false
+        → unless (r .pending) (cellSignal (cellIn r)) ≡ false
         → leb (r .settings .«idle_wakeup_interval») (sinceOf m (r .clock .«wait_began»)) ≡ false → Calm r
     unfolding nextStepOf stateNext waitingNext
-    waiting-calm h a b c = rw h (by (r .pending) (cellSignal (r .progress)) a b)
+    waiting-calm h a b c = rw h (by (r .pending) (cellSignal (cellIn r)) a b)
       where
         by : (x y : Bool) → both x (intervalPassed (accepted m r)) ≡ false → unless x y ≡ false
             → NotNow (pick x (byClock (min (statusMoment r) (idleMoment r))) (pick y atOnce (byClock (idleMoment r)))) (m .0)
@@ -204,10 +204,10 @@ module _ (m : Moment) (time : ℤ) (q : Queue) (p out : List ℕ) where
   unfolding stepIn waitingOf feedbackOf
   waiting-rests r f h =
       stepped r f 2 Waiting h refl
-      (by (both (r .pending) (intervalPassed (accepted m r))) (unless (r .pending) (cellSignal (r .progress)))
+      (by (both (r .pending) (intervalPassed (accepted m r))) (unless (r .pending) (cellSignal (cellIn r)))
       (leb (r .settings .«idle_wakeup_interval») (sinceOf m (r .clock .«wait_began»))) refl refl refl)
     where
-      by : (a b c : Bool) → both (r .pending) (intervalPassed (accepted m r)) ≡ a → unless (r .pending) (cellSignal (r .progress)) ≡ b
+      by : (a b c : Bool) → both (r .pending) (intervalPassed (accepted m r)) ≡ a → unless (r .pending) (cellSignal (cellIn r)) ≡ b
           → leb (r .settings .«idle_wakeup_interval») (sinceOf m (r .clock .«wait_began»)) ≡ c
           → Rest 2
           (pick {A = Outcome} a (feedbackOf false Turn (accepted m r) i l)

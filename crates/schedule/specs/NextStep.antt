@@ -15,6 +15,7 @@ use Rattle.worker.specs.declared.Queue.the-variants.{Free, Full, Closed}
 use Rattle.worker.specs.declared.State.{State}
 use Rattle.worker.specs.declared.State.the-variants.{Opening, Turn, Drain, Reading, Waiting, Handling, Offering, Ended}
 use Rattle.worker.specs.declared.Run.{Run}
+use Rattle.worker.specs.Run.{cellIn}
 use Rattle.schedule.specs.declared.NextStep.{NextStep}
 use Rattle.schedule.specs.declared.NextStep.the-variants.{AtOnce, From, OnInput, Never}
 
@@ -79,7 +80,7 @@ readingNext x n = pick (x .refused) atOnce (pick (isWhole x n) atOnce onInput)
 unfoldable pub waitingNext : Run → Next
 waitingNext r =
     pick (r .pending) (byClock (min (statusMoment r) (idleMoment r)))
-    (pick (cellSignal (r .progress)) atOnce
+    (pick (cellSignal (cellIn r)) atOnce
     (byClock (idleMoment r)))
 
 -- Offering: a full queue leaves only the status of each interval

@@ -99,7 +99,7 @@ kept-once : (bytes : List ℕ) (z : Played) (c : Call) → z .run .state ≡ End
 unfolding reportOf
 kept-once bytes z (step i n out) e =
     subst (λ (o : Outcome). Kept z (stepped z i o)) (sym (ended-step (z .run) i (lentTo bytes z n out) e)) (e, append-nil (z .events), refl)
-kept-once bytes z (report p m) e = (e, refl, refl)
+kept-once bytes z (report file p m) e = (e, refl, refl)
 
 kept-on : (bytes : List ℕ) (z : Played) (ds : List Call) → z .run .state ≡ Ended → Kept z (playAll bytes z ds)
 unfolding playAll

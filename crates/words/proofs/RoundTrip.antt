@@ -9,7 +9,8 @@ use Rattle.wire.specs.Int.{half}
 use Rattle.wire.proofs.FieldLaws.{signed-unsigned}
 use Rattle.framing.specs.declared.MessageReader.{MessageReader}
 use Rattle.metrics.specs.declared.Metrics.{Metrics}
-use Rattle.progress.specs.declared.ProgressCell.{ProgressCell}
+use Rattle.progress.specs.declared.files.Progress.{Progress}
+use Rattle.progress.specs.Files as F
 use Rattle.worker.specs.declared.Clock.{Clock}
 use Rattle.worker.specs.declared.Event.{Event}
 use Rattle.worker.specs.declared.Event.the-variants.{Nothing, KeepAlive, Begin, Commit, Message, XLogData, StoppedAt}
@@ -86,6 +87,9 @@ reader-back x h =
 pub cell-back : Cell-round-trip
 cell-back p = rw (flag-back (p .signalled), flag-back (p .timed))
 
+progress-back : (p : Progress) → F.progress (p .files) (flagOf (flagWord (p .signalled))) (p .«pending_since») (flagOf (flagWord (p .timed))) ≡ p
+progress-back p = rw (flag-back (p .signalled), flag-back (p .timed))
+
 status-back : (s : LastStatus) → lastStatus (flagOf (flagWord (s .sent))) (s .position) (s .at) ≡ s
 status-back s = rw (flag-back (s .sent))
 
@@ -97,7 +101,7 @@ offer-back : (o : Offer) → EventFits (o .event)
 offer-back o h = rw (event-back (o .event) h, flag-back (o .stalled), flag-back (o .stops))
 
 -- a run with its parts replaced by equal ones
-pub run-by : {s s' : Settings} {t t' : State} {x x' : MessageReader} {c c' : Clock} {p p' : ProgressCell} {l l' : LastStatus} {d : ℕ} {b b' : Bool}
+pub run-by : {s s' : Settings} {t t' : State} {x x' : MessageReader} {c c' : Clock} {p p' : Progress} {l l' : LastStatus} {d : ℕ} {b b' : Bool}
     {w w' : Whole} {o o' : Offer} {m m' : Metrics}
     → s ≡ s' → t ≡ t' → x ≡ x' → c ≡ c' → p ≡ p' → l ≡ l' → b ≡ b' → w ≡ w' → o ≡ o' → m ≡ m'
     → run s t x c p l d b w o m ≡ run s' t' x' c' p' l' d b' w' o' m'
@@ -105,7 +109,7 @@ run-by es et ex ec ep el eb ew eo em = rw (es, et, ex, ec, ep, el, eb, ew, eo, e
 
 pub round-trip : Round-trip
 round-trip r f =
-    run-by (settings-back (r .settings)) (state-back (r .state)) (reader-back (r .reader) (f .header)) refl (cell-back (r .progress))
+    run-by (settings-back (r .settings)) (state-back (r .state)) (reader-back (r .reader) (f .header)) refl (progress-back (r .progress))
     (status-back (r .status)) (flag-back (r .pending)) (whole-back (r .whole) (f .tag)) (offer-back (r .offer) (f .event)) refl
 
 -- five facts for one

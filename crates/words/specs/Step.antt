@@ -86,3 +86,7 @@ openedWords w o = (o .outcome .0, pick (eqb (o .outcome .0) 0) (wordsOf (o .run)
 -- refusal and run of a stream that has begun
 abbrev pub alreadyOpenWords : List ℕ → ℕ × Run → ℕ × List ℕ
 alreadyOpenWords w o = (o .0, pick (eqb (o .0) 0) (wordsOf (o .1)) w)
+
+-- .. and of a report
+abbrev pub reportWords : List ℕ → ℕ × Run → ℕ × List ℕ
+reportWords w o = (o .0, pick (eqb (o .0) 0) (wordsOf (o .1)) w)

@@ -13,7 +13,11 @@ use Rattle.framing.specs.declared.MessageReader.{MessageReader}
 use Rattle.metrics.specs.declared.Metrics.{Metrics}
 use Rattle.moment.specs.declared.Moment.{Moment}
 use Rattle.progress.specs.declared.ProgressCell.{ProgressCell}
+use Rattle.progress.specs.declared.files.Files.{Files}
+use Rattle.progress.specs.declared.files.Progress.{Progress}
 use Rattle.progress.specs.Progress.{cell, cellPosition, cellSignal, cellPending, cellTiming}
+use Rattle.progress.specs.Files.{files}
+use Rattle.progress.specs.Files as F
 use Rattle.worker.specs.declared.Settings.{Settings}
 use Rattle.worker.specs.declared.State.{State}
 use Rattle.worker.specs.declared.State.the-variants.{Opening, Turn, Drain, Reading, Waiting, Handling, Offering, Ended}
@@ -117,9 +121,11 @@ clockOf w = clock (moment (getD w 16 0)) (moment (getD w 17 0)) (moment (getD w 
 abbrev pub cellOf : List ℕ → ProgressCell
 cellOf w = cell (lsn (getD w 0 0)) (flagOf (getD w 1 0)) (moment (getD w 2 0)) (flagOf (getD w 3 0))
 
--- .. which of a run are the words 19 to 22
-abbrev pub cellPart : List ℕ → List ℕ
-cellPart w = getD w 19 0 ∷ getD w 20 0 ∷ getD w 21 0 ∷ getD w 22 0 ∷ []
+-- the progress of a run: the first file at 19, with the signal, the pending moment and timing after it; the other three files from 48 on
+abbrev pub progressOf : List ℕ → Progress
+progressOf w =
+    F.progress (files (lsn (getD w 19 0)) (lsn (getD w 48 0)) (lsn (getD w 49 0)) (lsn (getD w 50 0))) (flagOf (getD w 20 0))
+    (moment (getD w 21 0)) (flagOf (getD w 22 0))
 
 abbrev pub lastStatusOf : List ℕ → LastStatus
 lastStatusOf w = lastStatus (flagOf (getD w 23 0)) (lsn (getD w 24 0)) (moment (getD w 25 0))
@@ -147,7 +153,7 @@ metricsOf w =
 -- every list is read, whatever its words are
 abbrev pub runOf : List ℕ → Run
 runOf w =
-    run (settingsOf w) (stateOf (getD w 7 0)) (readerOf (readerPart w)) (clockOf w) (cellOf (cellPart w)) (lastStatusOf w) (getD w 26 0) (flagOf (getD w 27 0))
+    run (settingsOf w) (stateOf (getD w 7 0)) (readerOf (readerPart w)) (clockOf w) (progressOf w) (lastStatusOf w) (getD w 26 0) (flagOf (getD w 27 0))
     (wholeMessageOf w) (offerOf w) (metricsOf w)
 
 -- ---- the words of a run
@@ -169,6 +175,14 @@ clockWords c = c .last .0 ∷ c .«wait_began» .0 ∷ c .«stall_began» .0 ∷
 abbrev pub cellWords : ProgressCell → List ℕ
 cellWords p = cellPosition p .0 ∷ flagWord (cellSignal p) ∷ cellPending p .0 ∷ flagWord (cellTiming p) ∷ []
 
+-- what stands where a run's cell stood
+abbrev pub progressWords : Progress → List ℕ
+progressWords p = p .files .zero .0 ∷ flagWord (p .signalled) ∷ p .«pending_since» .0 ∷ flagWord (p .timed) ∷ []
+
+-- .. and the other three files
+abbrev pub filesWords : Files → List ℕ
+filesWords f = f .one .0 ∷ f .two .0 ∷ f .three .0 ∷ []
+
 abbrev pub lastStatusWords : LastStatus → List ℕ
 lastStatusWords s = flagWord (s .sent) ∷ s .position .0 ∷ s .at .0 ∷ []
 
@@ -187,9 +201,9 @@ metricsWords m =
     m .«events_forwarded» ∷ m .«feedback_sent» ∷ m .«keepalive_replies» ∷ m .«stall_count» ∷ m .«stall_micros_total» ∷ m .«last_applied_lsn» .0
     ∷ m .«last_wal_end» .0 ∷ []
 
--- sixteen words that later versions may use
+-- thirteen words that later versions may use
 abbrev pub spare : List ℕ
-spare = 0 ∷ 0 ∷ 0 ∷ 0 ∷ 0 ∷ 0 ∷ 0 ∷ 0 ∷ 0 ∷ 0 ∷ 0 ∷ 0 ∷ 0 ∷ 0 ∷ 0 ∷ 0 ∷ []
+spare = 0 ∷ 0 ∷ 0 ∷ 0 ∷ 0 ∷ 0 ∷ 0 ∷ 0 ∷ 0 ∷ 0 ∷ 0 ∷ 0 ∷ 0 ∷ []
 
 abbrev pub wordsOf : Run → List ℕ
 wordsOf r =
@@ -197,14 +211,15 @@ wordsOf r =
     ++ (stateNumber (r .state)
     ∷ (readerWords (r .reader)
     ++ (clockWords (r .clock)
-    ++ (cellWords (r .progress)
+    ++ (progressWords (r .progress)
     ++ (lastStatusWords (r .status)
     ++ (r .drained
     ∷ (flagWord (r .pending)
     ∷ (wholeWords (r .whole)
     ++ (offerWords (r .offer)
     ++ (metricsWords (r .metrics)
-    ++ spare))))))))))
+    ++ (filesWords (r .progress .files)
+    ++ spare)))))))))))
 
 -- ---- a run whose numbers have the widths of their types, as every run of a call has; where a word has the number's whole width nothing is asked
 

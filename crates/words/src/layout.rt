@@ -3,7 +3,7 @@
 // gate holds the three together. What the words mean is said in crate `meaning`.
 
 // The number of this list and of the exported functions; it grows with every change of either.
-pub const ABI: u64 = 3;
+pub const ABI: u64 = 4;
 
 // ---- settings: intervals are nanoseconds, a flag is true unless 0
 pub const SETTINGS_WORDS: usize = 7;
@@ -63,7 +63,7 @@ pub const RUN_WAIT_BEGAN: usize = 17;
 
 pub const RUN_STALL_BEGAN: usize = 18;
 
-pub const RUN_APPLIED: usize = 19;
+pub const RUN_FILE_0: usize = 19;
 
 pub const RUN_SIGNALLED: usize = 20;
 
@@ -121,7 +121,16 @@ pub const RUN_LAST_APPLIED_LSN: usize = 46;
 
 pub const RUN_LAST_WAL_END: usize = 47;
 
-pub const RUN_SPARE: usize = 48;
+pub const RUN_FILE_1: usize = 48;
+
+pub const RUN_FILE_2: usize = 49;
+
+pub const RUN_FILE_3: usize = 50;
+
+pub const RUN_SPARE: usize = 51;
+
+// ---- files; every other number is none
+pub const FILES: u64 = 4;
 
 // ---- states of a run; every other number is Ended
 pub const STATE_OPENING: u64 = 0;

@@ -1,8 +1,7 @@
 // A run as 64 words, and the run that any words stand for. SCOPE 9.1, 5.11.
 ghost use mathlib.Core.Path.{_≡_};
 ghost use Rattle.worker.specs.Run.{stateNumber};
-ghost use Rattle.words.specs.Words.{stateOf, settingsOf, clockOf, lastStatusOf, wholeMessageOf, offerOf, metricsOf, runOf, metricsWords, lastStatusWords, wordsOf};
-use crate::cell::cell_of;
+ghost use Rattle.words.specs.Words.{stateOf, settingsOf, clockOf, progressOf, lastStatusOf, wholeMessageOf, offerOf, metricsOf, runOf, metricsWords, lastStatusWords, wordsOf};
 use crate::event::event_of;
 use crate::event::event_words;
 use crate::layout;
@@ -15,6 +14,8 @@ use crate::word::wide;
 use lsn::Lsn;
 use metrics::Metrics;
 use moment::Moment;
+use progress::files::Files;
+use progress::files::Progress;
 use worker::Clock;
 use worker::LastStatus;
 use worker::Offer;
@@ -83,6 +84,24 @@ fn clock_of(w: [u64; layout::RUN_WORDS]) -> Clock
         last: Moment(w[layout::RUN_LAST_MOMENT]),
         wait_began: Moment(w[layout::RUN_WAIT_BEGAN]),
         stall_began: Moment(w[layout::RUN_STALL_BEGAN]),
+    }
+}
+
+// The first file's word stands with the signal's and the pending moment's, those of the other three after the counters.
+pub fn progress_of(w: [u64; layout::RUN_WORDS]) -> Progress
+    ensures { λ r. ⌜ r ≡ progressOf w ⌝ }
+{
+    let files = Files {
+        zero: Lsn(w[layout::RUN_FILE_0]),
+        one: Lsn(w[layout::RUN_FILE_1]),
+        two: Lsn(w[layout::RUN_FILE_2]),
+        three: Lsn(w[layout::RUN_FILE_3]),
+    };
+    Progress {
+        files,
+        signalled: flag_of(w[layout::RUN_SIGNALLED]),
+        pending_since: Moment(w[layout::RUN_PENDING_SINCE]),
+        timed: flag_of(w[layout::RUN_TIMED]),
     }
 }
 
@@ -165,12 +184,7 @@ pub fn run_of(w: [u64; layout::RUN_WORDS]) -> Run
         w[layout::RUN_READER_REFUSED],
     ]);
     let clock = clock_of(w);
-    let progress = cell_of([
-        w[layout::RUN_APPLIED],
-        w[layout::RUN_SIGNALLED],
-        w[layout::RUN_PENDING_SINCE],
-        w[layout::RUN_TIMED],
-    ]);
+    let progress = progress_of(w);
     let status = last_status_of(w);
     let whole = whole_of(w);
     let offer = offer_of(w);
@@ -220,6 +234,7 @@ pub fn words_of(run: Run) -> [u64; layout::RUN_WORDS]
     let header = header_words(bytes);
     let clock = run.clock;
     let progress = run.progress;
+    let files = progress.files;
     let status = run.status;
     let whole = run.whole;
     let offer = run.offer;
@@ -247,7 +262,7 @@ pub fn words_of(run: Run) -> [u64; layout::RUN_WORDS]
         clock.last.0,
         clock.wait_began.0,
         clock.stall_began.0,
-        progress.applied.0,
+        files.zero.0,
         flag(progress.signalled),
         progress.pending_since.0,
         flag(progress.timed),
@@ -276,9 +291,9 @@ pub fn words_of(run: Run) -> [u64; layout::RUN_WORDS]
         metrics.stall_micros_total,
         metrics.last_applied_lsn.0,
         metrics.last_wal_end.0,
-        0,
-        0,
-        0,
+        files.one.0,
+        files.two.0,
+        files.three.0,
         0,
         0,
         0,

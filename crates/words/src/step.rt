@@ -1,5 +1,6 @@
 // What a step is handed as words, and what it answers. SCOPE 9.2, 5.4, 5.5.
 ghost use mathlib.Core.Path.{_≡_};
+ghost use Rattle.progress.specs.Files.{fileVerdict};
 ghost use Rattle.worker.specs.Answer.{verdictNumber, waitedOption};
 ghost use Rattle.worker.specs.Events.{saidBy};
 ghost use Rattle.words.specs.Step.{queueOf, inputOf, waitedWords, clipped, answerWords};
@@ -7,6 +8,7 @@ use crate::event::clip;
 use crate::event::event_words;
 use crate::layout;
 use moment::Moment;
+use progress::files::FileVerdict;
 use worker::Input;
 use worker::Queue;
 use worker::Stepped;
@@ -45,6 +47,16 @@ pub fn verdict_word(verdict: Verdict) -> u64
     match verdict {
         Verdict::Accepted => 0,
         Verdict::Refused(r) => r.number() as u64,
+    }
+}
+
+// A report's.
+pub fn file_verdict_word(verdict: FileVerdict) -> u64
+    ensures { λ r. ⌜ r ≡ fileVerdict verdict ⌝ }
+{
+    match verdict {
+        FileVerdict::Accepted => 0,
+        FileVerdict::Refused(r) => r.number() as u64,
     }
 }
 

@@ -17,6 +17,7 @@ use Rattle.frontend.specs.Frontend.{statusBody, statusUpdate, copyDone, copyDat
 use Rattle.frontend.proofs.Laws.{length-framed, length-status}
 use Rattle.worker.specs.Step.{Outcome, Lent, having, intervalPassed, isReadable, waitingRead, waitingOf}
 use Rattle.worker.specs.declared.Run.{Run}
+use Rattle.worker.specs.Run.{cellIn}
 use Rattle.worker.specs.declared.Input.{Input}
 
 written-out : (text out q : List ℕ) (r : ℕ × ℕ) → length text ≤ length out → (r, q) ≡ writing 0 text out → q ≡ put out 0 text
@@ -49,7 +50,7 @@ fourth a b c d v w x y z p q r s = rw (p, q, r, s)
 
 -- a wait that reads: the tests before the read fail
 pub waiting-reads : (r : Run) (i : Input) (l : Lent) → i .stop ≡ false → pick (r .pending) (intervalPassed r) false ≡ false
-    → pick (r .pending) false (cellSignal (r .progress)) ≡ false → isReadable i l ≡ true → waitingOf r i l ≡ waitingRead r i l
+    → pick (r .pending) false (cellSignal (cellIn r)) ≡ false → isReadable i l ≡ true → waitingOf r i l ≡ waitingRead r i l
 unfolding waitingOf
 waiting-reads r i l p q s t = fourth _ _ _ _ _ _ _ _ _ p q s t
 

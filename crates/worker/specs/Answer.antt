@@ -5,6 +5,7 @@ use mathlib.Core.Option.{Option, some, none}
 use Rattle.wire.specs.Bytes.{pick}
 use Rattle.error.specs.Refusal.{numberOf}
 use Rattle.error.specs.Writer.{outcome}
+use Rattle.progress.specs.Files.{fileVerdict}
 use Rattle.stream.specs.Tag.{isError}
 use Rattle.worker.specs.declared.Run.{Run}
 use Rattle.worker.specs.declared.Verdict.{Verdict}
@@ -14,6 +15,7 @@ use Rattle.worker.specs.declared.Waited.the-variants.{Untold, Nanos}
 use Rattle.worker.specs.declared.Stepped.{Stepped}
 use Rattle.worker.specs.declared.Opened.{Opened}
 use Rattle.worker.specs.declared.AlreadyOpen.{AlreadyOpen}
+use Rattle.worker.specs.declared.Reporting.{Reporting}
 use Rattle.worker.specs.declared.ErrorPart.{ErrorPart}
 use Rattle.worker.specs.declared.ErrorPart.the-variants.{Absent, Front}
 use Rattle.worker.specs.Events as E
@@ -53,6 +55,9 @@ openedBy a out = record { run = a .run; outcome = outcome (a .written); out = ou
 
 abbrev pub alreadyOpenBy : AlreadyOpen → ℕ × Run
 alreadyOpenBy a = (verdictNumber (a .verdict), a .run)
+
+abbrev pub reportingBy : Reporting → ℕ × Run
+reportingBy a = (fileVerdict (a .verdict), a .run)
 
 -- the length of the error's payload at the payload buffer's front, or none where no error ended the run
 abbrev pub errorPart : ErrorPart → Option ℕ

@@ -11,7 +11,8 @@ use Rattle.error.specs.Writer.{writing}
 use Rattle.frontend.specs.Frontend.{query}
 use Rattle.lsn.specs.declared.Lsn.{Lsn}
 use Rattle.moment.specs.declared.Moment.{Moment}
-use Rattle.progress.specs.Progress.{raiseOf}
+use Rattle.progress.specs.declared.files.Progress.{Progress}
+use Rattle.progress.specs.Files.{filedOf}
 use Rattle.request.specs.Request.{startReplication}
 use Rattle.worker.specs.declared.Settings.{Settings}
 use Rattle.worker.specs.declared.State.the-variants.{Opening, Turn}
@@ -42,6 +43,7 @@ openOf s slot publications position start out =
 unfoldable pub alreadyOpenOf : Settings → Lsn → ℕ × Run
 alreadyOpenOf s start = (pick (badInterval s) 1 0, freshRun s Turn start)
 
--- a report raises the run's cell and changes nothing else
-unfoldable pub reportOf : Run → Lsn → Moment → Run
-reportOf r position moment = withProgress (raiseOf (r .progress) position moment .cell) r
+-- a file's report: 31, or the run's progress after it; nothing else changes
+unfoldable pub reportOf : Run → ℕ → Lsn → Moment → ℕ × Run
+reportOf r file position moment =
+    let a : ℕ × Progress = filedOf (r .progress) file position moment in (a .0, withProgress (a .1) r)

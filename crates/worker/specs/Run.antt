@@ -9,7 +9,10 @@ use Rattle.metrics.specs.declared.Metrics.{Metrics}
 use Rattle.metrics.specs.Metrics.{noCounts}
 use Rattle.moment.specs.declared.Moment.{Moment}
 use Rattle.progress.specs.declared.ProgressCell.{ProgressCell}
-use Rattle.progress.specs.Progress.{cell, noMoment}
+use Rattle.progress.specs.declared.files.Progress.{Progress}
+use Rattle.progress.specs.Progress.{noMoment}
+use Rattle.progress.specs.Files.{files, asCell, beside}
+use Rattle.progress.specs.Files as F
 use Rattle.worker.specs.declared.Settings.{Settings}
 use Rattle.worker.specs.declared.Queue.{Queue}
 use Rattle.worker.specs.declared.Queue.the-variants.{Free, Full, Closed}
@@ -63,7 +66,7 @@ wholeOf tag len wait = record { tag = tag; len = len; «in_wait» = wait }
 abbrev pub offer : Event → Bool → Bool → Lsn → Offer
 offer event stalled stops reached = record { event = event; stalled = stalled; stops = stops; reached = reached }
 
-abbrev pub run : Settings → State → MessageReader → Clock → ProgressCell → LastStatus → ℕ → Bool → Whole → Offer → Metrics → Run
+abbrev pub run : Settings → State → MessageReader → Clock → Progress → LastStatus → ℕ → Bool → Whole → Offer → Metrics → Run
 run settings state reader clock progress status drained pending whole offer metrics =
     record {
       settings = settings;
@@ -79,10 +82,10 @@ run settings state reader clock progress status drained pending whole offer metr
       metrics = metrics;
     }
 
--- a run before its first step, whose cell holds the start
+-- a run before its first step, whose files are all at the start
 unfoldable pub freshRun : Settings → State → Lsn → Run
 freshRun s state start =
-    run s state fresh (clock noMoment noMoment noMoment) (cell start false noMoment (s .timing)) (lastStatus false (lsn 0) noMoment) 0 false
+    run s state fresh (clock noMoment noMoment noMoment) (F.progress (files start start start start) false noMoment (s .timing)) (lastStatus false (lsn 0) noMoment) 0 false
     (wholeOf 0 0 false) (offer Nothing false false (lsn 0)) noCounts
 
 -- ---- one part changed
@@ -96,8 +99,16 @@ withReader x r = run (r .settings) (r .state) x (r .clock) (r .progress) (r .sta
 abbrev pub withClock : Clock → Run → Run
 withClock x r = run (r .settings) (r .state) (r .reader) x (r .progress) (r .status) (r .drained) (r .pending) (r .whole) (r .offer) (r .metrics)
 
-abbrev pub withProgress : ProgressCell → Run → Run
+abbrev pub withProgress : Progress → Run → Run
 withProgress x r = run (r .settings) (r .state) (r .reader) (r .clock) x (r .status) (r .drained) (r .pending) (r .whole) (r .offer) (r .metrics)
+
+-- the cell that a step sees: its position is the smallest of the four files
+abbrev pub cellIn : Run → ProgressCell
+cellIn r = asCell (r .progress)
+
+-- the signal, pending moment and timing of a cell; the files stay
+abbrev pub withCell : ProgressCell → Run → Run
+withCell c r = withProgress (beside (r .progress .files) c) r
 
 abbrev pub withLastStatus : LastStatus → Run → Run
 withLastStatus x r = run (r .settings) (r .state) (r .reader) (r .clock) (r .progress) x (r .drained) (r .pending) (r .whole) (r .offer) (r .metrics)

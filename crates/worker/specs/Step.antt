@@ -32,8 +32,8 @@ use Rattle.worker.specs.declared.Run.{Run}
 use Rattle.worker.specs.Events.{dataGives}
 use Rattle.worker.specs.Events as E
 use Rattle.worker.specs.Rows.{_⇒_, firstOf, both, unless}
+use Rattle.worker.specs.Run.{cellIn, lsn, lastStatus, wholeOf, offer, withState, withReader, withCell, withLastStatus, withDrained, withPending, withWhole, withOffer, withMetrics, accepted, waitBegun, stallBegun, micros}
 use Rattle.worker.specs.Streaming.{whileStreaming}
-use Rattle.worker.specs.Run.{lsn, lastStatus, wholeOf, offer, withState, withReader, withProgress, withLastStatus, withDrained, withPending, withWhole, withOffer, withMetrics, accepted, waitBegun, stallBegun, micros}
 
 -- what a step answers and leaves: the run, the refusal's number (0 for none), the taken count, the event handed on, how many bytes were written,
 -- how long a confirmed position waited where that is told, the payload buffer and the output. SCOPE 5.5
@@ -88,25 +88,25 @@ intervalPassed r = leb (r .settings .«status_interval») (sinceOf (r .clock .la
 
 -- no status was sent yet, or the position rose above the one last sent
 abbrev pub isAbove : Run → Bool
-isAbove r = pick (r .status .sent) (isBelow (r .status .position) (cellPosition (r .progress))) true
+isAbove r = pick (r .status .sent) (isBelow (r .status .position) (cellPosition (cellIn r))) true
 
 -- with timing on, such a status takes the pending moment
 abbrev pub takesPending : Run → Bool
-takesPending r = pick (cellTiming (r .progress)) (isAbove r) false
+takesPending r = pick (cellTiming (cellIn r)) (isAbove r) false
 
 -- how long the report has waited whose moment is pending
 abbrev pub waitedBy : Run → Option ℕ
 waitedBy r =
     pick (takesPending r)
-    (pick (isNone (cellPending (r .progress))) none (some (sinceOf (r .clock .last) (cellPending (r .progress)))))
+    (pick (isNone (cellPending (cellIn r))) none (some (sinceOf (r .clock .last) (cellPending (cellIn r)))))
     none
 
 -- the run after a status
 abbrev pub confirmed : Run → Run
 confirmed r =
-    withMetrics (withStatus (r .metrics) (cellPosition (r .progress)))
-    (withLastStatus (lastStatus true (cellPosition (r .progress)) (r .clock .last))
-    (withProgress (pick (takesPending r) (reportedOf (r .progress) (cellPosition (r .progress)) (r .clock .last) .cell) (r .progress)) r))
+    withMetrics (withStatus (r .metrics) (cellPosition (cellIn r)))
+    (withLastStatus (lastStatus true (cellPosition (cellIn r)) (r .clock .last))
+    (withCell (pick (takesPending r) (reportedOf (cellIn r) (cellPosition (cellIn r)) (r .clock .last) .cell) (cellIn r)) r))
 
 -- a status with a reply byte; it confirms the cell's position
 unfoldable pub feedbackOf : Bool → State → Run → Input → Lent → Outcome
@@ -119,7 +119,7 @@ feedbackOf reply to r i l =
       written = 39;
       waited = waitedBy r;
       payload = l .payload;
-      out = put (l .out) 0 (statusUpdate (cellPosition (r .progress) .0) (i .«client_time») reply);
+      out = put (l .out) 0 (statusUpdate (cellPosition (cellIn r) .0) (i .«client_time») reply);
     }
 
 -- ---- Opening: SCOPE 6.3
@@ -159,7 +159,7 @@ turnOf r i l =
 
 -- the wait begins: the signal is cleared, and whether a position is pending is fixed
 abbrev pub waits : Run → Run
-waits r = withState Waiting (waitBegun (withPending (isAbove r) (withProgress (lookedOf (r .progress) .cell) r)))
+waits r = withState Waiting (waitBegun (withPending (isAbove r) (withCell (lookedOf (cellIn r) .cell) r)))
 
 -- a round has at most 256 messages; stop is looked at only after one of them
 unfoldable pub drainOf : Run → Input → Lent → Outcome
@@ -211,7 +211,7 @@ waitingOf r i l =
     firstOf
     ((i .stop ⇒ doneWith Nothing r l)
     ∷ (both (r .pending) (intervalPassed r) ⇒ feedbackOf false Turn r i l)
-    ∷ (unless (r .pending) (cellSignal (r .progress)) ⇒ moved (withState Turn r) l)
+    ∷ (unless (r .pending) (cellSignal (cellIn r)) ⇒ moved (withState Turn r) l)
     ∷ (isReadable i l ⇒ waitingRead r i l)
     ∷ [])
     (idleOf r i l)

@@ -1,6 +1,6 @@
 // Single changes of a run. A field that is or holds an enum is not stored to: the run is built anew.
 ghost use mathlib.Core.Path.{_≡_};
-ghost use Rattle.worker.specs.Run.{wholeOf, offer, withState, withReader, withProgress, withDrained, withPending, withWhole, withOffer, withMetrics, accepted, waitBegun, stallBegun};
+ghost use Rattle.worker.specs.Run.{cellIn, wholeOf, offer, withState, withReader, withProgress, withCell, withDrained, withPending, withWhole, withOffer, withMetrics, accepted, waitBegun, stallBegun};
 use crate::Event;
 use crate::Offer;
 use crate::Run;
@@ -10,6 +10,7 @@ use lsn::Lsn;
 use metrics::Metrics;
 use moment::Moment;
 use progress::ProgressCell;
+use progress::files::Progress;
 
 pub(crate) fn with_state(state: State, run: Run) -> Run
     ensures { λ r. ⌜ r ≡ withState state run ⌝ }
@@ -70,11 +71,28 @@ pub(crate) fn with_reader(reader: MessageReader, mut run: Run) -> Run
     run
 }
 
-pub(crate) fn with_progress(progress: ProgressCell, mut run: Run) -> Run
+pub(crate) fn with_progress(progress: Progress, mut run: Run) -> Run
     ensures { λ r. ⌜ r ≡ withProgress progress run ⌝ }
 {
     run.progress = progress;
     run
+}
+
+// The cell that a step sees.
+pub(crate) fn cell_in(run: Run) -> ProgressCell
+    ensures { λ r. ⌜ r ≡ cellIn run ⌝ }
+{
+    let progress = run.progress;
+    progress.cell()
+}
+
+// The signal, pending moment and timing of a cell; the files stay.
+pub(crate) fn with_cell(cell: ProgressCell, run: Run) -> Run
+    ensures { λ r. ⌜ r ≡ withCell cell run ⌝ }
+{
+    let before = run.progress;
+    let after = before.with_cell(cell);
+    with_progress(after, run)
 }
 
 pub(crate) fn with_metrics(metrics: Metrics, mut run: Run) -> Run

@@ -16,7 +16,8 @@ use framing::MessageReader;
 use lsn::Lsn;
 use metrics::Metrics;
 use moment::Moment;
-use progress::ProgressCell;
+use progress::files::FileVerdict;
+use progress::files::Progress;
 
 // The settings of a run; intervals in nanoseconds.
 pub struct Settings {
@@ -134,7 +135,7 @@ pub struct Run {
     pub state: State,
     pub reader: MessageReader,
     pub clock: Clock,
-    pub progress: ProgressCell,
+    pub progress: Progress,
     pub status: LastStatus,
     pub drained: u64,
     pub pending: bool,
@@ -174,6 +175,12 @@ pub struct Opened {
 pub struct AlreadyOpen {
     pub run: Run,
     pub verdict: Verdict,
+}
+
+// What a report answers; a refused one leaves the run as it was.
+pub struct Reporting {
+    pub run: Run,
+    pub verdict: FileVerdict,
 }
 
 // The ErrorResponse that ended a run with 19: its payload's length at the payload buffer's front.

@@ -12,10 +12,11 @@ use crate::Input;
 use crate::Run;
 use crate::State;
 use crate::Stepped;
+use crate::changes::cell_in;
 use crate::changes::wait_begun;
+use crate::changes::with_cell;
 use crate::changes::with_drained;
 use crate::changes::with_pending;
-use crate::changes::with_progress;
 use crate::changes::with_state;
 use crate::ends::done;
 use crate::ends::moved;
@@ -39,11 +40,11 @@ pub(crate) fn turn(run: Run, input: Input, out: &mut [u8]) -> Stepped
 fn waits(run: Run) -> Run
     ensures { λ r. ⌜ r ≡ waits run ⌝ }
 {
-    let cell = run.progress;
+    let cell = cell_in(run);
     let looked = cell.take_signal();
     let cleared = looked.cell;
     let pending = is_above(run);
-    let next = with_pending(pending, with_progress(cleared, run));
+    let next = with_pending(pending, with_cell(cleared, run));
     with_state(State::Waiting, wait_begun(next))
 }
 

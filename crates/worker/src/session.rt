@@ -1,15 +1,16 @@
-// Opening a run, a run that is already open, reports between steps, and views.
+// Opening a run, a run that is already open, reports of files between steps, and views.
 ghost use mathlib.Core.Path.{_≡_};
 ghost use Rattle.progress.specs.Progress.{cellPosition};
-ghost use Rattle.worker.specs.Answer.{openedBy, alreadyOpenBy, errorPart, errorPartOf};
+ghost use Rattle.worker.specs.Answer.{openedBy, alreadyOpenBy, reportingBy, errorPart, errorPartOf};
 ghost use Rattle.worker.specs.Opening.{badInterval, openOf, alreadyOpenOf, reportOf};
-ghost use Rattle.worker.specs.Run.{freshRun};
+ghost use Rattle.worker.specs.Run.{cellIn, freshRun};
 use crate::AlreadyOpen;
 use crate::Clock;
 use crate::ErrorPart;
 use crate::Event;
 use crate::LastStatus;
 use crate::Opened;
+use crate::Reporting;
 use crate::Run;
 use crate::Settings;
 use crate::State;
@@ -25,7 +26,7 @@ use framing::tag::is_error;
 use lsn::Lsn;
 use metrics::Metrics;
 use moment::Moment;
-use progress::ProgressCell;
+use progress::files::Progress;
 use request::start_replication;
 
 // A run before its first step.
@@ -38,7 +39,7 @@ fn fresh_run(settings: Settings, state: State, start: Lsn) -> Run
         wait_began: Moment(0),
         stall_began: Moment(0),
     };
-    let progress = ProgressCell::new(start, settings.timing);
+    let progress = Progress::new(start, settings.timing);
     let status = LastStatus {
         sent: false,
         position: Lsn(0),
@@ -117,14 +118,16 @@ pub fn already_open(settings: Settings, start: Lsn) -> AlreadyOpen
     }
 }
 
-// The consumer reports that it has applied all before a position.
-pub fn report(run: Run, position: Lsn, moment: Moment) -> Run
-    ensures { λ r. ⌜ r ≡ reportOf run position moment ⌝ }
+// The consumer reports that a file, 0 to 3, has applied all before a position.
+pub fn report(run: Run, file: u64, position: Lsn, moment: Moment) -> Reporting
+    ensures { λ a. ⌜ reportingBy a ≡ reportOf run file position moment ⌝ }
 {
-    let cell = run.progress;
-    let raised = cell.raise(position, moment);
-    let after = raised.cell;
-    with_progress(after, run)
+    let before = run.progress;
+    let filed = before.report(file, position, moment);
+    let after = filed.progress;
+    let verdict = filed.verdict;
+    let next = with_progress(after, run);
+    Reporting { run: next, verdict }
 }
 
 pub fn state(run: Run) -> State
@@ -141,9 +144,10 @@ pub fn metrics(run: Run) -> Metrics
 
 // What a status would confirm now.
 pub fn position(run: Run) -> Lsn
-    ensures { λ r. ⌜ r ≡ cellPosition (run .progress) ⌝ }
+    ensures { λ r. ⌜ r ≡ cellPosition (cellIn run) ⌝ }
 {
-    run.progress.applied
+    let progress = run.progress;
+    progress.position()
 }
 
 pub fn last_sent(run: Run) -> LastStatus

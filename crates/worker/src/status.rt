@@ -7,7 +7,7 @@ ghost use mathlib.Core.Bool.{true};
 ghost use Rattle.wire.specs.Bytes.{pick};
 ghost use Rattle.progress.specs.Progress.{cellPosition, reportedOf};
 ghost use Rattle.worker.specs.Answer.{lent, outcomeBy, waitedOption};
-ghost use Rattle.worker.specs.Run.{lastStatus, withLastStatus};
+ghost use Rattle.worker.specs.Run.{cellIn, lastStatus, withLastStatus};
 ghost use Rattle.worker.specs.Step.{intervalPassed, isAbove, takesPending, waitedBy, confirmed, feedbackOf, statusDue};
 use crate::Event;
 use crate::Input;
@@ -17,9 +17,11 @@ use crate::State;
 use crate::Stepped;
 use crate::Verdict;
 use crate::Waited;
+use crate::changes::cell_in;
+use crate::changes::with_cell;
 use crate::changes::with_metrics;
-use crate::changes::with_progress;
 use crate::changes::with_state;
+use crate::session::position;
 use progress::ProgressCell;
 
 pub(crate) fn interval_passed(run: Run) -> bool
@@ -36,7 +38,8 @@ pub(crate) fn is_above(run: Run) -> bool
 {
     if run.status.sent {
         let sent = run.status.position;
-        return sent.is_below(run.progress.applied);
+        let applied = position(run);
+        return sent.is_below(applied);
     }
     true
 }
@@ -77,25 +80,25 @@ fn waited_by(run: Run) -> Waited
 
 // The cell after a status.
 fn reported(run: Run) -> ProgressCell
-    ensures { λ r. ⌜ r ≡ pick (takesPending run) (reportedOf (run .progress) (cellPosition (run .progress)) (run .clock .last) .cell) (run .progress) ⌝ }
+    ensures { λ r. ⌜ r ≡ pick (takesPending run) (reportedOf (cellIn run) (cellPosition (cellIn run)) (run .clock .last) .cell) (cellIn run) ⌝ }
 {
-    let cell = run.progress;
+    let cell = cell_in(run);
     if takes_pending(run) {
-        let position = cell.applied;
-        let reported = cell.take_pending(position, run.clock.last);
+        let applied = cell.applied;
+        let reported = cell.take_pending(applied, run.clock.last);
         return reported.cell;
     }
     cell
 }
 
 fn with_last_status(mut run: Run) -> Run
-    ensures { λ r. ⌜ r ≡ withLastStatus (lastStatus true (cellPosition (run .progress)) (run .clock .last)) run ⌝ }
+    ensures { λ r. ⌜ r ≡ withLastStatus (lastStatus true (cellPosition (cellIn run)) (run .clock .last)) run ⌝ }
 {
-    let position = run.progress.applied;
+    let applied = position(run);
     let at = run.clock.last;
     let status = LastStatus {
         sent: true,
-        position,
+        position: applied,
         at,
     };
     run.status = status;
@@ -107,12 +110,13 @@ fn confirmed(run: Run) -> Run
     ensures { λ r. ⌜ r ≡ confirmed run ⌝ }
 {
     let metrics = run.metrics;
-    let counted = metrics.record_feedback_sent(run.progress.applied);
+    let applied = position(run);
+    let counted = metrics.record_feedback_sent(applied);
     let cell = reported(run);
-    with_metrics(counted, with_progress(cell, with_last_status(run)))
+    with_metrics(counted, with_cell(cell, with_last_status(run)))
 }
 
-// A status with a reply byte is written, and the run enters the state `to`. It confirms the cell's position.
+// A status with a reply byte is written, and the run enters the state `to`. It confirms the smallest of the four files.
 pub(crate) fn send_feedback(
     reply: bool,
     to: State,
@@ -123,8 +127,8 @@ pub(crate) fn send_feedback(
     requires { ⌜ 39 ≤ length (now out) ⌝ }
     ensures { λ s. ⌜ ((u p : List ℕ) → outcomeBy s p (now (out .exit)) ≡ feedbackOf reply to run input (lent u p (now (out .entry)))) ⌝ }
 {
-    let position = run.progress.applied;
-    frontend::write_status_update(position, input.client_time, reply, out);
+    let applied = position(run);
+    frontend::write_status_update(applied, input.client_time, reply, out);
     let next = with_state(to, confirmed(run));
     let waited = waited_by(run);
     Stepped {

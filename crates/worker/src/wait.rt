@@ -11,6 +11,7 @@ ghost use Rattle.framing.specs.Read.{saidBy};
 ghost use Rattle.progress.specs.Progress.{cellSignal};
 ghost use Rattle.worker.specs.Answer.{lent, outcomeBy};
 ghost use Rattle.worker.specs.Rows.{both, unless};
+ghost use Rattle.worker.specs.Run.{cellIn};
 ghost use Rattle.worker.specs.Step.{intervalPassed, idleOf, waitingBy, waitingRead, waitingOf};
 use crate::Event;
 use crate::Input;
@@ -38,7 +39,7 @@ fn pending_due(run: Run) -> bool
 }
 
 fn is_woken(run: Run) -> bool
-    ensures { λ r. ⌜ r ≡ unless (run .pending) (cellSignal (run .progress)) ⌝ }
+    ensures { λ r. ⌜ r ≡ unless (run .pending) (cellSignal (cellIn run)) ⌝ }
 {
     if run.pending {
         return false;

@@ -91,7 +91,7 @@ impl<'a> Session<'a> {
         loop {
             let done = outbox.position();
             if done > self.run.position() {
-                self.run.report(done, self.clock.now());
+                self.run.report_all(done, self.clock.now());
             }
             let written = match self.step(outbox, &mut out) {
                 Ok(written) => written,

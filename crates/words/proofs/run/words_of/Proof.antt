@@ -11,7 +11,7 @@ returns c =
     let at-flag8 = c .before .before .before .before in
     let at-flag4 = at-flag8 .before .before .before .before in
     let at-flag = at-flag4 .before .before .before .before in
-    let at-header-words = at-flag .before .before .before .before .before .before .before .before in
+    let at-header-words = at-flag .before .before .before .before .before .before .before .before .before in
     let start = at-header-words .before .before .before .before in
     let r = start .args .run in
     let fits : Fits r = record { header = at-header-words .header-words .ensures .1; tag = c .before .before .before .wide .ensures .1; event = at-flag .before .before .event-words .ensures .1 } in

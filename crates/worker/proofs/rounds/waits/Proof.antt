@@ -9,12 +9,13 @@ returns c =
       c .with-state .ensures,
       c .before .wait-begun .ensures,
       c .before .before .with-pending .ensures,
-      c .before .before .before .with-progress .ensures,
+      c .before .before .before .with-cell .ensures,
       at-is-above .is-above .ensures,
       at-is-above .before .before .take-signal .ensures,
+      at-is-above .before .before .before .cell-in .ensures,
     )
 
 pub waits-spec : {M : Type 1} → statement M
 waits-spec =
     tie.close
-    (tie.spec (search needs) (search needs) (search needs) (search needs) (search needs) (search needs) returns)
+    (tie.spec (search needs) (search needs) (search needs) (search needs) (search needs) (search needs) (search needs) returns)

@@ -14,9 +14,9 @@ returns c = λ u p.
     let start = at-write-status-update .before .before .before .before .before in
     let back = toZ-ofZ w64 (start .args .input .«client_time») (record { sfits = at-write-status-update .before .struct-told .given .1 .0 .1 }) in
     let w = rw back at (at-write-status-update .write-status-update .ensures) in
-    rw (c .before .with-state .ensures, c .before .before .confirmed .ensures, c .waited-by .ensures, status-written _ _ _ _ _ _ (start .pre) w)
+    rw (c .before .with-state .ensures, c .before .before .confirmed .ensures, c .waited-by .ensures, status-written _ _ _ _ _ _ (start .pre) w, ← at-write-status-update .before .before .before .position .ensures)
 
 pub send-feedback-spec : {M : Type 1} → statement M
 send-feedback-spec =
     tie.close
-    (tie.spec (search needs) (search needs) (search needs) (search needs) (search needs) returns)
+    (tie.spec (search needs) (search needs) (search needs) (search needs) (search needs) (search needs) returns)
