@@ -36,6 +36,7 @@ pub fn all(add: Add) {
     intervals(add);
     buffers(add);
     largest(add);
+    pages(add);
 }
 
 /// Turn, Drain, Reading and Handling of a first message, all at moment 1.
@@ -778,4 +779,28 @@ fn largest(add: Add) {
         s.step(at(1));
         add(&s);
     }
+}
+
+/// The service page in every state, before the first status and after the end, and where the server's end is refused.
+fn pages(add: Add) {
+    let mut s = Script::opened(&[&both(), &keepalive(0x16_B374_D848, 5, 1), &keepalive(0x20, 5, 0)]);
+    s.page(198).step(at(1).unread(3)).page(197).step(at(1)).page(198);
+    for queue in
+        [at(1), at(1), at(1), at(1), at(1).full(), at(3).full(), at(4), at(4), at(4), at(4), at(4), at(4).unread(0), at(4).unread(0), at(4).unread(0)]
+    {
+        s.step(queue).page(198);
+    }
+    s.report(u64::MAX, 4).page(199).step(at(5).stop()).page(0).report(u64::MAX, 6).page(198);
+    add(&s);
+    // an end that the metric has and SERVER has not, since the boundary is refused: 14 to 18
+    for refused in [&b"B"[..], b"C", b"M"] {
+        let mut s = Script::new(&[&data(1, 5, 3, b"I"), &data(1, 9, 3, refused)]);
+        s.steps(&[at(1), at(1), at(1), at(1), at(1), at(1), at(1), at(1)]).page(198);
+        add(&s);
+    }
+    // a dropped event, and one of four files that lies behind
+    let mut s = Script::new(&[&data(1, 7, 3, b"I"), &framed(b'd', b"x")]);
+    s.steps(&[at(1), at(1), at(1), at(1), at(1).closed()]).page(4_096).file(0, 0x90, 1).page(198);
+    s.file(1, 0x80, 1).file(2, 0x70, 1).file(3, 0x60, 1).page(198).steps(&[at(1), at(1), at(1)]).page(198);
+    add(&s);
 }

@@ -137,6 +137,16 @@ const CASES: &[&str] = &[
     "timing: told by a later status",
 ];
 
+/// What a page shows, and into what.
+const PAGES: &[&str] = &[
+    "before the first status",
+    "a status was sent",
+    "SERVER is not last_wal_end",
+    "an output too short",
+    "an output just long enough",
+    "an output that is longer",
+];
+
 /// Everything that must be reached.
 pub fn owed() -> Vec<String> {
     let mut all: Vec<String> = [OPENINGS, ROWS, CASES].concat().iter().map(|s| s.to_string()).collect();
@@ -155,6 +165,10 @@ pub fn owed() -> Vec<String> {
     for state in ["Opening", "Turn", "Drain", "Reading", "Waiting", "Handling", "Offering"] {
         all.extend([4, 5].map(|n| format!("{state}: turned back with {n}")));
     }
+    for state in ["Opening", "Turn", "Drain", "Reading", "Waiting", "Handling", "Offering", "Ended"] {
+        all.push(format!("page: {state}"));
+    }
+    all.extend(PAGES.iter().map(|what| format!("page: {what}")));
     all.extend(["Opening: turned back with 3", "Turn: turned back with 3"].map(String::from));
     all.extend((10..=18).map(|n| format!("Handling: refusal {n}")));
     all.extend((1..=19).map(|n| format!("refusal {n:02}")));

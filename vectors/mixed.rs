@@ -8,7 +8,7 @@ use crate::scripts::{at, Script, Step};
 use crate::server::{begin, both, commit, data, error, keepalive, message, notice};
 use crate::shared::Draw;
 
-const SCRIPTS: usize = 160;
+const SCRIPTS: usize = 147;
 
 fn position(draw: &mut Draw) -> u64 {
     *draw.pick(&[0, 1, 0x10, 0xFF, 0x100, 0x101, 0x200, 0x1_0000_0000, u64::MAX, 0x16_B374_D848])

@@ -136,6 +136,8 @@ pub struct Run {
     offers: VecDeque<Event>,
     stall_began: Option<u64>,
     pub metrics: Metrics,
+    /// wal_end of the last `w` or `k` that was handled without refusal.
+    server: u64,
 }
 
 /// The query that opens a run.
@@ -182,7 +184,27 @@ impl Run {
             offers: VecDeque::new(),
             stall_began: None,
             metrics: Metrics::default(),
+            server: 0,
         }
+    }
+
+    /// The service page, with a note of what it shows.
+    pub fn page(&self) -> String {
+        seen(&format!("page: {:?}", self.state));
+        seen(if self.sent.is_some() { "page: a status was sent" } else { "page: before the first status" });
+        if self.server != self.metrics.last_wal_end {
+            seen("page: SERVER is not last_wal_end");
+        }
+        let sent = self.sent.as_ref().map_or("-".to_string(), |sent| display(sent.position));
+        let lines = [
+            ("POSITION", display(self.position())),
+            ("SENT", sent),
+            ("SERVER", display(self.server)),
+            ("EVENTS", self.metrics.events.to_string()),
+            ("STALLS", self.metrics.stalls.to_string()),
+            ("STATE", format!("{:?}", self.state).to_uppercase()),
+        ];
+        lines.map(|(label, value)| format!("{label:<12}{value:>20}\n")).concat()
     }
 
     /// The largest of the start and a file's reports.
@@ -556,6 +578,7 @@ impl Run {
                 if self.settings.stop_at.is_some_and(|stop| end >= stop) {
                     seen("stop position: keepalive at or above goes on");
                 }
+                self.server = end;
                 Event::KeepAlive { end, time, reply }
             }
             CopyData::XLogData { start, end, time, data } => {
@@ -584,6 +607,7 @@ impl Run {
             Boundary::None => (Event::Other { start, end: wal_end, time, data: data.to_vec() }, wal_end, "other data"),
         };
         seen(&format!("Handling: {name}"));
+        self.server = wal_end;
         self.offers = VecDeque::from([event]);
         if let Some(stop) = self.settings.stop_at {
             let how = if reached == stop {

@@ -2,7 +2,7 @@
 
 use crate::coverage::{seen, seen_in};
 use crate::model::{intervals_refused, query, Input, Queue, Run, Settings, State};
-use crate::shared::{display, sum};
+use crate::shared::{display, hex, sum};
 use std::fmt::Write as _;
 
 #[derive(Clone)]
@@ -60,6 +60,8 @@ pub enum Call {
     /// For all four files.
     Report(u64, u64),
     FileReport(u8, u64, u64),
+    /// The service page, with an output of this length and filling.
+    Page(u16, u8),
 }
 
 pub struct Script {
@@ -117,6 +119,11 @@ impl Script {
         self
     }
 
+    pub fn page(&mut self, room: u16) -> &mut Script {
+        self.calls.push(Call::Page(room, 0xB6));
+        self
+    }
+
     pub fn bytes(&self) -> Vec<u8> {
         let s = &self.settings;
         let mut b = vec![b'R', self.already_open as u8];
@@ -166,6 +173,7 @@ impl Script {
                     let refusal = run.report(*file as u64, *position, *moment);
                     writeln!(lines, "F {refusal} {}", display(run.position())).unwrap();
                 }
+                Call::Page(room, fill) => lines += &page_line(&run, *room, *fill),
             }
         }
         let m = &run.metrics;
@@ -192,6 +200,19 @@ impl Script {
         seen(if self.already_open { "already open" } else { "opened" });
         (0, text)
     }
+}
+
+/// Refused with 4 where the output is shorter than the page, which leaves it as it was.
+fn page_line(run: &Run, room: u16, fill: u8) -> String {
+    let page = run.page().into_bytes();
+    let mut out = vec![fill; room as usize];
+    if out.len() < page.len() {
+        seen("page: an output too short");
+        return format!("G 4 0 {} -\n", sum(&out));
+    }
+    out[..page.len()].copy_from_slice(&page);
+    seen(if out.len() == page.len() { "page: an output just long enough" } else { "page: an output that is longer" });
+    format!("G 0 {} {} {}\n", page.len(), sum(&out), hex(&page))
 }
 
 impl Step {
@@ -230,6 +251,7 @@ impl Call {
             ]
             .concat(),
             Call::Report(position, moment) => [&b"P"[..], &position.to_be_bytes(), &moment.to_be_bytes()].concat(),
+            Call::Page(room, fill) => [&b"G"[..], &room.to_be_bytes(), &[*fill]].concat(),
             Call::FileReport(file, position, moment) => [&b"F"[..], &[*file], &position.to_be_bytes(), &moment.to_be_bytes()].concat(),
         }
     }

@@ -25,7 +25,7 @@ extern "C" {
 #endif
 
 /* The number of this list and of the functions; it grows with every change of either. */
-#define RUFFLESQUASH_ABI 4
+#define RUFFLESQUASH_ABI 5
 
 /* Settings: intervals are nanoseconds, a flag is true unless 0. */
 #define RUFFLESQUASH_SETTINGS_WORDS 7
@@ -90,7 +90,8 @@ extern "C" {
 #define RUFFLESQUASH_RUN_FILE_1 48
 #define RUFFLESQUASH_RUN_FILE_2 49
 #define RUFFLESQUASH_RUN_FILE_3 50
-#define RUFFLESQUASH_RUN_SPARE 51
+#define RUFFLESQUASH_RUN_SERVER 51
+#define RUFFLESQUASH_RUN_SPARE 52
 
 /* Files; every other number is none. */
 #define RUFFLESQUASH_FILES 4
@@ -313,6 +314,12 @@ void rufflesquash_last_sent(const uint64_t run[RUFFLESQUASH_RUN_WORDS], uint64_t
 /* Whether a server error ended the run, and its length at the front of the payload buffer of its steps, of which the length is handed in:
  * the answer is at most that. */
 void rufflesquash_error_part(const uint64_t run[RUFFLESQUASH_RUN_WORDS], size_t payload_len, uint64_t part[RUFFLESQUASH_ERROR_WORDS]);
+
+/* The service page of a run: six lines of 32 characters and a newline, 198 bytes, at the front of out. A label stands flush left in 12 characters, its
+ * value flush right in 20: POSITION (what a status would confirm now), SENT (what the last status confirmed, a hyphen before the first), SERVER
+ * (wal_end of the last XLogData or keepalive that was handled without refusal), EVENTS (handed on), STALLS (begun), STATE. Answers the refusal (4);
+ * refused, out is as it was. */
+uint64_t rufflesquash_page(const uint64_t run[RUFFLESQUASH_RUN_WORDS], uint8_t *out, size_t out_len, uint64_t *written);
 
 /* ---- texts and positions. Each writer answers the refusal (25, 4); refused, out is as it was and written is 0. marks: how many U+FFFD were put
  * in, one for each ill-formed part of the texts that are shown, 0 where refused; one that was in the text already is not counted. */

@@ -8,7 +8,7 @@
 #![allow(dead_code)]
 
 // ---- the number of this list and of the functions; it grows with every change of either
-pub const ABI: u64 = 4;
+pub const ABI: u64 = 5;
 
 // ---- settings: intervals are nanoseconds, a flag is true unless 0
 pub const SETTINGS_WORDS: usize = 7;
@@ -73,7 +73,8 @@ pub const RUN_LAST_WAL_END: usize = 47;
 pub const RUN_FILE_1: usize = 48;
 pub const RUN_FILE_2: usize = 49;
 pub const RUN_FILE_3: usize = 50;
-pub const RUN_SPARE: usize = 51;
+pub const RUN_SERVER: usize = 51;
+pub const RUN_SPARE: usize = 52;
 
 // ---- files; every other number is none
 pub const FILES: u64 = 4;
@@ -308,6 +309,8 @@ extern "C" {
 
     pub fn rufflesquash_error_text(payload: *const u8, payload_len: usize, out: *mut u8, out_len: usize, written: *mut u64, marks: *mut u64) -> u64;
 
+    pub fn rufflesquash_page(run: *const [u64; RUN_WORDS], out: *mut u8, out_len: usize, written: *mut u64) -> u64;
+
     pub fn rufflesquash_display_position(position: u64, out: *mut u8, out_len: usize, written: *mut u64) -> u64;
 
     pub fn rufflesquash_parse_position(text: *const u8, text_len: usize, position: *mut u64) -> u64;
@@ -532,6 +535,13 @@ pub fn parse_position(text: &[u8]) -> (u64, u64) {
     // SAFETY: the slice is lent whole.
     let number = unsafe { rufflesquash_parse_position(text.as_ptr(), text.len(), &mut position) };
     (number, position)
+}
+
+pub fn page(run: &RunWords, out: &mut [u8]) -> Written {
+    let mut written = 0;
+    // SAFETY: the words and the slice are lent whole.
+    let number = unsafe { rufflesquash_page(run, out.as_mut_ptr(), out.len(), &mut written) };
+    (number, written)
 }
 
 pub fn display_position(position: u64, out: &mut [u8]) -> Written {

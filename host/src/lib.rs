@@ -39,6 +39,9 @@ pub use types::{Event, Input, LastStatus, Lsn, Metrics, Moment, NextStep, Queue,
 /// The shortest output that a step takes, in bytes.
 pub const STEP_OUTPUT: usize = 39;
 
+/// How many bytes the service page of a run has.
+pub const PAGE: usize = 198;
+
 /// How many words a run has, for a host that keeps them elsewhere.
 pub const RUN_WORDS: usize = ffi::RUN_WORDS;
 

@@ -117,6 +117,15 @@ impl Run {
         (status[ffi::STATUS_SENT] != 0).then_some(last)
     }
 
+    /// Writes the service page, [`crate::PAGE`] bytes, over the front of `out`, and answers its length. Refused (4), `out` is as it was.
+    ///
+    /// Six lines of 32 characters and a newline, each a label flush left in 12 and a value flush right in 20: POSITION, what a status would confirm
+    /// now; SENT, what the last status confirmed, a hyphen before the first; SERVER, the wal_end of the last XLogData or keepalive that was handled
+    /// without refusal; EVENTS handed on; STALLS begun; STATE.
+    pub fn page(&self, out: &mut [u8]) -> Result<usize, Refusal> {
+        crate::written(ffi::page(&self.words, out))
+    }
+
     /// The payload of the server's error that ended the run, where one did, from the payload buffer of its steps.
     /// [`crate::error_text`] makes a text of it.
     pub fn error<'a>(&self, payload: &'a [u8]) -> Option<&'a [u8]> {

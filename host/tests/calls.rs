@@ -6,7 +6,7 @@ use common::*;
 use rufflesquash::{lossy, AuthRequest, Column, DataRow, Event, Lsn, Metrics, Moment, NextStep};
 use rufflesquash::{ProgressCell, Queue, Run, Settings, State};
 use rufflesquash::{error_text, lossy, AuthRequest, Column, DataRow, Event, Lossy, Lsn, Metrics, Moment, NextStep};
-use rufflesquash::{ProgressCell, Queue, Refusal, Run, Settings, State};
+use rufflesquash::{ProgressCell, Queue, Refusal, Run, Settings, State, PAGE};
 use std::time::Duration;
 
 #[test]
@@ -330,4 +330,61 @@ fn any_words_are_a_run() {
             assert!(format!("{:?}", fed.run).starts_with("Run { state: "));
         }
     }
+}
+
+/// A page, line by line.
+fn page(position: &str, sent: &str, server: &str, events: u64, stalls: u64, state: &str) -> String {
+    let (events, stalls) = (events.to_string(), stalls.to_string());
+    let lines = [("POSITION", position), ("SENT", sent), ("SERVER", server), ("EVENTS", &events), ("STALLS", &stalls), ("STATE", state)];
+    lines.map(|(label, value)| format!("{label:<12}{value:>20}\n")).concat()
+}
+
+/// The page of a run, into an output that is longer; what is after it stays.
+fn page_of(run: &Run) -> String {
+    let mut out = [FILL; PAGE + 3];
+    assert_eq!(run.page(&mut out), Ok(PAGE));
+    assert_eq!(out[PAGE..], [FILL; 3]);
+    String::from_utf8(out[..PAGE].to_vec()).unwrap()
+}
+
+#[test]
+fn the_page_of_a_run() {
+    let mut out = [FILL; 256];
+    let (run, _) = Run::open(&settings(), b"slot", &[], Lsn(1), Lsn(0x16_B374_D848), &mut out).unwrap();
+    assert_eq!(page_of(&run), page("16/B374D848", "-", "0/0", 0, 0, "OPENING"));
+    assert_eq!(PAGE, 6 * 33);
+    let mut fed = Fed::reading(&keepalive(0x30, 1, 0));
+    assert_eq!(page_of(&fed.run), page("0/10", "-", "0/0", 0, 0, "TURN"));
+    fed.queue = Queue::Full;
+    while fed.run.metrics().stall_count == 0 {
+        fed.step();
+    }
+    assert_eq!(page_of(&fed.run), page("0/10", "0/10", "0/30", 0, 1, "OFFERING"));
+    fed.queue = Queue::Free;
+    fed.step();
+    fed.run.report_all(Lsn(0x25), Moment(1));
+    assert_eq!(page_of(&fed.run), page("0/25", "0/10", "0/30", 1, 1, "DRAIN"));
+}
+
+#[test]
+fn the_page_of_an_ended_run_and_a_refused_boundary() {
+    let bytes = [xlog_data(1, 5, 0, b"I"), xlog_data(1, 9, 0, b"B")].concat();
+    let mut fed = Fed::reading(&bytes);
+    while fed.run.state() != State::Ended {
+        fed.step();
+    }
+    // The metric has the end of the message whose boundary is refused, the page the one before.
+    assert_eq!(fed.run.metrics().last_wal_end, Lsn(9));
+    assert_eq!(page_of(&fed.run), page("0/10", "0/10", "0/5", 1, 0, "ENDED"));
+    fed.run.report_all(Lsn(u64::MAX), Moment(1));
+    assert_eq!(page_of(&fed.run), page("FFFFFFFF/FFFFFFFF", "0/10", "0/5", 1, 0, "ENDED"));
+}
+
+#[test]
+fn a_page_that_does_not_fit() {
+    let run = Run::already_open(&settings(), Lsn(0)).unwrap();
+    let mut out = [FILL; PAGE - 1];
+    assert_eq!(run.page(&mut out), Err(Refusal::OutputTooShort));
+    assert_eq!(out, [FILL; PAGE - 1]);
+    assert_eq!(run.page(&mut []), Err(Refusal::OutputTooShort));
 }

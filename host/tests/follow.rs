@@ -326,3 +326,57 @@ fn a_reader_that_ends_midway_is_confirmed_no_further() {
     let positions = server.join().unwrap();
     assert!(positions.iter().all(|p| *p <= 0x108), "{positions:x?}");
 }
+
+// Sends a signal to a process, as `kill` does.
+fn signal(pid: u32, name: &str) {
+    let sent = Command::new("kill").args(["-s", name, &pid.to_string()]).status().expect("kill runs");
+    assert!(sent.success());
+}
+
+// Lines that a pipe hands over, one after the other.
+fn lines(pipe: &mut impl Read, count: usize) -> Vec<String> {
+    let mut text = Vec::new();
+    while text.iter().filter(|b| **b == b'\n').count() < count {
+        let mut byte = [0];
+        pipe.read_exact(&mut byte).expect("a line");
+        text.extend(byte);
+    }
+    String::from_utf8(text).unwrap().lines().map(String::from).collect()
+}
+
+#[test]
+fn the_page_of_the_present_run() {
+    let (go, wait) = std::sync::mpsc::channel();
+    let (port, server) = serve(move |listener| {
+        let (mut client, _) = listener.accept().unwrap();
+        let_in(&mut client);
+        client.write_all(&transaction(0x100, 1)).unwrap();
+        client.write_all(&keepalive(0x300, 0, 0)).unwrap();
+        // Silent until the pages are read.
+        wait.recv().unwrap();
+        client.write_all(&transaction(0x400, 2)).unwrap();
+        statuses(&mut client)
+    });
+    let mut command = Command::new(env!("CARGO_BIN_EXE_follow"));
+    let port = port.to_string();
+    command.args(["-h", "127.0.0.1", "-p", &port, "-U", "me", "-d", "db", "-S", "s", "--publication", "P", "--endpos", "0/408"]);
+    let mut follow = command.env("PGPASSWORD", "geheim").stdin(Stdio::null()).stdout(Stdio::piped()).stderr(Stdio::piped()).spawn().unwrap();
+    let (mut printed, mut told) = (follow.stdout.take().unwrap(), follow.stderr.take().unwrap());
+    // The keepalive is the fourth line: the run waits for the server then.
+    lines(&mut printed, 4);
+    for _ in 0..2 {
+        signal(follow.id(), "USR1");
+        let page = lines(&mut told, 6);
+        assert!(page.iter().all(|line| line.len() == 32), "{page:?}");
+        let labels: Vec<&str> = page.iter().map(|line| line[..12].trim_end()).collect();
+        assert_eq!(labels, ["POSITION", "SENT", "SERVER", "EVENTS", "STALLS", "STATE"]);
+        assert_eq!(page[2], format!("{:<12}{:>20}", "SERVER", "0/300"));
+        assert_eq!(page[3], format!("{:<12}{:>20}", "EVENTS", 4));
+    }
+    go.send(()).unwrap();
+    assert_eq!(lines(&mut printed, 4).len(), 4);
+    assert_eq!((follow.wait().unwrap().code(), server.join().unwrap().last()), (Some(0), Some(&0x408)));
+    let mut rest = String::new();
+    told.read_to_string(&mut rest).unwrap();
+    assert_eq!(rest, "");
+}

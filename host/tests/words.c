@@ -133,6 +133,32 @@ static uint64_t smallest(void) {
     return least;
 }
 
+/* A position's text. */
+static const char *shown(uint64_t position, char text[24]) {
+    snprintf(text, 24, "%" PRIX64 "/%" PRIX64, position >> 32, position & 0xFFFFFFFF);
+    return text;
+}
+
+/* The service page shows the words; an output a byte short gets 4 and nothing. */
+static void same_page(void) {
+    static const char *const states[] = {"OPENING", "TURN", "DRAIN", "READING", "WAITING", "HANDLING", "OFFERING", "ENDED"};
+    const uint64_t state = run[R(RUN_STATE)] < LEN(states) ? run[R(RUN_STATE)] : R(STATE_ENDED);
+    char page[199], position[24], sent[24], server[24];
+    uint8_t room[202];
+    uint64_t n = 7;
+    snprintf(page, sizeof page, "%-12s%20s\n%-12s%20s\n%-12s%20s\n%-12s%20" PRIu64 "\n%-12s%20" PRIu64 "\n%-12s%20s\n", "POSITION",
+             shown(smallest(), position), "SENT", run[R(RUN_STATUS_SENT)] ? shown(run[R(RUN_STATUS_POSITION)], sent) : "-", "SERVER",
+             shown(run[R(RUN_SERVER)], server), "EVENTS", run[R(RUN_EVENTS_FORWARDED)], "STALLS", run[R(RUN_STALL_COUNT)], "STATE", states[state]);
+    memset(room, FILL, sizeof room);
+    SAME(rufflesquash_page(run, room, 197, &n), 4);
+    SAME(n, 0);
+    for (size_t i = 0; i < sizeof room; i++) SAME(room[i], FILL);
+    SAME(rufflesquash_page(run, room, 200, &n), 0);
+    SAME(n, 198);
+    BYTES(room, page, 198);
+    for (size_t i = 198; i < sizeof room; i++) SAME(room[i], FILL);
+}
+
 /* One step or advance with these bytes, a microsecond later; the words that the header documents are held to their other readers. */
 static void call(bool several, const uint8_t *unread, size_t len) {
     uint64_t metrics[R(METRICS_WORDS)], last[R(STATUS_WORDS)];
@@ -152,6 +178,7 @@ static void call(bool several, const uint8_t *unread, size_t len) {
     for (size_t i = 0; i < LEN(last); i++) SAME(last[i], run[R(RUN_STATUS_SENT) + i]);
     for (size_t i = 0; i < LEN(settings); i++) SAME(run[i], settings[i]);
     for (size_t i = R(RUN_SPARE); i < R(RUN_WORDS); i++) SAME(run[i], 0);
+    same_page();
 }
 
 static void step(const uint8_t *unread, size_t len) {
@@ -376,6 +403,7 @@ static void pieces(void) {
     for (size_t i = 0; i < 7; i++) SAME(run[R(RUN_EVENT) + i], ((uint64_t[]){R(EVENT_KEEP_ALIVE), 0x30, (uint64_t)-5, 0, 0, 0, 0})[i]);
     SAME(run[R(RUN_STALLED)], 0);
     SAME(run[R(RUN_LAST_WAL_END)], 0x30);
+    SAME(run[R(RUN_SERVER)], 0x30);
     step(NULL, 0);
     WORDS(answer, 0, 0, 0, 0, 0, R(EVENT_KEEP_ALIVE), 0x30, (uint64_t)-5, 0);
     SAME(run[R(RUN_EVENTS_FORWARDED)], 1);
@@ -395,6 +423,7 @@ static void begins(void) {
     SAME(feed(&message), message.len);
     WORDS(answer, 0, 0, 0, 0, 0, R(EVENT_BEGIN), 0x855667788, (uint64_t)-3, 0xFFFFFFFE);
     SAME(run[R(RUN_LAST_WAL_END)], 0x52);
+    SAME(run[R(RUN_SERVER)], 0x52);
 }
 
 static void events(void) {

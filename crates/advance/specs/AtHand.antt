@@ -107,6 +107,7 @@ abbrev pub handedRun : Run → Moment → AtHand → Run
 handedRun r m a =
     run (r .settings) Drain fresh (clock m (r .clock .«wait_began») (r .clock .«stall_began»)) (r .progress) (r .status) (more (r .drained) 1)
     (r .pending) (wholeOf 100 (a .len) false) (offer (a .event) false false (a .reached)) (withEvent (withEnd (r .metrics) (a .«wal_end»)))
+    (a .«wal_end»)
 
 -- the message is taken, its payload at the buffer's front, its event handed on
 abbrev pub handedOf : Run → Moment → AtHand → List ℕ → List ℕ → List ℕ → Outcome

@@ -276,6 +276,7 @@ fn handed(run: Run, moment: Moment, message: AtHand) -> Run
         whole,
         offer,
         metrics: counted,
+        server: wal_end,
     }
 }
 

@@ -76,16 +76,16 @@ writes-at {i = i} {l = l} h (status reply a c d) =
     (d ∙ ap (λ (x : ℕ). some (confirming (x % 2 ^ 64) (int 8 (value 8 (i .«client_time») % 2 ^ 64)) reply)) h)
 
 -- four positions by their numbers, as they are reached
-abbrev filesBy : Reached → Files
+abbrev pub filesBy : Reached → Files
 filesBy reached = filesAt (reached 0) (reached 1) (reached 2) (reached 3)
 
 -- the smallest of them
-least-is : (reached : Reached) → smallest (filesBy reached) .0 ≡ leastOf reached
+pub least-is : (reached : Reached) → smallest (filesBy reached) .0 ≡ leastOf reached
 unfolding smallest
 least-is reached = refl
 
 -- what a report leaves
-files-reach : (r : Run) (reached : Reached) (file : ℕ) (q : Lsn) (m : Moment) → r .progress .files ≡ filesBy reached
+pub files-reach : (r : Run) (reached : Reached) (file : ℕ) (q : Lsn) (m : Moment) → r .progress .files ≡ filesBy reached
     → reportOf r file q m .1 .progress .files ≡ filesBy (reaching reached file q)
 unfolding reportOf
 files-reach r reached file q m h =
@@ -104,7 +104,7 @@ confirmed-from reached r h (report file q m ∷ cs) =
     confirmed-from (reaching reached file q) (reportOf r file q m .1) (files-reach r reached file q m h) cs
 
 -- each file has reached the start
-begun-files : (s : Settings) (b : Beginning) → runBegun s b .progress .files ≡ filesBy (λ (n : ℕ). startOf b .0)
+pub begun-files : (s : Settings) (b : Beginning) → runBegun s b .progress .files ≡ filesBy (λ (n : ℕ). startOf b .0)
 unfolding freshRun
 begun-files s b = ap (λ (r : Run). r .progress .files) (run-begun s b)
 

@@ -13,7 +13,9 @@ ghost use Rattle.lossy.specs.Marks.{marksOf, withMarks};
 ghost use Rattle.lsn.specs.Position.{displayOf, positionOf};
 ghost use Rattle.messages.specs.ErrorText.{errorText, errorMarks};
 ghost use Rattle.messages.specs.Fields.{fieldsOf};
+ghost use Rattle.page.specs.Page.{pageOf};
 ghost use Rattle.progress.specs.Progress.{cellPosition};
+ghost use Rattle.run_page.specs.RunPage.{shownBy};
 ghost use Rattle.schedule.specs.NextStep.{nextStepOf};
 ghost use Rattle.advance.specs.Advance.{advanceOf};
 ghost use Rattle.worker.specs.Answer.{errorPartOf, lent};
@@ -291,6 +293,21 @@ pub extern "C" fn rufflesquash_parse_position(text: &[u8], position: &mut u64) -
 {
     let reply = parsed_reply(Lsn::parse(text));
     *position = reply.value;
+    reply.refusal
+}
+
+// The service page: six lines of 32 characters and a newline.
+#[no_mangle]
+pub extern "C" fn rufflesquash_page(
+    run: &[u64; layout::RUN_WORDS],
+    out: &mut [u8],
+    written: &mut u64,
+) -> u64
+    ensures { λ r. ⌜ ((r, now (written .exit)), now (out .exit)) ≡ writing 0 (pageOf (shownBy (runOf (now (run .entry))))) (now (out .entry)) ⌝ }
+{
+    let shown = run_of(*run);
+    let reply = written_reply(run_page::write(shown, out));
+    *written = reply.value;
     reply.refusal
 }
 

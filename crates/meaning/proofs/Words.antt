@@ -96,7 +96,7 @@ pub reader-words : Reader-words
 reader-words = ((λ a b c d e f g h. refl), (λ a b c d e f g h. refl), refl)
 
 pub run-words : Run-words
-run-words w0 w1 w2 w3 w4 w5 w6 w7 w8 w9 w10 w11 w12 w13 w14 w15 w16 w17 w18 w19 w20 w21 w22 w23 w24 w25 w26 w27 w28 w29 w30 w31 w32 w33 w34 w35 w36 w37 w38 w39 w40 w41 w42 w43 w44 w45 w46 w47 w48 w49 w50 rest = refl
+run-words w0 w1 w2 w3 w4 w5 w6 w7 w8 w9 w10 w11 w12 w13 w14 w15 w16 w17 w18 w19 w20 w21 w22 w23 w24 w25 w26 w27 w28 w29 w30 w31 w32 w33 w34 w35 w36 w37 w38 w39 w40 w41 w42 w43 w44 w45 w46 w47 w48 w49 w50 w51 rest = refl
 
 pub words-run : Words-run
-words-run w0 w1 w2 w3 w4 w5 w6 state w8 w9 w10 w11 w12 w13 w14 w15 w16 w17 w18 w19 w20 w21 w22 w23 w24 w25 w26 w27 w28 w29 w30 w32 w33 w34 w38 w39 w40 w41 w42 w43 w44 w45 w46 w47 w48 w49 w50 = refl
+words-run w0 w1 w2 w3 w4 w5 w6 state w8 w9 w10 w11 w12 w13 w14 w15 w16 w17 w18 w19 w20 w21 w22 w23 w24 w25 w26 w27 w28 w29 w30 w32 w33 w34 w38 w39 w40 w41 w42 w43 w44 w45 w46 w47 w48 w49 w50 w51 = refl

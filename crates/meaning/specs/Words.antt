@@ -139,15 +139,15 @@ Reader-words =
     × ((a b c d e f g : ℕ) (h : Bool) → readerWords (reader a b c d e f g h) ≡ a ∷ b ∷ c ∷ d ∷ e ∷ f ∷ g ∷ flagWord h ∷ [])
     × (readerOf (0 ∷ 0 ∷ 0 ∷ 0 ∷ 0 ∷ 0 ∷ 0 ∷ 0 ∷ []) ≡ fresh)
 
--- ---- a run. Its files are the words 19, 48, 49 and 50. The words from 51 on are ignored; they are 0 in what is written
+-- ---- a run. Its files are the words 19, 48, 49 and 50, the server's end of its page is word 51. The words from 52 on are ignored; they are 0 in what is written
 
 abbrev pub Run-words : Type 0
 Run-words =
     (w0 w1 w2 w3 w4 w5 w6 w7 w8 w9 w10 w11 w12 w13 w14 w15 w16 w17 w18 w19 w20 w21 w22 w23 w24 w25 w26 w27 w28 w29 w30 w31 w32 w33 w34 w35
-    w36 w37 w38 w39 w40 w41 w42 w43 w44 w45 w46 w47 w48 w49 w50 : ℕ) (rest : List ℕ)
+    w36 w37 w38 w39 w40 w41 w42 w43 w44 w45 w46 w47 w48 w49 w50 w51 : ℕ) (rest : List ℕ)
     → runOf (w0 ∷ w1 ∷ w2 ∷ w3 ∷ w4 ∷ w5 ∷ w6 ∷ w7 ∷ w8 ∷ w9 ∷ w10 ∷ w11 ∷ w12 ∷ w13 ∷ w14 ∷ w15 ∷ w16 ∷ w17 ∷ w18 ∷ w19 ∷ w20 ∷ w21 ∷ w22
     ∷ w23 ∷ w24 ∷ w25 ∷ w26 ∷ w27 ∷ w28 ∷ w29 ∷ w30 ∷ w31 ∷ w32 ∷ w33 ∷ w34 ∷ w35 ∷ w36 ∷ w37 ∷ w38 ∷ w39 ∷ w40 ∷ w41 ∷ w42 ∷ w43 ∷ w44
-    ∷ w45 ∷ w46 ∷ w47 ∷ w48 ∷ w49 ∷ w50 ∷ rest) ≡
+    ∷ w45 ∷ w46 ∷ w47 ∷ w48 ∷ w49 ∷ w50 ∷ w51 ∷ rest) ≡
     run (settings w0 w1 w2 (flagOf w3) w4 (flagOf w5) (flagOf w6)) (stateOf w7)
     (reader (byteOf w8) (byteOf w9) (byteOf w10) (byteOf w11) (byteOf w12) w13 w14 (flagOf w15))
     (clock (moment w16) (moment w17) (moment w18))
@@ -156,19 +156,19 @@ Run-words =
     w26 (flagOf w27)
     (wholeOf (byteOf w28) w29 (flagOf w30))
     (offer (eventOf w31 w32 w33 w34 w35 w36 w37) (flagOf w38) (flagOf w39) (lsn w40))
-    (metrics w41 w42 w43 w44 w45 w46 w47)
+    (metrics w41 w42 w43 w44 w45 w46 w47) (lsn w51)
 
 -- of a run that offers a Commit, so that its seven words are plain
 abbrev pub Words-run : Type 0
 Words-run =
     (w0 w1 w2 : ℕ) (w3 : Bool) (w4 : ℕ) (w5 w6 : Bool) (state : State) (w8 w9 w10 w11 w12 w13 w14 : ℕ) (w15 : Bool)
     (w16 w17 w18 w19 : ℕ) (w20 : Bool) (w21 : ℕ) (w22 w23 : Bool) (w24 w25 w26 : ℕ) (w27 : Bool) (w28 w29 : ℕ) (w30 : Bool)
-    (w32 w33 : ℕ) (w34 : ℤ) (w38 w39 : Bool) (w40 w41 w42 w43 w44 w45 w46 w47 w48 w49 w50 : ℕ)
+    (w32 w33 : ℕ) (w34 : ℤ) (w38 w39 : Bool) (w40 w41 w42 w43 w44 w45 w46 w47 w48 w49 w50 w51 : ℕ)
     → wordsOf
     (run (settings w0 w1 w2 w3 w4 w5 w6) state (reader w8 w9 w10 w11 w12 w13 w14 w15)
     (clock (moment w16) (moment w17) (moment w18)) (progress (files (lsn w19) (lsn w48) (lsn w49) (lsn w50)) w20 (moment w21) w22) (lastStatus w23 (lsn w24) (moment w25)) w26 w27
-    (wholeOf w28 w29 w30) (offer (Commit (lsn w32) (lsn w33) w34) w38 w39 (lsn w40)) (metrics w41 w42 w43 w44 w45 w46 w47))
+    (wholeOf w28 w29 w30) (offer (Commit (lsn w32) (lsn w33) w34) w38 w39 (lsn w40)) (metrics w41 w42 w43 w44 w45 w46 w47) (lsn w51))
     ≡ w0 ∷ w1 ∷ w2 ∷ flagWord w3 ∷ w4 ∷ flagWord w5 ∷ flagWord w6 ∷ stateNumber state ∷ w8 ∷ w9 ∷ w10 ∷ w11 ∷ w12 ∷ w13 ∷ w14 ∷ flagWord w15 ∷ w16 ∷ w17
     ∷ w18 ∷ w19 ∷ flagWord w20 ∷ w21 ∷ flagWord w22 ∷ flagWord w23 ∷ w24 ∷ w25 ∷ w26 ∷ flagWord w27 ∷ w28 ∷ w29 ∷ flagWord w30 ∷ 3 ∷ w32 ∷ w33
     ∷ value 8 w34 ∷ 0 ∷ 0 ∷ 0 ∷ flagWord w38 ∷ flagWord w39 ∷ w40 ∷ w41 ∷ w42 ∷ w43 ∷ w44 ∷ w45 ∷ w46 ∷ w47
-    ∷ w48 ∷ w49 ∷ w50 ∷ 0 ∷ 0 ∷ 0 ∷ 0 ∷ 0 ∷ 0 ∷ 0 ∷ 0 ∷ 0 ∷ 0 ∷ 0 ∷ 0 ∷ 0 ∷ []
+    ∷ w48 ∷ w49 ∷ w50 ∷ w51 ∷ 0 ∷ 0 ∷ 0 ∷ 0 ∷ 0 ∷ 0 ∷ 0 ∷ 0 ∷ 0 ∷ 0 ∷ 0 ∷ 0 ∷ []

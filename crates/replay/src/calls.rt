@@ -19,7 +19,7 @@ pub(crate) struct Play {
 }
 
 // A call as a script has it: its letter, or 0 where it is malformed; of a step the input, how many bytes are unread, and how long its output is and
-// what fills it; of a report the file and the position.
+// what fills it; of a report the file and the position; of a page how long its output is and what fills it.
 struct Call {
     letter: u8,
     moment: u64,
@@ -96,6 +96,14 @@ fn file_report_of(call: &[u8]) -> Call {
     c
 }
 
+fn page_of(call: &[u8]) -> Call {
+    let mut c = no_call();
+    c.letter = b'G';
+    c.room = fields::half(call, 0);
+    c.fill = fields::byte(call, 2);
+    c
+}
+
 fn read_step() -> Call {
     let mut call = [0u8; 26];
     if io::read_full(0, &mut call) < 26 {
@@ -123,6 +131,17 @@ fn read_file_report() -> Call {
     file_report_of(&call)
 }
 
+fn read_page() -> Call {
+    let mut call = [0u8; 3];
+    if io::read_full(0, &mut call) < 3 {
+        return no_call();
+    }
+    if 4096 < fields::half(&call, 0) {
+        return no_call();
+    }
+    page_of(&call)
+}
+
 fn read_call() -> Call {
     let mut letter = [0u8; 1];
     if io::read_full(0, &mut letter) < 1 {
@@ -132,6 +151,7 @@ fn read_call() -> Call {
         b'S' => read_step(),
         b'P' => read_report(),
         b'F' => read_file_report(),
+        b'G' => read_page(),
         _ => no_call(),
     }
 }
@@ -233,6 +253,21 @@ fn file_report(p: Play, c: Call) -> Play {
     with_run(p, next)
 }
 
+// A page into an output that is filled for it, and its line.
+fn shown(run: Run, fill: u8, out: &mut [u8]) {
+    lines::fill(out, fill);
+    let w = run_page::write(run, out);
+    spelled::page(w, out);
+}
+
+fn page(p: Play, c: Call) -> Play {
+    let mut out = io::buffer();
+    let room = least(c.room, out.len());
+    let run = p.run;
+    shown(run, c.fill, &mut out[0..room]);
+    p
+}
+
 // A run that was not opened has its calls read and not made.
 fn make_call(p: Play, c: Call, server: &[u8], payload: &mut [u8]) -> Play {
     if !p.opened {
@@ -243,6 +278,9 @@ fn make_call(p: Play, c: Call, server: &[u8], payload: &mut [u8]) -> Play {
     }
     if c.letter == b'F' {
         return file_report(p, c);
+    }
+    if c.letter == b'G' {
+        return page(p, c);
     }
     report(p, c)
 }

@@ -1,6 +1,7 @@
 // The lines of a script.
 ghost use mathlib.Core.Path.{_≡_};
 ghost use lib.ListN.{length};
+use error::Written;
 use lsn::Lsn;
 use metrics::Metrics;
 use playing::spelling;
@@ -63,6 +64,29 @@ pub(crate) fn file_report(verdict: FileVerdict, position: Lsn) -> bool {
     let mut line = [0u8; 64];
     let n = file_report_line(&mut line, refusal, position);
     lines::print(&line, n)
+}
+
+// The refusal, how many bytes were written, the sum of the whole output, and the bytes written.
+fn page_line(line: &mut [u8], refusal: u8, written: usize, out: &[u8]) -> usize {
+    let a = wire::store::place(line, 0, b"G");
+    let b = lines::number(line, a, refusal as u64);
+    let c = lines::number(line, b, written as u64);
+    let d = lines::number(line, c, lines::sum(out));
+    let e = lines::part(line, d, out, 0, written);
+    lines::end(line, e)
+}
+
+fn page_told(refusal: u8, written: usize, out: &[u8]) -> bool {
+    let mut line = [0u8; 512];
+    let n = page_line(&mut line, refusal, written, out);
+    lines::print(&line, n)
+}
+
+pub(crate) fn page(w: Written, out: &[u8]) -> bool {
+    match w {
+        Written::Wrote(n) => page_told(0, n, out),
+        Written::Refused(r) => page_told(r.number(), 0, out),
+    }
 }
 
 fn later_state(line: &mut [u8], at: usize, s: State) -> usize {

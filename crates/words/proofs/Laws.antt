@@ -31,7 +31,7 @@ pub words-are : (r : Run) {f1 f2 f3 s f4 f5 f6 f7 f8 t f9 f10 f11 : ℕ} {e h : 
     ∷ getD h 0 0 ∷ getD h 1 0 ∷ getD h 2 0 ∷ getD h 3 0 ∷ getD h 4 0 ∷ r .reader .filled ∷ r .reader .«payload_len» ∷ f4 ∷ r .clock .last .0 ∷ r .clock .«wait_began» .0 ∷ r .clock .«stall_began» .0
     ∷ r .progress .files .zero .0 ∷ f5 ∷ r .progress .«pending_since» .0 ∷ f6 ∷ f7 ∷ r .status .position .0 ∷ r .status .at .0 ∷ r .drained ∷ f8
     ∷ t ∷ r .whole .len ∷ f9 ∷ getD e 0 0 ∷ getD e 1 0 ∷ getD e 2 0 ∷ getD e 3 0 ∷ getD e 4 0 ∷ getD e 5 0 ∷ getD e 6 0 ∷ f10 ∷ f11 ∷ r .offer .reached .0
-    ∷ (metricsWords (r .metrics) ++ (filesWords (r .progress .files) ++ spare))) (wordsOf r)
+    ∷ (metricsWords (r .metrics) ++ (filesWords (r .progress .files) ++ (r .server .0 ∷ spare)))) (wordsOf r)
 words-are r pe pf1 pf2 pf3 ps ph pf4 pf5 pf6 pf7 pf8 pt pf9 pf10 pf11 = rw (pe, pf1, pf2, pf3, ps, ph, pf4, pf5, pf6, pf7, pf8, pt, pf9, pf10, pf11)
 
 pub cell-words-are : (c : ProgressCell) {f1 f2 : ℕ} → f1 ≡ flagWord (c .signalled) → f2 ≡ flagWord (c .timed)

@@ -8,6 +8,7 @@ use lib.ListN.{length, getD}
 use Rattle.wire.specs.Int.{half}
 use Rattle.wire.proofs.FieldLaws.{signed-unsigned}
 use Rattle.framing.specs.declared.MessageReader.{MessageReader}
+use Rattle.lsn.specs.declared.Lsn.{Lsn}
 use Rattle.metrics.specs.declared.Metrics.{Metrics}
 use Rattle.progress.specs.declared.files.Progress.{Progress}
 use Rattle.progress.specs.Files as F
@@ -102,9 +103,9 @@ offer-back o h = rw (event-back (o .event) h, flag-back (o .stalled), flag-back 
 
 -- a run with its parts replaced by equal ones
 pub run-by : {s s' : Settings} {t t' : State} {x x' : MessageReader} {c c' : Clock} {p p' : Progress} {l l' : LastStatus} {d : ℕ} {b b' : Bool}
-    {w w' : Whole} {o o' : Offer} {m m' : Metrics}
+    {w w' : Whole} {o o' : Offer} {m m' : Metrics} {v : Lsn}
     → s ≡ s' → t ≡ t' → x ≡ x' → c ≡ c' → p ≡ p' → l ≡ l' → b ≡ b' → w ≡ w' → o ≡ o' → m ≡ m'
-    → run s t x c p l d b w o m ≡ run s' t' x' c' p' l' d b' w' o' m'
+    → run s t x c p l d b w o m v ≡ run s' t' x' c' p' l' d b' w' o' m' v
 run-by es et ex ec ep el eb ew eo em = rw (es, et, ex, ec, ep, el, eb, ew, eo, em)
 
 pub round-trip : Round-trip

@@ -154,7 +154,7 @@ metricsOf w =
 abbrev pub runOf : List ℕ → Run
 runOf w =
     run (settingsOf w) (stateOf (getD w 7 0)) (readerOf (readerPart w)) (clockOf w) (progressOf w) (lastStatusOf w) (getD w 26 0) (flagOf (getD w 27 0))
-    (wholeMessageOf w) (offerOf w) (metricsOf w)
+    (wholeMessageOf w) (offerOf w) (metricsOf w) (lsn (getD w 51 0))
 
 -- ---- the words of a run
 
@@ -201,9 +201,9 @@ metricsWords m =
     m .«events_forwarded» ∷ m .«feedback_sent» ∷ m .«keepalive_replies» ∷ m .«stall_count» ∷ m .«stall_micros_total» ∷ m .«last_applied_lsn» .0
     ∷ m .«last_wal_end» .0 ∷ []
 
--- thirteen words that later versions may use
+-- twelve words that later versions may use
 abbrev pub spare : List ℕ
-spare = 0 ∷ 0 ∷ 0 ∷ 0 ∷ 0 ∷ 0 ∷ 0 ∷ 0 ∷ 0 ∷ 0 ∷ 0 ∷ 0 ∷ 0 ∷ []
+spare = 0 ∷ 0 ∷ 0 ∷ 0 ∷ 0 ∷ 0 ∷ 0 ∷ 0 ∷ 0 ∷ 0 ∷ 0 ∷ 0 ∷ []
 
 abbrev pub wordsOf : Run → List ℕ
 wordsOf r =
@@ -219,7 +219,8 @@ wordsOf r =
     ++ (offerWords (r .offer)
     ++ (metricsWords (r .metrics)
     ++ (filesWords (r .progress .files)
-    ++ spare)))))))))))
+    ++ (r .server .0
+    ∷ spare))))))))))))
 
 -- ---- a run whose numbers have the widths of their types, as every run of a call has; where a word has the number's whole width nothing is asked
 

@@ -3,7 +3,7 @@
 // gate holds the three together. What the words mean is said in crate `meaning`.
 
 // The number of this list and of the exported functions; it grows with every change of either.
-pub const ABI: u64 = 4;
+pub const ABI: u64 = 5;
 
 // ---- settings: intervals are nanoseconds, a flag is true unless 0
 pub const SETTINGS_WORDS: usize = 7;
@@ -127,7 +127,9 @@ pub const RUN_FILE_2: usize = 49;
 
 pub const RUN_FILE_3: usize = 50;
 
-pub const RUN_SPARE: usize = 51;
+pub const RUN_SERVER: usize = 51;
+
+pub const RUN_SPARE: usize = 52;
 
 // ---- files; every other number is none
 pub const FILES: u64 = 4;

@@ -201,6 +201,7 @@ pub fn run_of(w: [u64; layout::RUN_WORDS]) -> Run
         whole,
         offer,
         metrics,
+        server: Lsn(w[layout::RUN_SERVER]),
     }
 }
 
@@ -294,7 +295,7 @@ pub fn words_of(run: Run) -> [u64; layout::RUN_WORDS]
         files.one.0,
         files.two.0,
         files.three.0,
-        0,
+        run.server.0,
         0,
         0,
         0,

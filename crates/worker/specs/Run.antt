@@ -66,8 +66,8 @@ wholeOf tag len wait = record { tag = tag; len = len; «in_wait» = wait }
 abbrev pub offer : Event → Bool → Bool → Lsn → Offer
 offer event stalled stops reached = record { event = event; stalled = stalled; stops = stops; reached = reached }
 
-abbrev pub run : Settings → State → MessageReader → Clock → Progress → LastStatus → ℕ → Bool → Whole → Offer → Metrics → Run
-run settings state reader clock progress status drained pending whole offer metrics =
+abbrev pub run : Settings → State → MessageReader → Clock → Progress → LastStatus → ℕ → Bool → Whole → Offer → Metrics → Lsn → Run
+run settings state reader clock progress status drained pending whole offer metrics server =
     record {
       settings = settings;
       state = state;
@@ -80,27 +80,28 @@ run settings state reader clock progress status drained pending whole offer metr
       whole = whole;
       offer = offer;
       metrics = metrics;
+      server = server;
     }
 
 -- a run before its first step, whose files are all at the start
 unfoldable pub freshRun : Settings → State → Lsn → Run
 freshRun s state start =
     run s state fresh (clock noMoment noMoment noMoment) (F.progress (files start start start start) false noMoment (s .timing)) (lastStatus false (lsn 0) noMoment) 0 false
-    (wholeOf 0 0 false) (offer Nothing false false (lsn 0)) noCounts
+    (wholeOf 0 0 false) (offer Nothing false false (lsn 0)) noCounts (lsn 0)
 
 -- ---- one part changed
 
 abbrev pub withState : State → Run → Run
-withState x r = run (r .settings) x (r .reader) (r .clock) (r .progress) (r .status) (r .drained) (r .pending) (r .whole) (r .offer) (r .metrics)
+withState x r = run (r .settings) x (r .reader) (r .clock) (r .progress) (r .status) (r .drained) (r .pending) (r .whole) (r .offer) (r .metrics) (r .server)
 
 abbrev pub withReader : MessageReader → Run → Run
-withReader x r = run (r .settings) (r .state) x (r .clock) (r .progress) (r .status) (r .drained) (r .pending) (r .whole) (r .offer) (r .metrics)
+withReader x r = run (r .settings) (r .state) x (r .clock) (r .progress) (r .status) (r .drained) (r .pending) (r .whole) (r .offer) (r .metrics) (r .server)
 
 abbrev pub withClock : Clock → Run → Run
-withClock x r = run (r .settings) (r .state) (r .reader) x (r .progress) (r .status) (r .drained) (r .pending) (r .whole) (r .offer) (r .metrics)
+withClock x r = run (r .settings) (r .state) (r .reader) x (r .progress) (r .status) (r .drained) (r .pending) (r .whole) (r .offer) (r .metrics) (r .server)
 
 abbrev pub withProgress : Progress → Run → Run
-withProgress x r = run (r .settings) (r .state) (r .reader) (r .clock) x (r .status) (r .drained) (r .pending) (r .whole) (r .offer) (r .metrics)
+withProgress x r = run (r .settings) (r .state) (r .reader) (r .clock) x (r .status) (r .drained) (r .pending) (r .whole) (r .offer) (r .metrics) (r .server)
 
 -- the cell that a step sees: its position is the smallest of the four files
 abbrev pub cellIn : Run → ProgressCell
@@ -111,22 +112,25 @@ abbrev pub withCell : ProgressCell → Run → Run
 withCell c r = withProgress (beside (r .progress .files) c) r
 
 abbrev pub withLastStatus : LastStatus → Run → Run
-withLastStatus x r = run (r .settings) (r .state) (r .reader) (r .clock) (r .progress) x (r .drained) (r .pending) (r .whole) (r .offer) (r .metrics)
+withLastStatus x r = run (r .settings) (r .state) (r .reader) (r .clock) (r .progress) x (r .drained) (r .pending) (r .whole) (r .offer) (r .metrics) (r .server)
 
 abbrev pub withDrained : ℕ → Run → Run
-withDrained x r = run (r .settings) (r .state) (r .reader) (r .clock) (r .progress) (r .status) x (r .pending) (r .whole) (r .offer) (r .metrics)
+withDrained x r = run (r .settings) (r .state) (r .reader) (r .clock) (r .progress) (r .status) x (r .pending) (r .whole) (r .offer) (r .metrics) (r .server)
 
 abbrev pub withPending : Bool → Run → Run
-withPending x r = run (r .settings) (r .state) (r .reader) (r .clock) (r .progress) (r .status) (r .drained) x (r .whole) (r .offer) (r .metrics)
+withPending x r = run (r .settings) (r .state) (r .reader) (r .clock) (r .progress) (r .status) (r .drained) x (r .whole) (r .offer) (r .metrics) (r .server)
 
 abbrev pub withWhole : Whole → Run → Run
-withWhole x r = run (r .settings) (r .state) (r .reader) (r .clock) (r .progress) (r .status) (r .drained) (r .pending) x (r .offer) (r .metrics)
+withWhole x r = run (r .settings) (r .state) (r .reader) (r .clock) (r .progress) (r .status) (r .drained) (r .pending) x (r .offer) (r .metrics) (r .server)
 
 abbrev pub withOffer : Offer → Run → Run
-withOffer x r = run (r .settings) (r .state) (r .reader) (r .clock) (r .progress) (r .status) (r .drained) (r .pending) (r .whole) x (r .metrics)
+withOffer x r = run (r .settings) (r .state) (r .reader) (r .clock) (r .progress) (r .status) (r .drained) (r .pending) (r .whole) x (r .metrics) (r .server)
 
 abbrev pub withMetrics : Metrics → Run → Run
-withMetrics x r = run (r .settings) (r .state) (r .reader) (r .clock) (r .progress) (r .status) (r .drained) (r .pending) (r .whole) (r .offer) x
+withMetrics x r = run (r .settings) (r .state) (r .reader) (r .clock) (r .progress) (r .status) (r .drained) (r .pending) (r .whole) (r .offer) x (r .server)
+
+abbrev pub withServer : Lsn → Run → Run
+withServer x r = run (r .settings) (r .state) (r .reader) (r .clock) (r .progress) (r .status) (r .drained) (r .pending) (r .whole) (r .offer) (r .metrics) x
 
 -- ---- moments
 

@@ -32,7 +32,7 @@ use Rattle.worker.specs.declared.Run.{Run}
 use Rattle.worker.specs.Events.{dataGives}
 use Rattle.worker.specs.Events as E
 use Rattle.worker.specs.Rows.{_⇒_, firstOf, both, unless}
-use Rattle.worker.specs.Run.{cellIn, lsn, lastStatus, wholeOf, offer, withState, withReader, withCell, withLastStatus, withDrained, withPending, withWhole, withOffer, withMetrics, accepted, waitBegun, stallBegun, micros}
+use Rattle.worker.specs.Run.{cellIn, lsn, lastStatus, wholeOf, offer, withState, withReader, withCell, withLastStatus, withDrained, withPending, withWhole, withOffer, withMetrics, withServer, accepted, waitBegun, stallBegun, micros}
 use Rattle.worker.specs.Streaming.{whileStreaming}
 
 -- what a step answers and leaves: the run, the refusal's number (0 for none), the taken count, the event handed on, how many bytes were written,
@@ -222,9 +222,10 @@ waitingOf r i l =
 abbrev pub back : Run → Run
 back r = withState (pick (r .whole .«in_wait») Turn Drain) r
 
--- an event is offered; a flag says whether StoppedAt follows it
+-- an event is offered; a flag says whether StoppedAt follows it. Its message was handled without refusal, so that the server's end which the
+-- message told is from now on the one that a page shows. SCOPE 5.12; 02, wish 9
 abbrev pub offers : Event → Bool → Lsn → Run → Run
-offers e stops reached r = withState Offering (withOffer (offer e false stops reached) r)
+offers e stops reached r = withState Offering (withServer (r .metrics .«last_wal_end») (withOffer (offer e false stops reached) r))
 
 -- a position at or above the stop position. SCOPE 6.12
 abbrev pub reaches : Run → Lsn → Bool

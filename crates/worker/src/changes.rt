@@ -1,6 +1,6 @@
 // Single changes of a run. A field that is or holds an enum is not stored to: the run is built anew.
 ghost use mathlib.Core.Path.{_≡_};
-ghost use Rattle.worker.specs.Run.{cellIn, wholeOf, offer, withState, withReader, withProgress, withCell, withDrained, withPending, withWhole, withOffer, withMetrics, accepted, waitBegun, stallBegun};
+ghost use Rattle.worker.specs.Run.{cellIn, wholeOf, offer, withState, withReader, withProgress, withCell, withDrained, withPending, withWhole, withOffer, withMetrics, withServer, accepted, waitBegun, stallBegun};
 use crate::Event;
 use crate::Offer;
 use crate::Run;
@@ -23,6 +23,7 @@ pub(crate) fn with_state(state: State, run: Run) -> Run
     let whole = run.whole;
     let offer = run.offer;
     let metrics = run.metrics;
+    let server = run.server;
     Run {
         settings,
         state,
@@ -35,6 +36,7 @@ pub(crate) fn with_state(state: State, run: Run) -> Run
         whole,
         offer,
         metrics,
+        server,
     }
 }
 
@@ -49,6 +51,7 @@ pub(crate) fn with_offer(offer: Offer, run: Run) -> Run
     let status = run.status;
     let whole = run.whole;
     let metrics = run.metrics;
+    let server = run.server;
     Run {
         settings,
         state,
@@ -61,6 +64,7 @@ pub(crate) fn with_offer(offer: Offer, run: Run) -> Run
         whole,
         offer,
         metrics,
+        server,
     }
 }
 
@@ -99,6 +103,13 @@ pub(crate) fn with_metrics(metrics: Metrics, mut run: Run) -> Run
     ensures { λ r. ⌜ r ≡ withMetrics metrics run ⌝ }
 {
     run.metrics = metrics;
+    run
+}
+
+pub(crate) fn with_server(server: Lsn, mut run: Run) -> Run
+    ensures { λ r. ⌜ r ≡ withServer server run ⌝ }
+{
+    run.server = server;
     run
 }
 

@@ -16,6 +16,7 @@ use crate::changes::offer;
 use crate::changes::stall_begun;
 use crate::changes::with_metrics;
 use crate::changes::with_offer;
+use crate::changes::with_server;
 use crate::changes::with_state;
 use crate::ends::done;
 use crate::ends::handing;
@@ -38,8 +39,10 @@ pub(crate) fn back(run: Run) -> Run
 pub(crate) fn offers(event: Event, stops: bool, reached: Lsn, run: Run) -> Run
     ensures { λ r. ⌜ r ≡ offers event stops reached run ⌝ }
 {
+    let metrics = run.metrics;
+    let told = metrics.last_wal_end;
     let first = offer(event, false, stops, reached);
-    with_state(State::Offering, with_offer(first, run))
+    with_state(State::Offering, with_server(told, with_offer(first, run)))
 }
 
 fn reaches(run: Run, position: Lsn) -> bool

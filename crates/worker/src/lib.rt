@@ -142,6 +142,8 @@ pub struct Run {
     pub whole: Whole,
     pub offer: Offer,
     pub metrics: Metrics,
+    // The server's end that the last message told which was handled without refusal.
+    pub server: Lsn,
 }
 
 // Whether a call was accepted, or why it was not.

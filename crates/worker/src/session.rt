@@ -64,6 +64,7 @@ fn fresh_run(settings: Settings, state: State, start: Lsn) -> Run
         whole,
         offer,
         metrics,
+        server: Lsn(0),
     }
 }
 

@@ -20,6 +20,7 @@ struct PollFd {
 const POLLIN: i16 = 1;
 const POLLOUT: i16 = 4;
 const SIGINT: c_int = 2;
+const SIGUSR1: c_int = 10;
 const SIGTERM: c_int = 15;
 const F_GETFD: c_int = 1;
 const F_GETFL: c_int = 3;
@@ -70,6 +71,7 @@ pub fn standard_output() -> io::Result<File> {
 }
 
 static STOP: AtomicBool = AtomicBool::new(false);
+static PAGE: AtomicBool = AtomicBool::new(false);
 static WAKE: AtomicI32 = AtomicI32::new(-1);
 
 extern "C" fn on_signal(_: c_int) {
@@ -83,6 +85,16 @@ extern "C" fn on_signal(_: c_int) {
 /// Whether the user asked to stop.
 pub fn stop_requested() -> bool {
     STOP.load(Ordering::SeqCst)
+}
+
+extern "C" fn on_page(_: c_int) {
+    PAGE.store(true, Ordering::SeqCst);
+    wake();
+}
+
+/// Whether the user asked for the service page since this was last looked at.
+pub fn page_requested() -> bool {
+    PAGE.swap(false, Ordering::SeqCst)
 }
 
 /// Ends a wait of the main thread; also called by the signal handler, so it only writes a byte.
@@ -100,16 +112,17 @@ pub struct Waiter {
 }
 
 impl Waiter {
-    /// Takes over Ctrl-C and SIGTERM; there is one waiter in the process.
+    /// Takes over Ctrl-C, SIGTERM and SIGUSR1; there is one waiter in the process.
     pub fn new() -> io::Result<Waiter> {
         let (woken, waker) = UnixStream::pair()?;
         woken.set_nonblocking(true)?;
         waker.set_nonblocking(true)?;
         WAKE.store(waker.into_raw_fd(), Ordering::SeqCst);
-        // SAFETY: the handler touches atomics and calls write or _exit alone.
+        // SAFETY: the handlers touch atomics and call write or _exit alone.
         unsafe {
             signal(SIGINT, on_signal);
             signal(SIGTERM, on_signal);
+            signal(SIGUSR1, on_page);
         }
         Ok(Waiter { woken })
     }

@@ -32,8 +32,18 @@ How:
       --help                   print this
   -V, --version                print the version
 
-Ctrl-C stops: what was printed is confirmed first. A second Ctrl-C ends at once.
-Exit status: 0 stopped, --endpos reached, or with --no-loop the server ended the stream; 1 connection or server error; 2 bad options; 3 to 25 the refusal of that number.
+Ctrl-C stops: what was printed is confirmed first. A second Ctrl-C ends at once. SIGUSR1 prints a page on standard
+error, also while the server is waited for, and following goes on:
+
+  POSITION               0/19A3570     what would be confirmed now
+  SENT                   0/19A3570     what was confirmed last; a hyphen before the first time
+  SERVER                 0/19A3570     how far the server is
+  EVENTS                         5     handed on
+  STALLS                         0     how often a full pipe had to be waited for
+  STATE                    WAITING     of the stream
+
+Exit status: 0 stopped, --endpos reached, or with --no-loop the server ended the stream; 1 connection or server error;
+2 bad options; 3 to 25 the refusal of that number.
 ";
 
 /// What the command line asks for.

@@ -5,7 +5,8 @@ use crate::ffi;
 use crate::link::Link;
 use crate::print::Item;
 use crate::startup::Talk;
-use rufflesquash::{Event, Input, Lsn, Moment, NextStep, Refusal, Run, Settings, State, STEP_OUTPUT};
+use rufflesquash::{Event, Input, Lsn, Moment, NextStep, Refusal, Run, Settings, State, PAGE, STEP_OUTPUT};
+use std::io::{self, Write};
 use std::time::{Duration, Instant, SystemTime, UNIX_EPOCH};
 
 const PIECE: usize = 131_072;
@@ -89,6 +90,9 @@ impl<'a> Session<'a> {
     fn steps(&mut self, outbox: &mut Outbox, totals: &mut Totals) -> Result<(), Failure> {
         let mut out = [0; STEP_OUTPUT];
         loop {
+            if ffi::page_requested() {
+                self.show_page();
+            }
             let done = outbox.position();
             if done > self.run.position() {
                 self.run.report_all(done, self.clock.now());
@@ -117,6 +121,13 @@ impl<'a> Session<'a> {
             }
             self.pause(outbox);
         }
+    }
+
+    // The service page on standard error; where that cannot be written the program goes on without it.
+    fn show_page(&self) {
+        let mut page = [0; PAGE];
+        let n = self.run.page(&mut page).unwrap_or(0);
+        let _ = io::stderr().write_all(&page[..n]);
     }
 
     // Up to four steps of the run; answers how many bytes are to be sent.

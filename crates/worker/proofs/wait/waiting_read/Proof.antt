@@ -13,7 +13,10 @@ returns c =
     rw (← at-read .read .ensures, ← at-with-reader .with-reader .ensures)
     (c .having .ensures _ (a .payload .now) _ ∙ having-same _ _ (c .before .before .before .waiting-by .ensures (a .unread .now) (a .payload .now)))
 
+same-length : tie.Need-same-length
+same-length c = c .before .before .before .before .before .before .before .before .before .read .kept .1 .1 .1 .1 .0
+
 pub waiting-read-spec : {M : Type 1} → statement M
 waiting-read-spec =
     tie.close
-    (tie.spec (search needs) (search needs) (search needs) (search needs) (search needs) (search needs) returns)
+    (tie.spec (search needs) (search needs) (search needs) (search needs) same-length (search needs) returns)

@@ -1,0 +1,2 @@
+pub mod PageShown
+pub mod ShownCases
