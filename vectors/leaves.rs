@@ -81,6 +81,13 @@ impl Vectors {
         self.marked_around(b'l', text, shown.as_bytes(), marks(text));
     }
 
+    /// How far the text is well-formed.
+    fn prefix(&mut self, text: &[u8]) {
+        self.record(b'w', 0, 0, text);
+        let length = std::str::from_utf8(text).map_or_else(|e| e.valid_up_to(), str::len);
+        writeln!(self.lines, "w {length}").unwrap();
+    }
+
     fn lossy_roomy(&mut self, text: &[u8]) {
         self.lossy(text, 3 * text.len(), 0x5A);
     }
@@ -242,6 +249,7 @@ fn lossy_texts(v: &mut Vectors, draw: &mut Draw) {
     ];
     for text in standard {
         v.lossy_around(text);
+        v.prefix(text);
         for n in 0..text.len() {
             v.lossy_roomy(&text[..n]);
         }
@@ -257,7 +265,9 @@ fn lossy_texts(v: &mut Vectors, draw: &mut Draw) {
     ];
     for text in own {
         v.lossy_around(text);
+        v.prefix(text);
     }
+    prefixes(v);
     for b in 0..=255u8 {
         v.lossy_around(&[b]);
     }
@@ -268,6 +278,20 @@ fn lossy_texts(v: &mut Vectors, draw: &mut Draw) {
     v.lossy(&vec![0x80; 21_845], 65_535, 0x11);
     v.lossy(&vec![0x80; 21_846], 65_536, 0x11);
     v.lossy(&vec![b'x'; 65_536], 65_536, 0x11);
+}
+
+/// Well-formed characters of every length, cut at every byte, and before and after ill-formed ones.
+fn prefixes(v: &mut Vectors) {
+    let text = "a\u{7F}ä\u{7FF}€\u{FFFD}\u{10FFFF}z".as_bytes();
+    for n in 0..=text.len() {
+        v.prefix(&text[..n]);
+        v.prefix(&[&text[..n], &[0xFF], text].concat());
+    }
+    for first in [0x7F, 0x80, 0xC1, 0xC2, 0xE0, 0xED, 0xEF, 0xF0, 0xF4, 0xF5] {
+        for second in [0x7F, 0x80, 0x8F, 0x90, 0x9F, 0xA0, 0xBF, 0xC0] {
+            v.prefix(&[first, second, 0x80, 0x80]);
+        }
+    }
 }
 
 /// Every boundary of the well-formed ranges, at each byte of a sequence.

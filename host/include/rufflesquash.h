@@ -25,7 +25,7 @@ extern "C" {
 #endif
 
 /* The number of this list and of the functions; it grows with every change of either. */
-#define RUFFLESQUASH_ABI 5
+#define RUFFLESQUASH_ABI 6
 
 /* Settings: intervals are nanoseconds, a flag is true unless 0. */
 #define RUFFLESQUASH_SETTINGS_WORDS 7
@@ -325,6 +325,8 @@ uint64_t rufflesquash_page(const uint64_t run[RUFFLESQUASH_RUN_WORDS], uint8_t *
  * in, one for each ill-formed part of the texts that are shown, 0 where refused; one that was in the text already is not counted. */
 
 uint64_t rufflesquash_lossy(const uint8_t *text, size_t text_len, uint8_t *out, size_t out_len, uint64_t *written, uint64_t *marks);
+/* The length of the longest well-formed beginning of a text of any length. No writer: it refuses nothing. */
+uint64_t rufflesquash_well_formed_prefix(const uint8_t *text, size_t text_len);
 uint64_t rufflesquash_error_text(const uint8_t *payload, size_t payload_len, uint8_t *out, size_t out_len, uint64_t *written,
                                  uint64_t *marks);
 uint64_t rufflesquash_display_position(uint64_t position, uint8_t *out, size_t out_len, uint64_t *written);

@@ -8,7 +8,7 @@
 #![allow(dead_code)]
 
 // ---- the number of this list and of the functions; it grows with every change of either
-pub const ABI: u64 = 5;
+pub const ABI: u64 = 6;
 
 // ---- settings: intervals are nanoseconds, a flag is true unless 0
 pub const SETTINGS_WORDS: usize = 7;
@@ -307,6 +307,8 @@ extern "C" {
 
     pub fn rufflesquash_lossy(text: *const u8, text_len: usize, out: *mut u8, out_len: usize, written: *mut u64, marks: *mut u64) -> u64;
 
+    pub fn rufflesquash_well_formed_prefix(text: *const u8, text_len: usize) -> u64;
+
     pub fn rufflesquash_error_text(payload: *const u8, payload_len: usize, out: *mut u8, out_len: usize, written: *mut u64, marks: *mut u64) -> u64;
 
     pub fn rufflesquash_page(run: *const [u64; RUN_WORDS], out: *mut u8, out_len: usize, written: *mut u64) -> u64;
@@ -523,6 +525,11 @@ fn shown(call: Showing, from: &[u8], out: &mut [u8]) -> Shown {
 
 pub fn lossy(text: &[u8], out: &mut [u8]) -> Shown {
     shown(rufflesquash_lossy, text, out)
+}
+
+pub fn well_formed_prefix(text: &[u8]) -> u64 {
+    // SAFETY: the slice is lent whole.
+    unsafe { rufflesquash_well_formed_prefix(text.as_ptr(), text.len()) }
 }
 
 pub fn error_text(payload: &[u8], out: &mut [u8]) -> Shown {

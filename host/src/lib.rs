@@ -64,6 +64,15 @@ pub fn lossy(text: &[u8], out: &mut [u8]) -> Result<Lossy, Refusal> {
     shown(ffi::lossy(text, out))
 }
 
+/// The length of the longest well-formed beginning of a text of any length: the largest n whose first n bytes are UTF-8.
+///
+/// ```
+/// assert_eq!(rufflesquash::well_formed_prefix(b"gr\xC3\xBC\xC3"), 4);
+/// ```
+pub fn well_formed_prefix(text: &[u8]) -> usize {
+    ffi::well_formed_prefix(text) as usize
+}
+
 /// Writes the text of the error that an ErrorResponse's payload holds over the front of `out`, and answers its length and the marks of the
 /// message and the code, which are all that it shows. Refused (25, 4), `out` is as it was.
 pub fn error_text(payload: &[u8], out: &mut [u8]) -> Result<Lossy, Refusal> {

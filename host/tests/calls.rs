@@ -3,9 +3,7 @@
 mod common;
 
 use common::*;
-use rufflesquash::{lossy, AuthRequest, Column, DataRow, Event, Lsn, Metrics, Moment, NextStep};
-use rufflesquash::{ProgressCell, Queue, Run, Settings, State};
-use rufflesquash::{error_text, lossy, AuthRequest, Column, DataRow, Event, Lossy, Lsn, Metrics, Moment, NextStep};
+use rufflesquash::{error_text, lossy, well_formed_prefix, AuthRequest, Column, DataRow, Event, Lossy, Lsn, Metrics, Moment, NextStep};
 use rufflesquash::{ProgressCell, Queue, Refusal, Run, Settings, State, PAGE};
 use std::time::Duration;
 
@@ -253,6 +251,17 @@ fn marks_are_the_ill_formed_parts_that_are_shown() {
     assert_eq!(marks(b"M\xFF\xFF\0Ma\0"), Ok(0));
     assert_eq!(marks(b"C\xFF\0"), Ok(1));
     assert_eq!(marks(b"D\xFF\0"), Ok(0));
+}
+
+#[test]
+fn a_well_formed_beginning_of_any_length() {
+    let long = "żółw ".repeat(300_000);
+    let cut = &long.as_bytes()[..long.len() - 2];
+    let texts: [&[u8]; 8] = [b"", b"a", b"\xE2\x82", b"a\xFFb", "\u{fffd}".as_bytes(), b"\xEF\xBF\xBD\xC2", long.as_bytes(), cut];
+    for text in texts {
+        let expected = std::str::from_utf8(text).map_or_else(|e| e.valid_up_to(), str::len);
+        assert_eq!(well_formed_prefix(text), expected);
+    }
 }
 
 #[test]

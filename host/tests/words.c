@@ -769,7 +769,12 @@ static void texts(void) {
     SAME(n, 0);
     SAME(marks, 0);
     BYTES(room, "FFFFFFFF/FFFFFFFF", 17);
+    SAME(rufflesquash_well_formed_prefix((const uint8_t *)"a\xE2\x82\xACz\xE2\x82", 7), 5);
+    SAME(rufflesquash_well_formed_prefix((const uint8_t *)"\xE2\x82", 2), 0);
+    SAME(rufflesquash_well_formed_prefix((const uint8_t *)"\xEF\xBF\xBD", 3), 3);
     static uint8_t too_long[1048577];
+    memset(too_long, 'a', sizeof too_long);
+    SAME(rufflesquash_well_formed_prefix(too_long, sizeof too_long), sizeof too_long);
     memset(too_long, 0xFF, sizeof too_long);
     n = 9, marks = 9;
     SAME(rufflesquash_lossy(too_long, sizeof too_long, room, 0, &n, &marks), 25);
@@ -1058,6 +1063,7 @@ static void null_pointers_elsewhere(void) {
     uint64_t n = 9, marks = 9, request[R(AUTH_WORDS)], part[R(FIELD_WORDS)], column[R(COLUMN_WORDS)], fold[R(FOLD_WORDS)], read[R(READ_WORDS)];
     uint64_t query[R(QUERY_WORDS)] = {0}, reader[R(READER_WORDS)] = {0};
     uint8_t room[128];
+    SAME(rufflesquash_well_formed_prefix(NULL, 0), 0);
     SAME(rufflesquash_lossy(NULL, 0, NULL, 0, &n, &marks), 0);
     SAME(n, 0);
     SAME(marks, 0);

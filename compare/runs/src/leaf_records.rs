@@ -24,7 +24,7 @@ pub trait Leaves {
 }
 
 /// The kinds of records.
-const KINDS: &[u8] = b"pdlefacbrqytzxosgm";
+const KINDS: &[u8] = b"pdlwefacbrqytzxosgm";
 
 // ---- records
 

@@ -43,6 +43,11 @@ pub fn lossy(text: &[u8]) -> String {
     String::from_utf8_lossy(text).into_owned()
 }
 
+/// How far a text is well-formed: the standard library's, which is what its lossy text copies first.
+pub fn well_formed_prefix(text: &[u8]) -> usize {
+    std::str::from_utf8(text).map_or_else(|e| e.valid_up_to(), str::len)
+}
+
 /// How many U+FFFD that put in. The Rust has no count: the standard library's own parts of a text are counted.
 pub fn marks(text: &[u8]) -> usize {
     text.utf8_chunks().filter(|chunk| !chunk.invalid().is_empty()).count()

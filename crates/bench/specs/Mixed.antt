@@ -2,6 +2,10 @@
 use Prim.Native.Nat.{ℕ, _+_, _%_, _^_}
 use mathlib.Core.Bool.{Bool, true, false}
 use mathlib.Core.List.{List}
+use lib.ListN.{length}
+use Rattle.error.specs.Writer.{writing}
+use Rattle.lossy.specs.Lossy.{lossyOf}
+use Rattle.lossy.specs.Marks.{marksOf, withMarks}
 use Rattle.framing.specs.Read.{readOf, fresh}
 use Rattle.replication.specs.CopyData as C
 use Rattle.pgoutput.specs.Boundary as B
@@ -29,3 +33,7 @@ boundaryMixed (B.refused n) = n
 -- how many bytes a fresh reader takes of a first message, and the payload buffer after it
 abbrev pub readTaken : ℕ → List ℕ → List ℕ → ℕ × List ℕ
 readTaken limit u p = let x = readOf limit fresh u false p in (x .2, x .3)
+
+-- how many bytes of a lossy text were written, and the output after that
+abbrev pub lossyWritten : List ℕ → List ℕ → ℕ × List ℕ
+lossyWritten text out = let w = withMarks (marksOf text) (writing (length text) (lossyOf text) out) in (w .0 .1, w .1)

@@ -1,9 +1,11 @@
-// Functions for the benchmark to link: one read by a fresh reader, a CopyData, a boundary.
+// Functions for the benchmark to link: one read by a fresh reader, a CopyData, a boundary, a lossy text, a well-formed beginning.
 ghost use mathlib.Core.Path.{_≡_};
 ghost use Rattle.replication.specs.CopyData.{copyDataOf, saidBy as copySaid};
 ghost use Rattle.pgoutput.specs.Boundary.{boundaryOf, saidBy as boundarySaid};
-ghost use Rattle.bench.specs.Mixed.{plus, bit, copyMixed, boundaryMixed, readTaken};
+ghost use Rattle.lossy.specs.Stretch.{stretchOf};
+ghost use Rattle.bench.specs.Mixed.{plus, bit, copyMixed, boundaryMixed, readTaken, lossyWritten};
 use framing::MessageReader;
+use lossy::Lossy;
 use pgoutput::Boundary;
 use replication::CopyData;
 
@@ -90,4 +92,22 @@ pub extern "C" fn bench_boundary(bytes: &[u8]) -> u64
     ensures { λ r. ⌜ r ≡ boundaryMixed (boundaryOf (now (bytes .entry))) ⌝ }
 {
     boundary_number(pgoutput::parse_pgoutput_boundary(bytes))
+}
+
+// How long the lossy text is that stands at the front of out, 0 where it is refused.
+#[no_mangle]
+pub extern "C" fn bench_lossy(text: &[u8], out: &mut [u8]) -> usize
+    ensures { λ r. ⌜ (r, now (out .exit)) ≡ lossyWritten (now (text .entry)) (now (out .entry)) ⌝ }
+{
+    match lossy::write_lossy(text, out) {
+        Lossy::Wrote { bytes, marks: _ } => bytes,
+        Lossy::Refused(_) => 0,
+    }
+}
+
+#[no_mangle]
+pub extern "C" fn bench_well_formed_prefix(text: &[u8]) -> usize
+    ensures { λ r. ⌜ r ≡ stretchOf (now (text .entry)) ⌝ }
+{
+    lossy::well_formed_prefix(text)
 }

@@ -10,6 +10,7 @@ ghost use lib.ListN.{length};
 ghost use Rattle.error.specs.Writer.{writing};
 ghost use Rattle.lossy.specs.Lossy.{lossyOf};
 ghost use Rattle.lossy.specs.Marks.{marksOf, withMarks};
+ghost use Rattle.lossy.specs.Stretch.{stretchOf};
 ghost use Rattle.lsn.specs.Position.{displayOf, positionOf};
 ghost use Rattle.messages.specs.ErrorText.{errorText, errorMarks};
 ghost use Rattle.messages.specs.Fields.{fieldsOf};
@@ -268,6 +269,14 @@ pub extern "C" fn rufflesquash_lossy(
     *written = reply.written;
     *marks = reply.marks;
     reply.refusal
+}
+
+// How far a text of any length is well-formed.
+#[no_mangle]
+pub extern "C" fn rufflesquash_well_formed_prefix(text: &[u8]) -> u64
+    ensures { λ r. ⌜ r ≡ stretchOf (now (text .entry)) ⌝ }
+{
+    lossy::well_formed_prefix(text) as u64
 }
 
 // The text of the error that a payload holds, and how many marks were put in.

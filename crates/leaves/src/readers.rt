@@ -107,6 +107,7 @@ pub(crate) fn after_fields(kind: u8, input: &[u8], line: &mut [u8]) -> usize {
         b'f' => fields(line, input),
         b'r' => rows::row(line, input),
         b'm' => session::simple(line, input),
+        b'w' => lines::number(line, 1, lossy::well_formed_prefix(input) as u64),
         _ => 0,
     }
 }

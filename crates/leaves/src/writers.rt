@@ -1,5 +1,8 @@
 // Kinds of records whose line is a writer's: the refusal, how many bytes were written, the sum of the output, and the bytes; of a lossy text its
 // marks, too.
+ghost use mathlib.Core.Path.{_≡_};
+ghost use mathlib.Core.List.{_++_};
+ghost use Rattle.lines.specs.Line.{pieces, numberTexts, sumOf, partTexts};
 use crate::names;
 use error::Written;
 use lines::fields;
@@ -100,7 +103,12 @@ fn write(kind: u8, input: &[u8], out: &mut [u8]) -> Answer {
     }
 }
 
-fn spelled(line: &mut [u8], refusal: u8, count: usize, out: &[u8]) -> usize {
+// The refusal, how many bytes were written, the sum of the whole output, and the bytes that were written.
+fn spelled(line: &mut [u8], refusal: u8, count: usize, out: &[u8]) -> usize
+    ensures { λ r. ⌜ (r, now (line .exit))
+        ≡ pieces (now (line .entry)) 1
+        (numberTexts refusal ++ (numberTexts count ++ (numberTexts (sumOf (now (out .entry))) ++ partTexts (now (out .entry)) 0 count))) ⌝ }
+{
     let a = lines::number(line, 1, refusal as u64);
     let b = lines::number(line, a, count as u64);
     let c = lines::number(line, b, lines::sum(out));

@@ -15,6 +15,7 @@ use Rattle.wire.proofs.Laws.{impossible}
 use Rattle.lossy.specs.WellFormed.{Range, table, rowOf, matched}
 use Rattle.lossy.specs.Lossy.{Part, well, ill, partBy, bytesOf, partsOf, shown, shownAll, lossyOf}
 use Rattle.lossy.specs.Marks.{marksIn, marksAll, marksOf, measured, measureOf, withMarks}
+use Rattle.lossy.specs.Stretch.{stretchAll, stretchOf}
 use Rattle.lossy.specs.declared.Measured.{Measured}
 use Rattle.lossy.specs.declared.Measured.the-variants.{Fits, Over}
 
@@ -91,6 +92,30 @@ marks-next b s = ap marksAll (parts-next b s)
 
 pub marks-end : (s : List ℕ) (i : ℕ) → length s ≤ i → marksOf (drop i s) ≡ 0
 marks-end s i h = rw (drop-of-length-le s h) marks-none
+
+-- ---- the stretch before the first ill-formed part
+
+pub stretch-none : stretchOf [] ≡ 0
+unfolding stretchOf partsOf stretchAll
+stretch-none = refl
+
+-- a stretch that begins with a part, by the stretch after it
+abbrev pub stretchPart : Part → ℕ → ℕ
+stretchPart (well x) n = length x + n
+stretchPart (ill x) n = 0
+
+stretch-parts : (p : Part) (ps : List Part) → stretchAll (p ∷ ps) ≡ stretchPart p (stretchAll ps)
+unfolding stretchAll
+stretch-parts (well x) ps = refl
+stretch-parts (ill x) ps = refl
+
+pub stretch-next : (b : ℕ) (s : List ℕ) → let p : Part = partBy (rowOf table b) (b ∷ s) in
+    stretchOf (b ∷ s) ≡ stretchPart p (stretchOf (drop (length (bytesOf p)) (b ∷ s)))
+unfolding stretchOf
+stretch-next b s =
+    let p : Part = partBy (rowOf table b) (b ∷ s) in
+    let t : List ℕ = drop (length (bytesOf p)) (b ∷ s) in
+    ap stretchAll (parts-next b s) ∙ stretch-parts p (partsOf (length t) t)
 
 -- ---- a length within a room, and marks
 

@@ -40,7 +40,7 @@ apart [] = true
 apart ([] ∷ rows) = false
 apart ((r ∷ rs) ∷ rows) = both (before r rows) (apart rows)
 
-table-apart : apart table ≡ true
+pub table-apart : apart table ≡ true
 unfolding table
 table-apart = refl
 
@@ -157,7 +157,7 @@ matched-front (r ∷ rs) (b ∷ q) rest w =
 
 -- ---- the only row of a first byte
 
-sequence-row : (b : ℕ) (t : List ℕ) → Sequence (b ∷ t) → Matches (rowOf table b) (b ∷ t)
+pub sequence-row : (b : ℕ) (t : List ℕ) → Sequence (b ∷ t) → Matches (rowOf table b) (b ∷ t)
 sequence-row b t w =
     let v = any-some table (λ row. Matches row (b ∷ t)) w in
     rw (row-found table b (v .0) table-apart (v .1) (first-matches (v .0) b t (v .2))) (v .2)
@@ -167,7 +167,7 @@ beginning-row b t w =
     let v = any-some table (λ row. Begins row (b ∷ t)) w in
     rw (row-found table b (v .0) table-apart (v .1) (first-begins (v .0) b t (v .2))) (v .2)
 
-none-empty : (rows : List (List Range)) → apart rows ≡ true → AnyRow rows (λ row. Matches row []) → ⊥
+pub none-empty : (rows : List (List Range)) → apart rows ≡ true → AnyRow rows (λ row. Matches row []) → ⊥
 none-empty [] e w = w
 none-empty ([] ∷ rows) e w = impossible cc
 none-empty ((r ∷ rs) ∷ rows) e (inl w) = w
@@ -247,7 +247,7 @@ module _ (b : ℕ) (s : List ℕ) where
 
 -- ---- all parts
 
-front-joined : (k : ℕ) (l x : List ℕ) → x ≡ take k l → x ++ drop (length x) l ≡ l
+pub front-joined : (k : ℕ) (l x : List ℕ) → x ≡ take k l → x ++ drop (length x) l ≡ l
 front-joined k l x e =
     by-test (leb k (length l))
     (λ t.
@@ -290,7 +290,7 @@ parts-are-right s = (joined-parts (length s) s (omega arith), right-parts (lengt
 
 -- ---- well-formed text
 
-sequence-part : (row : List Range) (b : ℕ) (t rest : List ℕ) → Matches row (b ∷ t) → partBy row ((b ∷ t) ++ rest) ≡ well (b ∷ t)
+pub sequence-part : (row : List Range) (b : ℕ) (t rest : List ℕ) → Matches row (b ∷ t) → partBy row ((b ∷ t) ++ rest) ≡ well (b ∷ t)
 sequence-part [] b t rest w = absurd w
 sequence-part (r ∷ rs) b t rest w =
     let m = matched-front (r ∷ rs) (b ∷ t) rest w in

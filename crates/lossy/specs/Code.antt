@@ -8,7 +8,9 @@ use Rattle.wire.specs.Bytes.{pick}
 use Rattle.lossy.specs.WellFormed.{Range, table, rowOf, within}
 use Rattle.lossy.specs.Lossy.{Part, well, ill, partBy}
 use Rattle.lossy.specs.declared.part.Part.{Part as Cut}
+use Rattle.lossy.specs.Stretch.{stretchOf}
 use Rattle.lossy.specs.declared.part.Lead.{Lead}
+use Rattle.lossy.specs.declared.Stretch.{Stretch}
 
 -- whether a row has a first byte, and the ranges after it
 abbrev pub behindFirst : List Range → Bool × List Range
@@ -33,3 +35,9 @@ pub record PartAt (s : List ℕ) (i : ℕ) (p : Cut) : Type 0 where
   pub is : partBy (rowOf table (getD s i 0)) (drop i s) ≡ partFound p (drop i s)
   pub some : 1 ≤ p .len
   pub ends : i + p .len ≤ length s
+
+-- t says where the stretch of well-formed parts from the place on ends, and how long the ill-formed part there is, 0 at the text's end
+pub record StretchAt (s : List ℕ) (i : ℕ) (t : Stretch) : Type 0 where
+  pub is : t .end ≡ i + stretchOf (drop i s)
+  pub last : t .ill ≡ 0 → t .end ≡ length s
+  pub behind : 1 ≤ t .ill → PartAt s (t .end) (record { len = t .ill; well = false })

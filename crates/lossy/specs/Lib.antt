@@ -1,6 +1,7 @@
 pub mod WellFormed
 pub mod Lossy
 pub mod Marks
-pub mod Code
 pub mod Parts
+pub mod Stretch
+pub mod Code
 pub mod Encoding

@@ -65,6 +65,10 @@ lossyOutcome (Refused r) = (numberOf r, 0, 0)
 abbrev pub Marks-are-seen : Type 0
 Marks-are-seen = (s : List ℕ) → seen (lossyOf s) ≡ seen s + marksOf s
 
+-- a text without marks is its own lossy text
+abbrev pub Unmarked-is-unchanged : Type 0
+Unmarked-is-unchanged = (s : List ℕ) → marksOf s ≡ 0 → lossyOf s ≡ s
+
 -- a mark has three bytes
 abbrev pub Marks-fit : Type 0
 Marks-fit = (s : List ℕ) → 3 * marksOf s ≤ length (lossyOf s)

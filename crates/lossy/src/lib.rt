@@ -3,12 +3,13 @@ mod part;
 
 ghost use mathlib.Core.Path.{_≡_};
 ghost use Prim.Native.Nat.{_+_, _≤_};
-ghost use lib.ListN.{length, drop};
+ghost use lib.ListN.{length};
 ghost use Rattle.wire.specs.Bytes.{placed, put};
 ghost use Rattle.error.specs.Writer.{writing, counted, countOf};
-ghost use Rattle.lossy.specs.Lossy.{lossyOf, shown};
+ghost use Rattle.lossy.specs.Lossy.{lossyOf};
 ghost use Rattle.lossy.specs.Marks.{marksOf, measured, measureOf, withMarks, lossyOutcome};
-ghost use Rattle.lossy.specs.Code.{partFound};
+ghost use Rattle.lossy.specs.Stretch.{stretchOf};
+ghost use Rattle.lossy.specs.Code.{StretchAt};
 use error::Counted;
 use error::INPUT_LIMIT;
 use error::Refusal;
@@ -26,6 +27,35 @@ pub enum Measured {
     Over,
 }
 
+// Where the well-formed parts that begin at a place end, and how long the ill-formed part is that stands there: 0 at the end of the text.
+struct Stretch {
+    end: usize,
+    ill: usize,
+}
+
+// How far the text is well-formed from a place on.
+fn stretch_from(text: &[u8], from: usize) -> Stretch
+    requires { ⌜ from ≤ length (now text) ⌝ }
+    ensures { λ r. ⌜ StretchAt (now (text .entry)) from r ⌝ }
+{
+    let mut i = from;
+    while i < text.len() {
+        let p = part::part_at(text, i);
+        if !p.well {
+            return Stretch { end: i, ill: p.len };
+        }
+        i += p.len;
+    }
+    Stretch { end: i, ill: 0 }
+}
+
+// The length of the longest well-formed beginning of a text of any length.
+pub fn well_formed_prefix(text: &[u8]) -> usize
+    ensures { λ r. ⌜ r ≡ stretchOf (now (text .entry)) ⌝ }
+{
+    stretch_from(text, 0).end
+}
+
 // The length of the lossy text, where that is at most room, and the marks that are put in.
 pub fn measure(text: &[u8], room: usize) -> Measured
     ensures { λ r. ⌜ measureOf r ≡ measured room (length (lossyOf (now (text .entry)))) (marksOf (now (text .entry))) ⌝ }
@@ -34,14 +64,21 @@ pub fn measure(text: &[u8], room: usize) -> Measured
     let mut marks: usize = 0;
     let mut i: usize = 0;
     while i < text.len() {
-        let p = part::part_at(text, i);
-        let n = part::shown_len(p);
+        let t = stretch_from(text, i);
+        let n = t.end - i;
         if room - bytes < n {
             return Measured::Over;
         }
-        bytes += n;
-        marks += part::marks(p);
-        i += p.len;
+        if t.ill == 0 {
+            bytes += n;
+            return Measured::Fits { bytes, marks };
+        }
+        if room - bytes - n < 3 {
+            return Measured::Over;
+        }
+        bytes += n + 3;
+        marks += 1;
+        i = t.end + t.ill;
     }
     Measured::Fits { bytes, marks }
 }
@@ -56,19 +93,7 @@ pub fn count(text: &[u8], room: usize) -> Counted
     }
 }
 
-// What a part of the text becomes, at the place where it fits, and the place after it.
-fn place_part(out: &mut [u8], at: usize, text: &[u8], i: usize, p: part::Part) -> usize
-    requires { ⌜ i + p .len ≤ length (now text) ⌝ }
-    ensures { λ r. ⌜ (r, now (out .exit)) ≡ placed (now (out .entry)) at (shown (partFound p (drop i (now (text .entry))))) ⌝ }
-{
-    let n = p.len;
-    if p.well {
-        return wire::store::place(out, at, &text[i..i + n]);
-    }
-    wire::store::place(out, at, b"\xEF\xBF\xBD")
-}
-
-// The lossy text over out from `to` on.
+// The lossy text over out from `to` on: a well-formed stretch as it is, one mark for what ends it, and so on.
 fn fill(out: &mut [u8], to: usize, text: &[u8])
     requires { ⌜ to + length (lossyOf (now text)) ≤ length (now out) ⌝ }
     ensures { λ _. ⌜ now (out .exit) ≡ put (now (out .entry)) to (lossyOf (now (text .entry))) ⌝ }
@@ -76,9 +101,14 @@ fn fill(out: &mut [u8], to: usize, text: &[u8])
     let mut at = to;
     let mut i: usize = 0;
     while i < text.len() {
-        let p = part::part_at(text, i);
-        at = place_part(out, at, text, i, p);
-        i += p.len;
+        let t = stretch_from(text, i);
+        let end = t.end;
+        at = wire::store::place(out, at, &text[i..end]);
+        if t.ill == 0 {
+            return;
+        }
+        at = wire::store::place(out, at, b"\xEF\xBF\xBD");
+        i = end + t.ill;
     }
 }
 
@@ -96,7 +126,7 @@ pub fn place(out: &mut [u8], to: usize, text: &[u8]) -> usize
     to + n
 }
 
-// The lossy text over the front of out, and its marks.
+// The lossy text over the front of out, and its marks. A text without marks is well-formed to its end, and copied whole without a second walk.
 pub fn write_lossy(text: &[u8], out: &mut [u8]) -> Lossy
     ensures { λ r. ⌜ (lossyOutcome r, now (out .exit)) ≡ withMarks (marksOf (now (text .entry))) (writing (length (now (text .entry))) (lossyOf (now (text .entry))) (now (out .entry))) ⌝ }
 {
@@ -106,6 +136,10 @@ pub fn write_lossy(text: &[u8], out: &mut [u8]) -> Lossy
     let Measured::Fits { bytes, marks } = measure(text, out.len()) else {
         return Lossy::Refused(Refusal::OutputTooShort);
     };
+    if marks == 0 {
+        wire::store::place(out, 0, text);
+        return Lossy::Wrote { bytes, marks };
+    }
     fill(out, 0, text);
     Lossy::Wrote { bytes, marks }
 }

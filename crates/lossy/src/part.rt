@@ -3,7 +3,6 @@ ghost use mathlib.Core.Path.{_≡_};
 ghost use mathlib.Core.Bool.{true, false};
 ghost use Prim.Native.Nat.{_≤_, _<_};
 ghost use lib.ListN.{length, drop};
-ghost use Rattle.wire.specs.Bytes.{pick};
 ghost use Rattle.lossy.specs.WellFormed.{table, rowOf, matched};
 ghost use Rattle.lossy.specs.Code.{behindFirst, trail, firstIn, PartAt};
 
@@ -129,18 +128,4 @@ pub(crate) fn part_at(s: &[u8], at: usize) -> Part
         len: 1 + n,
         well: n == l.due,
     }
-}
-
-// The length of what a part becomes.
-pub(crate) fn shown_len(p: Part) -> usize
-    ensures { λ r. ⌜ r ≡ pick (p .well) (p .len) 3 ⌝ }
-{
-    if p.well { p.len } else { 3 }
-}
-
-// The marks that stand for a part.
-pub(crate) fn marks(p: Part) -> usize
-    ensures { λ r. ⌜ r ≡ pick (p .well) 0 1 ⌝ }
-{
-    if p.well { 0 } else { 1 }
 }

@@ -3,7 +3,7 @@
 // gate holds the three together. What the words mean is said in crate `meaning`.
 
 // The number of this list and of the exported functions; it grows with every change of either.
-pub const ABI: u64 = 5;
+pub const ABI: u64 = 6;
 
 // ---- settings: intervals are nanoseconds, a flag is true unless 0
 pub const SETTINGS_WORDS: usize = 7;

@@ -18,11 +18,9 @@ const RANDOM: usize = 1_000;
 /// A smaller limit, so that the sums of the payload buffer take no time. Neither reports nor time inside steps, which may leave the domain.
 fn small(mut s: Scenario) -> Option<Scenario> {
     s.limit = s.limit.min(1_000);
-    s.rounds.iter_mut().for_each(|round| round.during.retain(|(_, what)| !matches!(what, Happening::Report(_) | Happening::Pass(_))));
     s.rounds
         .iter_mut()
         .for_each(|round| round.during.retain(|(_, what)| !matches!(what, Happening::Report(_) | Happening::File(..) | Happening::Pass(_))));
-    s.rounds.iter_mut().for_each(|round| round.during.retain(|(_, what)| !matches!(what, Happening::Report(_) | Happening::File(..) | Happening::Pass(_))));
     let names: usize = s.slot.len() + s.publications.iter().map(String::len).sum::<usize>();
     (names <= 100 && s.in_domain() && s.sound().is_ok()).then_some(s)
 }

@@ -50,8 +50,10 @@ pub fn short(see: See) {
 fn short_texts(see: See) {
     every(b"/+-01aFg", 7, &mut |text| see(b'p', text));
     let all: Vec<u8> = (0..=255).collect();
-    every(&all, 2, &mut |text| see(b'l', text));
-    every(EDGES, 4, &mut |text| see(b'l', text));
+    for kind in *b"lw" {
+        every(&all, 2, &mut |text| see(kind, text));
+        every(EDGES, 4, &mut |text| see(kind, text));
+    }
     for kind in *b"ef" {
         every(b"SCMVx\0\xE2", 6, &mut |payload| see(kind, payload));
         for letter in 0..=255 {
@@ -270,12 +272,12 @@ fn answers(draw: &mut Draw) -> Vec<u8> {
 
 /// One random input.
 pub fn random(draw: &mut Draw) -> (u8, Vec<u8>) {
-    let kind = draw.pick(b"pppplllleeffaccccbbbbbbrrrrqytosggggmmdd");
+    let kind = draw.pick(b"ppppllllwwwweeffaccccbbbbbbrrrrqytosggggmmdd");
     let input = match kind {
         b'p' if draw.once_in(10) => text(draw, false),
         b'p' => position_text(draw),
         b'd' => (draw.next() >> draw.below(64)).to_be_bytes().to_vec(),
-        b'l' => text(draw, true),
+        b'l' | b'w' => text(draw, true),
         b'e' | b'f' => error_payload(draw),
         b'a' | b'y' => some(draw),
         b'c' => marred_by(draw, |draw| copy_data(draw)[5..].to_vec()),

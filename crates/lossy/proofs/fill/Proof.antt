@@ -1,50 +1,120 @@
--- What is left of the lossy text, put where the loop stands, gives what is asked.
+-- What is left of the lossy text, put where the loop stands, gives what is asked, a stretch and the mark after it at a time.
+use Rattle.wire.specs.Bytes.{put, placed}
 use Rattle.wire.proofs.Laws.{put-none}
 use Rattle.wire.proofs.Pieces.{Filling, filling-start, filling-next}
 use Rattle.lossy.specs.Lossy.{lossyOf}
+use Rattle.lossy.specs.Code.{StretchAt}
+use Rattle.lossy.specs.declared.Stretch.{Stretch}
 use Rattle.lossy.proofs.Laws.{lossy-end}
-use Rattle.lossy.proofs.Turns.{lossy-turn}
-use Prim.Native.Nat.{_≤_, _-_}
+use Rattle.lossy.proofs.Stretches.{stretch-within, stretch-text, last-text, behind-within, mark-text}
+use Prim.Native.Nat.{ℕ, _≤_, _+_, _-_}
 use mathlib.Core.Path.{_≡_, refl, sym, _∙_}
-use mathlib.Core.List.{[]}
+use mathlib.Core.List.{List, [], _∷_}
 use native.Mathlib.Omega.{arith}
-use lib.ListN.{length, drop}
+use lib.ListN.{length, take, drop}
 use borrow.Author.Needs.{needs}
 use Rattle.lossy.proofs.fill.Statement.{statement}
 use Rattle.lossy.proofs.fill.Tie as tie
 
+-- ---- over variables: d₀ is the output at first, d what it has become
+
+module _ (s : List ℕ) (i : ℕ) (t : Stretch) (h : i ≤ length s) (a : StretchAt s i t) {d₀ : List ℕ} {to : ℕ} where
+  stretch-written : {d e : List ℕ} {r q : ℕ} → to + length (lossyOf s) ≤ length d₀ → Filling d₀ to (lossyOf s) d r (lossyOf (drop i s))
+      → (q, e) ≡ placed d r (take (t .end - i) (drop i s)) → Filling d₀ to (lossyOf s) e q (lossyOf (drop (t .end) s))
+  stretch-written f g p = filling-next f (take (t .end - i) (drop i s)) (rw (stretch-text s i t h a) at g) p
+
+  mark-written : {d e : List ℕ} {r q : ℕ} → 1 ≤ t .ill → to + length (lossyOf s) ≤ length d₀ → Filling d₀ to (lossyOf s) d r (lossyOf (drop (t .end) s))
+      → (q, e) ≡ placed d r (0xEF ∷ 0xBF ∷ 0xBD ∷ []) → Filling d₀ to (lossyOf s) e q (lossyOf (drop (t .end + t .ill) s))
+  mark-written o f g p = filling-next f (0xEF ∷ 0xBF ∷ 0xBD ∷ []) (rw (mark-text s i t h a o) at g) p
+
+  all-written : {d : List ℕ} {r : ℕ} → t .ill ≡ 0 → Filling d₀ to (lossyOf s) d r (lossyOf (drop (t .end) s)) → d ≡ put d₀ to (lossyOf s)
+  all-written {d} {r} z g = sym (put-none d r) ∙ rw (last-text s i t h a z) at (g .text)
+
+-- ---- the loop
+
 abbrev Inv-loop : tie.InvT-loop
-Inv-loop out₀ to text at₀ i₀ out at i =
+Inv-loop out₀ to text at₀ i₀ mark out at i =
     (i ≤ length text) × Filling out₀ to (lossyOf text) out at (lossyOf (drop i text))
 
 abbrev μ-loop : tie.MeasureT-loop
-μ-loop out₀ to text at₀ i₀ out at i = length text - i
+μ-loop out₀ to text at₀ i₀ mark out at i = length text - i
 
 loop-holds : tie.Need-loop-holds Inv-loop μ-loop
 loop-holds c = (omega arith, filling-start refl)
 
-place-part-requires : tie.Need-place-part-requires Inv-loop μ-loop
-place-part-requires c κs = c .before .part-at .ensures .ends
+sub-place : tie.Need-sub-place Inv-loop μ-loop
+sub-place c =
+    let w = c .before .stretch-from in
+    let l = c .before .before .before in
+    stretch-within (l .before .before .before .args .text .now) (l .loop .i) (w .result) (omega arith) (w .ensures) .0
 
-add-i : tie.Need-add-i Inv-loop μ-loop
-add-i c = omega (arith, c .before .before .before .before .before .part-at .ensures .ends)
-
-loop-less : tie.Need-loop-less Inv-loop μ-loop
-loop-less c = omega (arith, c .before .before .before .before .before .part-at .ensures .some, c .before .before .before .before .before .part-at .ensures .ends)
-
-loop-again : tie.Need-loop-again Inv-loop μ-loop
-loop-again c =
-    let l = c .before .before .before .before .before .before .before in
-    let a = l .before .before .before .args in
-    let w = c .before .before .before .before .before .part-at in
-    let t = lossy-turn (a .text .now) (l .loop .i) (w .result) (omega arith) (w .ensures) in
-    (omega (arith, w .ensures .ends), filling-next (l .before .before .before .pre) _ (rw t at (l .loop .inv .1)) (c .before .before .before .place-part .ensures))
+part-place-end : tie.Need-part-place-end Inv-loop μ-loop
+part-place-end c =
+    let w = c .before .stretch-from in
+    let l = c .before .before .before in
+    stretch-within (l .before .before .before .args .text .now) (l .loop .i) (w .result) (omega arith) (w .ensures) .1
 
 same-length : tie.Need-same-length Inv-loop μ-loop
-same-length c = c .before .loop .inv .1 .same
+same-length c =
+    let p = c .before .before .before .before in
+    let w = p .before .before .before .stretch-from in
+    let l = p .before .before .before .before .before in
+    let b = l .before .before .before in
+    stretch-written (b .args .text .now) (l .loop .i) (w .result) (omega arith) (w .ensures) (b .pre) (l .loop .inv .1) (p .place .ensures) .same
 
 returns : tie.Need-returns Inv-loop μ-loop
 returns c =
+    let p = c .before .before .before .before in
+    let w = p .before .before .before .stretch-from in
+    let l = p .before .before .before .before .before in
+    let b = l .before .before .before in
+    let s = b .args .text .now in
+    let h : l .loop .i ≤ length s = omega arith in
+    all-written s (l .loop .i) (w .result) h (w .ensures) (omega arith)
+    (stretch-written s (l .loop .i) (w .result) h (w .ensures) (b .pre) (l .loop .inv .1) (p .place .ensures))
+
+add-i : tie.Need-add-i Inv-loop μ-loop
+add-i c =
+    let p = c .before .before .before .before .before .before .before .before .before .before in
+    let w = p .before .before .before .stretch-from in
+    let l = p .before .before .before .before .before in
+    let s = l .before .before .before .args .text .now in
+    let o : 1 ≤ w .result .ill = omega arith in
+    let k = behind-within s (l .loop .i) (w .result) (omega arith) (w .ensures) o in
+    omega arith
+
+loop-less : tie.Need-loop-less Inv-loop μ-loop
+loop-less c =
+    let p = c .before .before .before .before .before .before .before .before .before .before in
+    let w = p .before .before .before .stretch-from in
+    let l = p .before .before .before .before .before in
+    let s = l .before .before .before .args .text .now in
+    let o : 1 ≤ w .result .ill = omega arith in
+    let k = behind-within s (l .loop .i) (w .result) (omega arith) (w .ensures) o in
+    let j = stretch-within s (l .loop .i) (w .result) (omega arith) (w .ensures) in
+    omega arith
+
+loop-again : tie.Need-loop-again Inv-loop μ-loop
+loop-again c =
+    let m = c .before .before .before in
+    let p = m .before .before .before .before .before .before .before in
+    let w = p .before .before .before .stretch-from in
+    let l = p .before .before .before .before .before in
+    let b = l .before .before .before in
+    let s = b .args .text .now in
+    let h : l .loop .i ≤ length s = omega arith in
+    let o : 1 ≤ w .result .ill = omega arith in
+    let k = behind-within s (l .loop .i) (w .result) h (w .ensures) o in (
+      omega arith,
+      mark-written s (l .loop .i) (w .result) h (w .ensures) o (b .pre)
+          (stretch-written s (l .loop .i) (w .result) h (w .ensures) (b .pre) (l .loop .inv .1) (p .place .ensures)) (m .place2 .ensures),
+    )
+
+same-length-2 : tie.Need-same-length-2 Inv-loop μ-loop
+same-length-2 c = c .before .loop .inv .1 .same
+
+returns-2 : tie.Need-returns-2 Inv-loop μ-loop
+returns-2 c =
     let l = c .before in
     let s = l .before .before .before in
     let e : lossyOf (drop (l .loop .i) (s .args .text .now)) ≡ [] = lossy-end (s .args .text .now) (l .loop .i) (omega arith) in
@@ -53,4 +123,5 @@ returns c =
 pub fill-spec : {M : Type 1} → statement M
 fill-spec =
     tie.close
-    (tie.spec Inv-loop μ-loop loop-holds (search needs) place-part-requires add-i loop-less loop-again same-length returns)
+    (tie.spec Inv-loop μ-loop loop-holds (search needs) sub-place (search needs) part-place-end (search needs) same-length returns
+    (search needs) (search needs) add-i loop-less loop-again same-length-2 returns-2)
