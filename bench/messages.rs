@@ -97,8 +97,8 @@ fn plain(bytes: &[u8], payload: &mut [u8]) -> (u64, usize) {
     (sum, count)
 }
 
-/// About so many bytes of CopyData messages of `size` bytes each, as far as they can be so short: Begin, Commit, Message and other data in turn; of 30
-/// bytes, XLogData without data.
+/// About so many bytes of CopyData messages of `size` bytes each, as far as they can be so short: Begin, Commit, Message and other data in turn; of
+/// 30 bytes, XLogData without data.
 fn stream(size: usize, length: usize) -> Vec<u8> {
     let mut bytes = Vec::with_capacity(length);
     let mut i = 0u64;

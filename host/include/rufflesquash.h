@@ -9,7 +9,7 @@
  * A part that an answer names (a place and a length) lies within the buffer that it is a part of, whatever words a call was given: place
  * and place + length are at most that buffer's length.
  *
- * A call that can refuse answers the refusal's number, 1 to 25 (docs/SCOPE.md, section 7); 0 is none.
+ * A call that can refuse answers the refusal's number, 1 to 25 or 31 (docs/SCOPE.md, section 7); 0 is none.
  *
  * The macros are the list of crates/words/src/layout.rt, name by name; a host that was built with another list is told by
  * rufflesquash_abi() != RUFFLESQUASH_ABI. */
@@ -250,6 +250,7 @@ extern "C" {
 #define RUFFLESQUASH_KIND_SERVER 4
 #define RUFFLESQUASH_KIND_MESSAGE_TOO_LARGE 5
 #define RUFFLESQUASH_KIND_PARSE_LSN 6
+
 /* A text in a list of texts. */
 struct rufflesquash_bytes {
     const uint8_t *at;
@@ -315,8 +316,8 @@ void rufflesquash_last_sent(const uint64_t run[RUFFLESQUASH_RUN_WORDS], uint64_t
  * the answer is at most that. */
 void rufflesquash_error_part(const uint64_t run[RUFFLESQUASH_RUN_WORDS], size_t payload_len, uint64_t part[RUFFLESQUASH_ERROR_WORDS]);
 
-/* The service page of a run: six lines of 32 characters and a newline, 198 bytes, at the front of out. A label stands flush left in 12 characters, its
- * value flush right in 20: POSITION (what a status would confirm now), SENT (what the last status confirmed, a hyphen before the first), SERVER
+/* The service page of a run: six lines of 32 characters and a newline, 198 bytes, at the front of out. A label stands flush left in 12 characters,
+ * its value flush right in 20: POSITION (what a status would confirm now), SENT (what the last status confirmed, a hyphen before the first), SERVER
  * (wal_end of the last XLogData or keepalive that was handled without refusal), EVENTS (handed on), STALLS (begun), STATE. Answers the refusal (4);
  * refused, out is as it was. */
 uint64_t rufflesquash_page(const uint64_t run[RUFFLESQUASH_RUN_WORDS], uint8_t *out, size_t out_len, uint64_t *written);
@@ -334,7 +335,8 @@ uint64_t rufflesquash_display_position(uint64_t position, uint8_t *out, size_t o
 /* Two hexadecimal numbers of 1 to 8 digits with a slash between. Answers the refusal (22, 23, 24); refused, position is 0. */
 uint64_t rufflesquash_parse_position(const uint8_t *text, size_t text_len, uint64_t *position);
 
-/* ---- a progress cell. A run has one of its own inside; these calls are for a host that keeps another. Moments are nanoseconds, 0 is none. */
+/* ---- a progress cell, with one position. A run has four files in its place; these calls are for a host that keeps a cell of its own. Moments are
+ * nanoseconds, 0 is none. */
 
 void rufflesquash_cell_new(uint64_t start, bool timed, uint64_t cell[RUFFLESQUASH_CELL_WORDS]);
 uint64_t rufflesquash_cell_load(const uint64_t cell[RUFFLESQUASH_CELL_WORDS]);

@@ -5,8 +5,8 @@ use crate::ffi;
 use crate::{Lsn, Moment};
 use std::fmt;
 
-/// The position that a status would confirm, and what is known of raises that no status has covered. A [`crate::Run`] has one inside; a host
-/// that keeps its own, for a session to come, carries what is pending over. It can be copied and kept.
+/// The position that a status would confirm, and what is known of raises that no status has covered. A [`crate::Run`] has four files in its
+/// place; a host that keeps a cell of its own, for a session to come, carries what is pending over. It can be copied and kept.
 #[derive(Clone, PartialEq, Eq)]
 pub struct ProgressCell {
     words: ffi::CellWords,

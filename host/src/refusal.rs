@@ -5,7 +5,7 @@ use std::fmt;
 
 macro_rules! refusals {
     ($($number:literal $name:ident $text:literal,)*) => {
-        /// Why a call was refused. The number is the one in the project's papers and in `rufflesquash.h`.
+        /// Why a call was refused. The number is the one in docs/SCOPE.md, section 7, and in `rufflesquash.h`.
         #[derive(Clone, Copy, Debug, PartialEq, Eq, Hash)]
         #[non_exhaustive]
         #[repr(u8)]

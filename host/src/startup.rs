@@ -18,8 +18,8 @@ pub struct Message<'a> {
 #[derive(Clone, Copy, Debug, PartialEq, Eq)]
 #[must_use = "the read has taken bytes, and may have a message"]
 pub struct Read<'a> {
-    /// Why the bytes were refused: 3 changes nothing; after 6 the next byte begins a message; after 7 every further read is refused; 8 and 9 tell that
-    /// the input has ended.
+    /// Why the bytes were refused: 3 changes nothing; after 6 the next byte begins a message; after 7 every further read is refused; 8 and 9 tell
+    /// that the input has ended.
     pub refusal: Option<Refusal>,
     /// How many of the unread bytes were taken.
     pub taken: usize,

@@ -258,6 +258,15 @@ fn a_text_that_is_no_utf8() {
     assert!(out[..n].windows(8).any(|w| w == b"SLOT \xFF L"));
 }
 
+/// The Rust has one position and is told the smallest of the four: three files confirm nothing, four do. A file that is none is told to nobody.
+#[test]
+fn four_files() {
+    let three = "status 5\nidle 100\nat 0\nat 1\nfile 0 0/5\nfile 1 0/5\nfile 2 0/5\n";
+    assert_eq!(told(&alike(&format!("{three}file 4 0/5\nat 5\n"))), "0 status 00 reply 0");
+    assert_eq!(told(&alike(&format!("{three}file 3 0/5\nat 5\n"))), "0 status 00 reply 0; 5 status 05 reply 0");
+    assert_eq!(told(&alike("status 5\nidle 100\nat 0\nat 1\nreport 0/5\nat 5\n")), "0 status 00 reply 0; 5 status 05 reply 0");
+}
+
 /// Compared up to that message; before `W` both skip it.
 #[test]
 fn the_servers_copy_done() {
