@@ -1,0 +1,5 @@
+pub mod Answer
+pub mod Calendar
+pub mod Code
+pub mod HoursCases
+pub mod Time
