@@ -1,4 +1,4 @@
--- What the plain reading makes of the steps so far, and how one step more changes it. Standing keeps the account, HandsOn reads it off.
+-- What the plain reading makes of the steps so far, and how one step more changes it. Invariant keeps the account, HandsOn reads it off.
 use mathlib.Core.Path.{_≡_, refl, ap, _∙_}
 use mathlib.Core.Bool.{Bool, true, false}
 use mathlib.Core.List.{List, [], _∷_, _++_}

@@ -1,5 +1,5 @@
 -- Plain readings of the same bytes agree: what was offered begins what was given, and fewer bytes give a beginning of what more give. It knows
--- no run. HandsOn takes `plain-agree` for the events of two lists of calls, Course `events-of` for those of the last message; HandsOn and Standing
+-- no run. HandsOn takes `plain-agree` for the events of two lists of calls, Course `events-of` for those of the last message; HandsOn and Invariant
 -- take what holds while no queue closes.
 use mathlib.Core.Path.{_≡_, refl, sym, ap, _∙_}
 use mathlib.Core.Bool.{Bool, true, false}

@@ -34,7 +34,7 @@ use Rattle.effects.specs.Effects as W
 use Rattle.effects.proofs.Effects.{step-effects}
 use Rattle.claims.proofs.Beginnings.{first-state, run-begun}
 use Rattle.claims.specs.Calls.{Beginning, isOpening, startOf, runBegun}
-use Rattle.claims.specs.Confirms.{AnyCall, step, report, Writes, nothing, done, status, Reached, reaching, leastOf, Confirmed, Confirms-smallest, NotAbove, NoneBehind, No-file-behind}
+use Rattle.claims.specs.Confirms.{AnyCall, step, report, Writes, nothing, done, status, Reached, reachedWith, leastOf, Confirmed, Confirms-smallest, NotAbove, NoneBehind, No-file-behind}
 
 length-update : (position : ℕ) (time : ℤ) (reply : Bool) → length (statusUpdate position time reply) ≡ 39
 unfolding statusUpdate copyData
@@ -86,7 +86,7 @@ least-is reached = refl
 
 -- what a report leaves
 pub files-reach : (r : Run) (reached : Reached) (file : ℕ) (q : Lsn) (m : Moment) → r .progress .files ≡ filesBy reached
-    → reportOf r file q m .1 .progress .files ≡ filesBy (reaching reached file q)
+    → reportOf r file q m .1 .progress .files ≡ filesBy (reachedWith reached file q)
 unfolding reportOf
 files-reach r reached file q m h =
     ap (λ (p : Progress). p .files) (filed-is (r .progress) file q m) ∙ ap (raisedIn file q) h
@@ -101,7 +101,7 @@ confirmed-from reached r h (step i l ∷ cs) =
     let n : smallest (r .progress .files) .0 ≡ leastOf reached = ap (λ (f : Files). smallest f .0) h ∙ least-is reached in
     (writes-at n (as-read (k .writes)), confirmed-from reached (stepOf r i l .run) (k .preserved ∙ h) cs)
 confirmed-from reached r h (report file q m ∷ cs) =
-    confirmed-from (reaching reached file q) (reportOf r file q m .1) (files-reach r reached file q m h) cs
+    confirmed-from (reachedWith reached file q) (reportOf r file q m .1) (files-reach r reached file q m h) cs
 
 -- each file has reached the start
 pub begun-files : (s : Settings) (b : Beginning) → runBegun s b .progress .files ≡ filesBy (λ (n : ℕ). startOf b .0)
@@ -159,7 +159,7 @@ none-behind : (reached : Reached) (r : Run) (cs : List AnyCall) → Confirmed re
 none-behind reached r [] c = tt
 none-behind reached r (step i l ∷ cs) c =
     (λ file k. not-above (leastOf reached) (reached file) (least-below reached file k) (c .0), none-behind reached (stepOf r i l .run) cs (c .1))
-none-behind reached r (report file q m ∷ cs) c = none-behind (reaching reached file q) (reportOf r file q m .1) cs c
+none-behind reached r (report file q m ∷ cs) c = none-behind (reachedWith reached file q) (reportOf r file q m .1) cs c
 
 pub no-file-behind : No-file-behind
 no-file-behind s b cs = none-behind (λ (n : ℕ). startOf b .0) (runBegun s b) cs (confirms-smallest s b cs)

@@ -19,7 +19,7 @@ use Rattle.stream.specs.Tag.{isCopyBothResponse}
 use Rattle.stream.proofs.Laws.{cut-nothing}
 use Rattle.framing.specs.declared.MessageReader.{MessageReader}
 use Rattle.framing.specs.Read.{more, whole, refused, fresh, Result, limitOf, readOf}
-use Rattle.framing.specs.Feed.{stored, itemOf, Stands, feedAll}
+use Rattle.framing.specs.Feed.{stored, itemOf, FollowsCut, feedAll}
 use Rattle.framing.proofs.Feed.{one-more, read-is-cut, fed-is-cut}
 use Rattle.lsn.specs.declared.Lsn.{Lsn}
 use Rattle.worker.specs.declared.Input.{Input}
@@ -59,19 +59,19 @@ message-of w p = (w .tag, take (w .len) p)
 
 -- ---- what holds of the whole messages and of the accepted steps since the last was whole, whatever queue closes
 
-abbrev pub Standing : Type 1
-Standing = List Msg → List Observation → Type 0
+abbrev pub Awaiting : Type 1
+Awaiting = List Msg → List Observation → Type 0
 
 -- a run in Opening: no `W` is among the messages
-abbrev pub NotOpened : Bool → Standing
+abbrev pub NotOpened : Bool → Awaiting
 NotOpened opening ms ws = (opening ≡ true) × (hasOpened ms ≡ false)
 
 -- the last message was handled, where it is a `c`: a step was accepted since
-abbrev pub NoneDone : Standing
+abbrev pub NoneDone : Awaiting
 NoneDone ms ws = ws ≡ [] → isCopyDone (lastOr (0, []) ms .0) ≡ false
 
 -- nothing is asked
-abbrev pub Anyhow : Standing
+abbrev pub Anyhow : Awaiting
 Anyhow ms ws = Unit
 
 -- a list with one more at its end is not empty
@@ -115,12 +115,12 @@ module _ (s : Setup) where
     pub within : t ≤ length (s .bytes)
     pub room : limit ≤ length p
     pub size : limit ≤ s .room
-    pub stands : Stands (cut-at t) rd p
+    pub follows : FollowsCut (cut-at t) rd p
     pub items : cut-at t .items ≡ itemsOf ms
     pub account : Account limit (s .bytes) t ts ms ws
 
   -- the messages stand as A says, and the events as C says while no queue has closed
-  pub record Runs (A : Standing) (C : Course) (rd : MessageReader) (p : List ℕ) (t : ℕ) (ts : List Observation) (es : List Happened) : Type 0 where
+  pub record Runs (A : Awaiting) (C : Course) (rd : MessageReader) (p : List ℕ) (t : ℕ) (ts : List Observation) (es : List Happened) : Type 0 where
     pub ms : List Msg
     pub ws : List Observation
     pub base : Base rd p t ts ms ws
@@ -194,13 +194,13 @@ module _ {s : Setup} where
           within = rw q (b .within);
           room = b .room;
           size = b .size;
-          stands = rw q (b .stands);
+          follows = rw q (b .follows);
           items = rw q (b .items);
           account = no-more (limit s) (s .bytes) (tell i k 0) refl (b .account);
         }
 
-    module _ {A : Standing} {C : Course} {es : List Happened} (b : Runs s A C rd p t ts es) where
-      pub still : {B : Standing} {D : Course} {fs : List Happened} → (A (b .ms) (b .ws) → B (b .ms) (grown (tell i k 0) (b .ws)))
+    module _ {A : Awaiting} {C : Course} {es : List Happened} (b : Runs s A C rd p t ts es) where
+      pub still : {B : Awaiting} {D : Course} {fs : List Happened} → (A (b .ms) (b .ws) → B (b .ms) (grown (tell i k 0) (b .ws)))
           → (isClosed (i .queue) ≡ false → C (b .ms) (b .ws) es → D (b .ms) (grown (tell i k 0) (b .ws)) fs)
           → Runs s B D rd p (t + 0) (ts ++ (tell i k 0 ∷ [])) fs
       still g f =
@@ -244,14 +244,14 @@ module _ {s : Setup} where
     record After (x : Result) : Type 0 where
       within : t + x .2 ≤ length (s .bytes)
       room : limit s ≤ length (x .3)
-      stands : Stands (cut-at s (t + x .2)) (x .1) (x .3)
+      follows : FollowsCut (cut-at s (t + x .2)) (x .1) (x .3)
       items : cut-at s (t + x .2) .items ≡ itemsOf ms ++ itemOf (x .0) (x .3)
 
     after-read : After read
     after-read =
         let f = one-more (s .settings .«max_message_size») (s .bytes) p (b .room) (itemsOf ms, rd, t, p) (record { unread = n; ended = end })
-        (sym (b .items), b .within, b .stands, refl) in
-        record { within = f .1; room = (let y = f .3 in let z = b .room in omega arith); stands = f .2; items = sym (f .0) }
+        (sym (b .items), b .within, b .follows, refl) in
+        record { within = f .1; room = (let y = f .3 in let z = b .room in omega arith); follows = f .2; items = sym (f .0) }
 
     -- a message is whole now: its last byte was taken now
     module _ (tag k : ℕ) (h : read .0 ≡ whole tag k) where
@@ -278,7 +278,7 @@ module _ {s : Setup} where
       unfolding put
       held-now =
           let rest : List ℕ = cut-at s t .rest in
-          let w = read-is-cut (s .settings .«max_message_size») (take t (s .bytes)) unread end rd p (b .room) (b .stands) in
+          let w = read-is-cut (s .settings .«max_message_size») (take t (s .bytes)) unread end rd p (b .room) (b .follows) in
           let u : Cut = cutOf (limit s) (rest ++ unread) in
           let a = whole-answer (u .items) (u .ending) (length unread) end (rest ++ unread) tag k (sym (w .answer) ∙ h) in
           let q : List ℕ = stored (u .items) (u .ending) (rest ++ unread) in
@@ -288,7 +288,7 @@ module _ {s : Setup} where
       span-now : spanOf (ms ++ (m ∷ [])) ≡ t + read .2
       span-now =
           let rest : List ℕ = cut-at s t .rest in
-          let w = read-is-cut (s .settings .«max_message_size») (take t (s .bytes)) unread end rd p (b .room) (b .stands) in
+          let w = read-is-cut (s .settings .«max_message_size») (take t (s .bytes)) unread end rd p (b .room) (b .follows) in
           let u : Cut = cutOf (limit s) (rest ++ unread) in
           let a = whole-answer (u .items) (u .ending) (length unread) end (rest ++ unread) tag k (sym (w .answer) ∙ h) in
           let taken : read .2 ≡ 5 + k - length rest = w .taken ∙ ap (λ (y : ℕ). y - length rest) (a .0) in
@@ -309,7 +309,7 @@ module _ {s : Setup} where
       read-base : (ns : List Msg) (vs : List Observation) → itemsOf ms ++ itemOf (read .0) (read .3) ≡ itemsOf ns
           → Account (limit s) (s .bytes) (t + read .2) (ts ++ (now ∷ [])) ns vs → Base s (read .1) (read .3) (t + read .2) (ts ++ (now ∷ [])) ns vs
       read-base ns vs e a =
-          let f = after-read in record { within = f .within; room = f .room; size = b .size; stands = f .stands; items = f .items ∙ e; account = a }
+          let f = after-read in record { within = f .within; room = f .room; size = b .size; follows = f .follows; items = f .items ∙ e; account = a }
 
       -- as many whole messages as before
       account-same : wholeOnes (itemsOf ms ++ itemOf (read .0) (read .3)) ≡ ms
@@ -337,18 +337,18 @@ module _ {s : Setup} where
           (A.one-more (limit s) (s .bytes) t ts ms ns ws now (b .account) o (span-now tag k h) (some-taken tag k h))
 
   -- .. by a state that reads: x is what was read
-  module _ {A : Standing} {C : Course} {rd : MessageReader} {p : List ℕ} {t : ℕ} {ts : List Observation} {es : List Happened}
+  module _ {A : Awaiting} {C : Course} {rd : MessageReader} {p : List ℕ} {t : ℕ} {ts : List Observation} {es : List Happened}
       (b : Runs s A C rd p t ts es) (n : ℕ) (i : Input) (x : Result) (hx : readOf (s .settings .«max_message_size») rd (take n (drop t (s .bytes))) (i .ended) p ≡ x) (r : ℕ) where
-    abbrev told : List Observation
-    told = ts ++ (tell i r (x .2) ∷ [])
+    abbrev observed : List Observation
+    observed = ts ++ (tell i r (x .2) ∷ [])
 
     abbrev one : ℕ → ℕ → List Msg
     one tag k = b .ms ++ ((tag, take k (x .3)) ∷ [])
 
-    before : NoneClosed told → C (b .ms) (b .ws) es
+    before : NoneClosed observed → C (b .ms) (b .ws) es
     before q = b .course (closed-before ts (tell i r (x .2)) q .0)
 
-    whole-base : (tag k : ℕ) → x .0 ≡ whole tag k → Base s (x .1) (x .3) (t + x .2) told (one tag k) []
+    whole-base : (tag k : ℕ) → x .0 ≡ whole tag k → Base s (x .1) (x .3) (t + x .2) observed (one tag k) []
     whole-base = rw hx at (base-whole (b .base) n (i .ended) i r)
 
     pub whole-held : (tag k : ℕ) → x .0 ≡ whole tag k → length (take k (x .3)) ≡ k
@@ -359,9 +359,9 @@ module _ {s : Setup} where
     whole-last tag k h = rw (whole-base tag k h .items, whole-items) (last-one (0, []) (tag, take k (x .3)) (b .ms))
 
     module _ {fs : List Happened} where
-      pub read-more : {B : Standing} {D : Course} → x .0 ≡ more → (A (b .ms) (b .ws) → B (b .ms) (grown (tell i r (x .2)) (b .ws)))
+      pub read-more : {B : Awaiting} {D : Course} → x .0 ≡ more → (A (b .ms) (b .ws) → B (b .ms) (grown (tell i r (x .2)) (b .ws)))
           → (C (b .ms) (b .ws) es → D (b .ms) (grown (tell i r (x .2)) (b .ws)) fs)
-          → Runs s B D (x .1) (x .3) (t + x .2) told fs
+          → Runs s B D (x .1) (x .3) (t + x .2) observed fs
       read-more h g f =
           record {
             ms = b .ms;
@@ -372,21 +372,21 @@ module _ {s : Setup} where
           }
 
       pub read-refused : (k : ℕ) → x .0 ≡ refused k → (C (b .ms) (b .ws) es → Over (stop s) (s .opening) (b .ms) (grown (tell i r (x .2)) (b .ws)) fs)
-          → Ends s (t + x .2) told fs
+          → Ends s (t + x .2) observed fs
       read-refused k h f =
           record { ms = b .ms; ws = _; account = rw hx at (account-refused (b .base) n (i .ended) i r k) h; course = λ q. f (before q) }
 
       module _ (tag k : ℕ) (h : x .0 ≡ whole tag k) where
-        pub read-whole : {B : Standing} {D : Course} → (A (b .ms) (b .ws) → B (one tag k) []) → (C (b .ms) (b .ws) es → D (one tag k) [] fs)
-            → Runs s B D (x .1) (x .3) (t + x .2) told fs
+        pub read-whole : {B : Awaiting} {D : Course} → (A (b .ms) (b .ws) → B (one tag k) []) → (C (b .ms) (b .ws) es → D (one tag k) [] fs)
+            → Runs s B D (x .1) (x .3) (t + x .2) observed fs
         read-whole g f = record { ms = one tag k; ws = []; base = whole-base tag k h; always = g (b .always); course = λ q. f (before q) }
 
         pub read-holds : (w : Bool) → (C (b .ms) (b .ws) es → Held (stop s) (s .opening) (b .ms) fs)
-            → Holds s (wholeOf tag k w) (x .1) (x .3) (t + x .2) told fs
+            → Holds s (wholeOf tag k w) (x .1) (x .3) (t + x .2) observed fs
         read-holds w f = record { ms = b .ms; base = whole-base tag k h; full = whole-held tag k h; course = λ q. f (before q) }
 
         -- a message that ends the run in the step that read it
-        pub read-last : (C (b .ms) (b .ws) es → Over (stop s) (s .opening) (one tag k) [] fs) → Ends s (t + x .2) told fs
+        pub read-last : (C (b .ms) (b .ws) es → Over (stop s) (s .opening) (one tag k) [] fs) → Ends s (t + x .2) observed fs
         read-last f = record { ms = one tag k; ws = []; account = whole-base tag k h .account; course = λ q. f (before q) }
 
   -- ---- before the first call
@@ -399,7 +399,7 @@ module _ {s : Setup} where
         within = omega arith;
         room = h;
         size = z;
-        stands = f .2;
+        follows = f .2;
         items = ap (λ (u : Cut). u .items) (cut-nothing (limit s));
         account = none-taken (limit s) (s .bytes) refl;
       }

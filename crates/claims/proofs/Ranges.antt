@@ -18,7 +18,7 @@ use Rattle.stream.specs.Cut.{Item, message, Ending, header, payload, over, Cut,
 use Rattle.stream.specs.Cut.{refused as bad}
 use Rattle.stream.specs.Tag.{isError, isCopyBothResponse, isCopyData}
 use Rattle.framing.specs.Read.{Said, more, whole, refused, unfinished}
-use Rattle.framing.specs.Feed.{told}
+use Rattle.framing.specs.Feed.{firstAnswer}
 use Rattle.pgoutput.specs.Boundary.{boundaryOf, need, beginAt, commitAt, contentAt, prefixBy, messageAt}
 use Rattle.pgoutput.specs.Boundary as B
 use Rattle.replication.specs.CopyData.{copyDataOf, xlogOf, keepAliveOf}
@@ -61,7 +61,7 @@ unfinished-in n true true h = h
 unfinished-in n true false h = tt
 unfinished-in n false b h = tt
 
-pub told-in : (is : List Item) (end : Ending) (unread : ℕ) (e : Bool) → InRead (told is end unread e)
+pub told-in : (is : List Item) (end : Ending) (unread : ℕ) (e : Bool) → InRead (firstAnswer is end unread e)
 told-in [] header unread e = unfinished-in 8 (eqb unread 0) e (omega arith, omega arith)
 told-in [] payload unread e = unfinished-in 9 (eqb unread 0) e (omega arith, omega arith)
 told-in [] over unread e = (omega arith, omega arith)
@@ -150,7 +150,7 @@ late-queue Closed x y w a b c = c
 
 late-read : (limit : ℕ) (b u : List ℕ) (e : Bool) (f : Said → Response) → ((a : Said) → InRead a → Late (f a)) → Late (readResponse limit b u e f)
 late-read limit b u e f h =
-    let c : Cut = cutOf limit (cutOf limit b .rest ++ u) in h (told (c .items) (c .ending) (length u) e) (told-in (c .items) (c .ending) (length u) e)
+    let c : Cut = cutOf limit (cutOf limit b .rest ++ u) in h (firstAnswer (c .items) (c .ending) (length u) e) (told-in (c .items) (c .ending) (length u) e)
 
 opening-late : (a : Said) → InRead a → Late (openingResponse a)
 opening-late more h = refl

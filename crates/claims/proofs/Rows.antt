@@ -63,7 +63,7 @@ use Rattle.claims.proofs.Course.{Course, Before, Going, Offers, Tied, g
 use Rattle.claims.proofs.Facts.{Facts, factsBy, factsOf, takes, with-status, confirmed-facts, at-moment, with-drained, with-wait, with-read, with-tries, with-end, with-reply, passing, stalling, gone-by, Agrees}
 use Rattle.claims.proofs.Spans.{whole-items}
 use Rattle.claims.proofs.Ranges.{InRead, told-in, InCopy, copy-in, InBoundary, boundary-in, never-nineteen, none-nineteen}
-use Rattle.claims.proofs.Invariant.{Standing, NotOpened, NoneDone, Anyhow, some-since, none-done-grown, opened-more, last-one, whole-held, whole-last, Runs, Holds, Ends, Placed, Invariant, tell, limit, stop, last-at, with-held, tied-still, still, still-ends, goes-still, goes-over, read-more, read-whole, read-holds, read-refused, read-last}
+use Rattle.claims.proofs.Invariant.{Awaiting, NotOpened, NoneDone, Anyhow, some-since, none-done-grown, opened-more, last-one, whole-held, whole-last, Runs, Holds, Ends, Placed, Invariant, tell, limit, stop, last-at, with-held, tied-still, still, still-ends, goes-still, goes-over, read-more, read-whole, read-holds, read-refused, read-last}
 
 -- an `E` is no `d`
 error-is-none : (tag : ℕ) → isError tag ≡ true → isCopyData tag ≡ false
@@ -150,10 +150,10 @@ module _ (s : Setup) (trace : Trace) (z : Played) (i : Input) (n : ℕ) (out : L
   status-if false a b = b
 
   -- where the reader and the events stand before the step, and after one that takes no byte
-  abbrev Here : Standing → Course → Type 0
+  abbrev Here : Awaiting → Course → Type 0
   Here A C = Runs s A C (r .reader) p (z .taken) (z .observed) (z .events)
 
-  abbrev There : Standing → Course → Type 0
+  abbrev There : Awaiting → Course → Type 0
   There A C = Runs s A C (r .reader) p (z .taken + 0) (z .observed ++ (tell i 0 0 ∷ [])) (z .events ++ [])
 
   -- the events of all messages are handed on
@@ -220,14 +220,14 @@ module _ (s : Setup) (trace : Trace) (z : Played) (i : Input) (n : ℕ) (out : L
     AfterRead from o y = Agreed from y o × Placed s (y .entered) (stepped z i (having (x .2) (x .3) o))
 
     -- the reader's answer is a, to which the table responds y
-    took : {A : Standing} {C : Course} {from : State} {f : R.Said → Response} {o : Outcome} → Here A C → (a : R.Said) → x .0 ≡ a → (y : Response) → f a ≡ y
+    took : {A : Awaiting} {C : Course} {from : State} {f : R.Said → Response} {o : Outcome} → Here A C → (a : R.Said) → x .0 ≡ a → (y : Response) → f a ≡ y
         → o .event ≡ E.nothing → (InRead a → y .refusal ≡ 19 → (y .entered ≡ Ended) × Shows (last-at s (z .taken + x .2) .1) (o .run) (x .3))
         → Answered y o → Agreed from y o
         → Placed s (y .entered) (stepped z i (having (x .2) (x .3) o)) → Read from f o
     unfolding factsOf
     took {A} {C} {from} {f} {o} b a h y hy hn fl an ag pl =
         let w : Reads (limit s) taken (l .unread) (i .ended) p x =
-        rw same-read at (read-is-cut (s .settings .«max_message_size») taken (l .unread) (i .ended) (r .reader) p (b .base .room) (b .base .stands))
+        rw same-read at (read-is-cut (s .settings .«max_message_size») taken (l .unread) (i .ended) (r .reader) p (b .base .room) (b .base .follows))
         in
         let q = sym hy ∙ ap f (sym h ∙ w .answer) in
         let k = subst (AfterRead from o) q (ag, pl) in

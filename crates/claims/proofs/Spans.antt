@@ -1,4 +1,4 @@
--- How many bytes a stream's whole messages have, and which byte a read that finishes one took last: Standing takes both.
+-- How many bytes a stream's whole messages have, and which byte a read that finishes one took last: Invariant takes both.
 use mathlib.Core.Path.{_≡_, refl, ap, _∙_}
 use mathlib.Core.Bool.{Bool, true, false}
 use mathlib.Core.List.{List, [], _∷_, _++_}
@@ -14,7 +14,7 @@ use Rattle.stream.specs.Cut.{Item, message, Ending, header, payload, over, Cut,
 use Rattle.stream.specs.Cut.{refused as bad}
 use Rattle.stream.proofs.Front.{Shows, negative, short, complete, shows}
 use Rattle.framing.specs.Read.{Said, more, whole, refused, unfinished}
-use Rattle.framing.specs.Feed.{told, span, stored}
+use Rattle.framing.specs.Feed.{firstAnswer, span, stored}
 use Rattle.claims.specs.Plain.{Msg, wholeOnes, spanOf}
 
 -- ---- items
@@ -97,13 +97,13 @@ unfinished-span n unread e is end s = by (eqb unread 0) e
     by true false = tt
     by false b = tt
 
-whole-told : (is : List Item) (end : Ending) (unread : ℕ) (e : Bool) (s : List ℕ) → WholeSpan (told is end unread e) is end s
+whole-told : (is : List Item) (end : Ending) (unread : ℕ) (e : Bool) (s : List ℕ) → WholeSpan (firstAnswer is end unread e) is end s
 whole-told [] header unread e s = unfinished-span 8 unread e [] header s
 whole-told [] payload unread e s = unfinished-span 9 unread e [] payload s
 whole-told [] over unread e s = tt
 whole-told (message tag p ∷ is) end unread e s = (refl, refl)
 whole-told (bad ∷ is) end unread e s = tt
 
-pub whole-answer : (is : List Item) (end : Ending) (unread : ℕ) (e : Bool) (s : List ℕ) (tag k : ℕ) → told is end unread e ≡ whole tag k
+pub whole-answer : (is : List Item) (end : Ending) (unread : ℕ) (e : Bool) (s : List ℕ) (tag k : ℕ) → firstAnswer is end unread e ≡ whole tag k
     → (span is end s ≡ 5 + k) × (length (stored is end s) ≡ k)
 whole-answer is end unread e s tag k h = rw h at (whole-told is end unread e s)

@@ -44,8 +44,8 @@ abbrev pub Reached : Type 0
 Reached = ℕ → ℕ
 
 -- a report takes its file to the larger of the two; one of a number above 3 is refused and counts for nothing
-abbrev pub reaching : Reached → ℕ → Lsn → Reached
-reaching reached file position = pick (ltb 3 file) reached (λ (n : ℕ). pick (eqb file n) (max (reached n) (position .0)) (reached n))
+abbrev pub reachedWith : Reached → ℕ → Lsn → Reached
+reachedWith reached file position = pick (ltb 3 file) reached (λ (n : ℕ). pick (eqb file n) (max (reached n) (position .0)) (reached n))
 
 -- the smallest over the four files
 abbrev pub leastOf : Reached → ℕ
@@ -55,13 +55,13 @@ leastOf reached = min (min (reached 0) (reached 1)) (min (reached 2) (reached 3)
 abbrev pub Confirmed : Reached → Run → List AnyCall → Type 0
 Confirmed reached r [] = Unit
 Confirmed reached r (step i l ∷ cs) = Writes (leastOf reached) i l (stepOf r i l) × Confirmed reached (stepOf r i l .run) cs
-Confirmed reached r (report file position moment ∷ cs) = Confirmed (reaching reached file position) (reportOf r file position moment .1) cs
+Confirmed reached r (report file position moment ∷ cs) = Confirmed (reachedWith reached file position) (reportOf r file position moment .1) cs
 
 -- on a run that `open` or `already_open` made, where each file has reached the start
 abbrev pub Confirms-smallest : Type 0
 Confirms-smallest = (s : Settings) (b : Beginning) (cs : List AnyCall) → Confirmed (λ n. startOf b .0) (runBegun s b) cs
 
--- ---- a translator's reading: no file lies behind a confirmation
+-- ---- no file lies behind a confirmation
 
 -- whatever status a server reads of the bytes that a step wrote, none of its positions is above this
 abbrev pub NotAbove : ℕ → Outcome → Type 0
@@ -72,7 +72,7 @@ NotAbove reached o =
 abbrev pub NoneBehind : Reached → Run → List AnyCall → Type 0
 NoneBehind reached r [] = Unit
 NoneBehind reached r (step i l ∷ cs) = ((file : ℕ) → file ≤ 3 → NotAbove (reached file) (stepOf r i l)) × NoneBehind reached (stepOf r i l .run) cs
-NoneBehind reached r (report file position moment ∷ cs) = NoneBehind (reaching reached file position) (reportOf r file position moment .1) cs
+NoneBehind reached r (report file position moment ∷ cs) = NoneBehind (reachedWith reached file position) (reportOf r file position moment .1) cs
 
 abbrev pub No-file-behind : Type 0
 No-file-behind = (s : Settings) (b : Beginning) (cs : List AnyCall) → NoneBehind (λ n. startOf b .0) (runBegun s b) cs

@@ -8,7 +8,7 @@ use lib.Dec.{ltb, leb, eqb}
 use Rattle.wire.specs.Bytes.{pick, at}
 use Rattle.stream.specs.Cut.{Cut, cutOf}
 use Rattle.framing.specs.Read.{Said, more, whole, refused, limitOf}
-use Rattle.framing.specs.Feed.{told, span, stored}
+use Rattle.framing.specs.Feed.{firstAnswer, span, stored}
 use Rattle.stream.specs.Tag.{isError, isCopyBothResponse}
 use Rattle.moment.specs.declared.Moment.{Moment}
 use Rattle.moment.specs.Moment.{isBefore, inRange, sinceOf}
@@ -65,7 +65,7 @@ abbrev pub readResponse : ℕ → List ℕ → List ℕ → Bool → (Said → R
 readResponse limit b u ended f =
     let rest : List ℕ = cutOf limit b .rest in
     let c : Cut = cutOf limit (rest ++ u) in
-    let y : Response = f (told (c .items) (c .ending) (length u) ended) in
+    let y : Response = f (firstAnswer (c .items) (c .ending) (length u) ended) in
     record {
       refusal = y .refusal;
       taken = span (c .items) (c .ending) (rest ++ u) - length rest;

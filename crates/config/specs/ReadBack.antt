@@ -83,6 +83,7 @@ pub record Cases : Type 0 where
   -- a double quote is a byte like any other
   pub double-quote : optionValue (lent "a\"b" ∷ []) ≡ ascii "a\"b"
 
+-- they hold, by computing
 pub cases : Cases
 unfolding ascii doubled following optionValue
 cases = record { none-given = refl; one-empty = refl; quote-doubled = refl; double-quote = refl }

@@ -10,7 +10,9 @@ ghost use mathlib.Core.List.{[], _∷_, _++_};
 ghost use Rattle.lines.specs.Line.{pieces, numberTexts, endTexts};
 
 fn spelled(line: &mut [u8], letter: u8, a: u64, b: u64, c: u64, d: u64) -> usize
-    ensures { λ r. ⌜ (r, now (line .exit)) ≡ pieces (now (line .entry)) 0 (((letter ∷ []) ∷ []) ++ (numberTexts a ++ (numberTexts b ++ (numberTexts c ++ (numberTexts d ++ endTexts))))) ⌝ }
+    ensures { λ r. ⌜ (r, now (line .exit))
+        ≡ pieces (now (line .entry)) 0
+        (((letter ∷ []) ∷ []) ++ (numberTexts a ++ (numberTexts b ++ (numberTexts c ++ (numberTexts d ++ endTexts))))) ⌝ }
 {
     let head = [letter];
     let e = wire::store::place(line, 0, &head);

@@ -7,7 +7,11 @@ use Prim.Native.Nat.{ℕ, _+_, _≤_, _<_}
 use lib.ListN.{length, drop}
 use denote.Ref.{RefT}
 use Rattle.error.specs.declared.Refusal.{Refusal}
-use Rattle.error.specs.declared.Refusal.the-variants.{IntervalTooLong, RunEnded, PayloadBufferTooShort, OutputTooShort, MomentOutOfOrder, InvalidLength, MessageTooLarge, EofInHeader, EofInPayload, EmptyCopyData, XLogDataTooShort, KeepaliveTooShort, UnknownCopyData, TruncatedI8, TruncatedI32, TruncatedI64, UnterminatedPrefix, ContentTooShort, ServerError, MalformedDataRow, AuthRequestTooShort, MissingSlash, InvalidHighPart, InvalidLowPart, InputTooLong}
+use Rattle.error.specs.declared.Refusal.the-variants.{IntervalTooLong, RunEnded, PayloadBufferTooShort, OutputTooShort, MomentOutOfOrder}
+use Rattle.error.specs.declared.Refusal.the-variants.{InvalidLength, MessageTooLarge, EofInHeader, EofInPayload, EmptyCopyData}
+use Rattle.error.specs.declared.Refusal.the-variants.{XLogDataTooShort, KeepaliveTooShort, UnknownCopyData, TruncatedI8, TruncatedI32}
+use Rattle.error.specs.declared.Refusal.the-variants.{TruncatedI64, UnterminatedPrefix, ContentTooShort, ServerError, MalformedDataRow}
+use Rattle.error.specs.declared.Refusal.the-variants.{AuthRequestTooShort, MissingSlash, InvalidHighPart, InvalidLowPart, InputTooLong}
 use Rattle.error.specs.Refusal.{numberOf, kindOf, kindAt}
 use Rattle.error.specs.Inputs.{total}
 use Rattle.error.specs.Writer.{writing, counted}
@@ -47,8 +51,9 @@ pub record RefusalCases : Type 0 where
   pub no-refusal : kindAt 0 ≡ 0
   pub no-further : (n : ℕ) → 26 ≤ n → kindAt n ≡ 0
 
--- the ways out of a writer, each in the order of its test: inputs of more than 1,048,576 bytes together are 25, whatever the output is; then an output that
--- is shorter than the text is 4; both leave the output as it was. Else the text stands at the front, and the rest of the output is as it was
+-- the ways out of a writer, each in the order of its test: inputs of more than 1,048,576 bytes together are 25, whatever the output is; then an
+-- output that is shorter than the text is 4; both leave the output as it was. Else the text stands at the front, and the rest of the output is as it
+-- was
 pub record WriterLaws : Type 0 where
   pub inputs-first : (inputs : ℕ) (text out : List ℕ) → 1048576 < inputs → writing inputs text out ≡ ((25, 0), out)
   pub then-output : (inputs : ℕ) (text out : List ℕ) → inputs ≤ 1048576 → length out < length text → writing inputs text out ≡ ((4, 0), out)

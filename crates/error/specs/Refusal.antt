@@ -4,7 +4,11 @@ use Prim.Native.Nat.{ℕ}
 use mathlib.Core.List.{List, [], _∷_}
 use lib.ListN.{getD}
 use Rattle.error.specs.declared.Refusal.{Refusal}
-use Rattle.error.specs.declared.Refusal.the-variants.{IntervalTooLong, RunEnded, PayloadBufferTooShort, OutputTooShort, MomentOutOfOrder, InvalidLength, MessageTooLarge, EofInHeader, EofInPayload, EmptyCopyData, XLogDataTooShort, KeepaliveTooShort, UnknownCopyData, TruncatedI8, TruncatedI32, TruncatedI64, UnterminatedPrefix, ContentTooShort, ServerError, MalformedDataRow, AuthRequestTooShort, MissingSlash, InvalidHighPart, InvalidLowPart, InputTooLong}
+use Rattle.error.specs.declared.Refusal.the-variants.{IntervalTooLong, RunEnded, PayloadBufferTooShort, OutputTooShort, MomentOutOfOrder}
+use Rattle.error.specs.declared.Refusal.the-variants.{InvalidLength, MessageTooLarge, EofInHeader, EofInPayload, EmptyCopyData}
+use Rattle.error.specs.declared.Refusal.the-variants.{XLogDataTooShort, KeepaliveTooShort, UnknownCopyData, TruncatedI8, TruncatedI32}
+use Rattle.error.specs.declared.Refusal.the-variants.{TruncatedI64, UnterminatedPrefix, ContentTooShort, ServerError, MalformedDataRow}
+use Rattle.error.specs.declared.Refusal.the-variants.{AuthRequestTooShort, MissingSlash, InvalidHighPart, InvalidLowPart, InputTooLong}
 use Rattle.error.specs.declared.Kind.{Kind}
 use Rattle.error.specs.declared.Kind.the-variants.{Usage, Io, Protocol, Server, MessageTooLarge as TooLarge, ParseLsn}
 

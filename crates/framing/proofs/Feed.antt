@@ -21,7 +21,7 @@ use Rattle.stream.specs.Message.{whole as whole-at}
 use Rattle.stream.specs.Cut.{refused as bad}
 use Rattle.framing.specs.declared.MessageReader.{MessageReader}
 use Rattle.framing.specs.Read.{Said, more, whole, refused, fresh, shut, at-byte, limitOf, Result, afterTaking, unfinished, payloadOf, judgedOf, headerOf, readOf}
-use Rattle.framing.specs.Feed.{told, span, stored, itemOf, Holds, Stands, standsBy, Reads, Offer, Fed, feedOne, feedAll, Fed-is-cut, Read-is-cut}
+use Rattle.framing.specs.Feed.{firstAnswer, span, stored, itemOf, Holds, FollowsCut, followsBy, Reads, Offer, Fed, feedOne, feedAll, Fed-is-cut, Read-is-cut}
 use Rattle.framing.proofs.Laws.{pick-both, header-more, length-negative, length-short, length-over, length-good, payload-there, payload-more, payload-whole}
 
 -- ---- a read by the state of the reader
@@ -169,24 +169,24 @@ handed s tag tag' n p q et l eq =
 -- ---- one read, by the bytes that the reader holds
 
 record Local (limit : ℕ) (rest u : List ℕ) (e : Bool) (p : List ℕ) (x : Result) : Type 0 where
-  answer : let c = cutOf limit (rest ++ u) in x .0 ≡ told (c .items) (c .ending) (length u) e
+  answer : let c = cutOf limit (rest ++ u) in x .0 ≡ firstAnswer (c .items) (c .ending) (length u) e
   taken : let c = cutOf limit (rest ++ u) in x .2 ≡ span (c .items) (c .ending) (rest ++ u) - length rest
   within : x .2 ≤ length u
   buffer : let c = cutOf limit (rest ++ u) in x .3 ≡ put p 0 (stored (c .items) (c .ending) (rest ++ u))
-  stands : Stands (cutOf limit (rest ++ take (x .2) u)) (x .1) (x .3)
+  follows : FollowsCut (cutOf limit (rest ++ take (x .2) u)) (x .1) (x .3)
   items : cutOf limit (rest ++ take (x .2) u) .items ≡ itemOf (x .0) (x .3)
 
 local : (limit : ℕ) (rest u : List ℕ) (e : Bool) (p : List ℕ) (x : Result) (c : Cut) (a : Said) (r' : MessageReader) (k : ℕ) (q : List ℕ)
-    → cutOf limit (rest ++ u) ≡ c → x ≡ (a, r', k, q) → a ≡ told (c .items) (c .ending) (length u) e
+    → cutOf limit (rest ++ u) ≡ c → x ≡ (a, r', k, q) → a ≡ firstAnswer (c .items) (c .ending) (length u) e
     → k ≡ span (c .items) (c .ending) (rest ++ u) - length rest → k ≤ length u
-    → q ≡ put p 0 (stored (c .items) (c .ending) (rest ++ u)) → (d : Cut) → cutOf limit (rest ++ take k u) ≡ d → Stands d r' q → d .items ≡ itemOf a q → Local limit rest u e p x
+    → q ≡ put p 0 (stored (c .items) (c .ending) (rest ++ u)) → (d : Cut) → cutOf limit (rest ++ take k u) ≡ d → FollowsCut d r' q → d .items ≡ itemOf a q → Local limit rest u e p x
 local limit rest u e p x c a r' k q ec ex ea ek ew eq d ed es ei =
     record {
-      answer = ap (λ (y : Result). y .0) ex ∙ (ea ∙ ap (λ (d : Cut). told (d .items) (d .ending) (length u) e) (sym ec));
+      answer = ap (λ (y : Result). y .0) ex ∙ (ea ∙ ap (λ (d : Cut). firstAnswer (d .items) (d .ending) (length u) e) (sym ec));
       taken = ap (λ (y : Result). y .2) ex ∙ (ek ∙ ap (λ (d : Cut). span (d .items) (d .ending) (rest ++ u) - length rest) (sym ec));
       within = rw ex ew;
       buffer = ap (λ (y : Result). y .3) ex ∙ (eq ∙ ap (λ (d : Cut). put p 0 (stored (d .items) (d .ending) (rest ++ u))) (sym ec));
-      stands = rw (ex, ed) es;
+      follows = rw (ex, ed) es;
       items = rw ex (ap (λ (y : Cut). y .items) ed ∙ ei);
     }
 
@@ -464,7 +464,7 @@ lifted limit b u e p x l =
       taken = l .taken;
       within = l .within;
       buffer = l .buffer;
-      stands = rw a (l .stands);
+      follows = rw a (l .follows);
       items = ap (λ (c : Cut). c .items) a ∙ ap (λ (is : List Item). cutOf limit b .items ++ is) (l .items);
     }
 
@@ -479,7 +479,7 @@ shut-local setting rest u e r p big g f =
     (omega (arith, o .0)) (omega arith) (sym (put-none p 0)) _ ed g refl
 
 read-by : (setting : ℕ) (b u : List ℕ) (e : Bool) (r : MessageReader) (p : List ℕ) → limitOf setting ≤ length p → (end : Ending)
-    → frontOf (limitOf setting) (cutOf (limitOf setting) b .rest) ≡ frontAt end → standsBy end (cutOf (limitOf setting) b .rest) r p
+    → frontOf (limitOf setting) (cutOf (limitOf setting) b .rest) ≡ frontAt end → followsBy end (cutOf (limitOf setting) b .rest) r p
     → Reads (limitOf setting) b u e p (readOf setting r u e p)
 read-by setting b u e r p big header f st = lifted _ b u e p _ (from-front setting _ u e r p big st _ (shows _ _) (inl f))
 read-by setting b u e r p big payload f st = lifted _ b u e p _ (from-front setting _ u e r p big st _ (shows _ _) (inr f))
@@ -539,7 +539,7 @@ read-kept setting r u e p =
 abbrev pub Behind : ℕ → List ℕ → List ℕ → Fed → Type 0
 Behind setting bytes p f =
     (f .0 ≡ cutOf (limitOf setting) (take (f .2) bytes) .items) × (f .2 ≤ length bytes)
-    × Stands (cutOf (limitOf setting) (take (f .2) bytes)) (f .1) (f .3) × (length (f .3) ≡ length p)
+    × FollowsCut (cutOf (limitOf setting) (take (f .2) bytes)) (f .1) (f .3) × (length (f .3) ≡ length p)
 
 pub one-more : (setting : ℕ) (bytes p : List ℕ) → limitOf setting ≤ length p → (f : Fed) (o : Offer) → Behind setting bytes p f → Behind setting bytes p (feedOne setting bytes f o)
 one-more setting bytes p big f o i =
@@ -556,7 +556,7 @@ one-more setting bytes p big f o i =
     let e : cutOf (limitOf setting) (take (t + x .2) bytes) ≡ cutOf (limitOf setting) (take t bytes ++ take (x .2) u) = ap (cutOf (limitOf setting)) s in (
       ap (λ (is : List Item). is ++ itemOf (x .0) (x .3)) (i .0) ∙ (sym (w .items) ∙ ap (λ (c : Cut). c .items) (sym e)),
       within-all t (x .2) (length u) (length bytes) k dl (i .1),
-      rw e (w .stands),
+      rw e (w .follows),
       read-kept setting (f .1) u (o .ended) (f .3) ∙ i .3,
     )
   where

@@ -64,6 +64,7 @@ pub record Cases : Type 0 where
   pub not-yet : reading inPayload (0x42 ∷ []) true .0 ≡ more
   pub not-ended : reading inPayload [] false ≡ (more, inPayload, 0, buffer)
 
+-- they hold, by computing
 pub cases : Cases
 unfolding be beFrom put payloadOf judgedOf headerOf readOf
 cases =

@@ -15,16 +15,16 @@ use Rattle.framing.specs.Read.{Said, more, whole, refused, fresh, limitO
 -- ---- one read, by the cut of what the reader holds of a message and the unread bytes after it
 
 -- the answer where the cut finds no item: the input's end is 8 in a header and 9 in a payload, where no byte is unread
-abbrev pub endTold : Ending → ℕ → Bool → Said
-endTold header unread e = unfinished 8 unread e
-endTold payload unread e = unfinished 9 unread e
-endTold over unread e = refused 7
+abbrev pub endAnswer : Ending → ℕ → Bool → Said
+endAnswer header unread e = unfinished 8 unread e
+endAnswer payload unread e = unfinished 9 unread e
+endAnswer over unread e = refused 7
 
 -- the answer by the first item of the cut
-abbrev pub told : List Item → Ending → ℕ → Bool → Said
-told [] end unread e = endTold end unread e
-told (message tag p ∷ is) end unread e = whole tag (length p)
-told (bad ∷ is) end unread e = refused 6
+abbrev pub firstAnswer : List Item → Ending → ℕ → Bool → Said
+firstAnswer [] end unread e = endAnswer end unread e
+firstAnswer (message tag p ∷ is) end unread e = whole tag (length p)
+firstAnswer (bad ∷ is) end unread e = refused 6
 
 -- how many bytes of s are used where the cut finds no item: all of them, and of a message over the limit the header
 abbrev pub endSpan : Ending → List ℕ → ℕ
@@ -59,14 +59,14 @@ pub record Holds (s : List ℕ) (r : MessageReader) (p : List ℕ) : Type 0 wher
   pub front : take (length s - 5) p ≡ drop 5 s
 
 -- the reader after bytes whose cut ends so: it holds the rest s, or it remembers refusal 7
-abbrev pub standsBy : Ending → List ℕ → MessageReader → List ℕ → Type 0
-standsBy header s r p = Holds s r p
-standsBy payload s r p = Holds s r p
-standsBy over s r p = r .refused ≡ true
+abbrev pub followsBy : Ending → List ℕ → MessageReader → List ℕ → Type 0
+followsBy header s r p = Holds s r p
+followsBy payload s r p = Holds s r p
+followsBy over s r p = r .refused ≡ true
 
 -- the same of a cut
-abbrev pub Stands : Cut → MessageReader → List ℕ → Type 0
-Stands c r p = standsBy (c .ending) (c .rest) r p
+abbrev pub FollowsCut : Cut → MessageReader → List ℕ → Type 0
+FollowsCut c r p = followsBy (c .ending) (c .rest) r p
 
 -- what an answer hands on: a whole message with the bytes at the buffer's front, or a bad length
 abbrev pub itemOf : Said → List ℕ → List Item
@@ -76,11 +76,11 @@ itemOf (refused n) p = pick (eqb n 6) (bad ∷ []) []
 
 -- a read of the unread bytes u, after the bytes b: its answer, what it takes, the whole buffer, the reader after it, and what it hands on
 pub record Reads (limit : ℕ) (b u : List ℕ) (e : Bool) (p : List ℕ) (x : Result) : Type 0 where
-  pub answer : let s = cutOf limit b .rest ++ u in let c = cutOf limit s in x .0 ≡ told (c .items) (c .ending) (length u) e
+  pub answer : let s = cutOf limit b .rest ++ u in let c = cutOf limit s in x .0 ≡ firstAnswer (c .items) (c .ending) (length u) e
   pub taken : let s = cutOf limit b .rest ++ u in let c = cutOf limit s in x .2 ≡ span (c .items) (c .ending) s - length (cutOf limit b .rest)
   pub within : x .2 ≤ length u
   pub buffer : let s = cutOf limit b .rest ++ u in let c = cutOf limit s in x .3 ≡ put p 0 (stored (c .items) (c .ending) s)
-  pub stands : Stands (cutOf limit (b ++ take (x .2) u)) (x .1) (x .3)
+  pub follows : FollowsCut (cutOf limit (b ++ take (x .2) u)) (x .1) (x .3)
   pub items : cutOf limit (b ++ take (x .2) u) .items ≡ cutOf limit b .items ++ itemOf (x .0) (x .3)
 
 -- ---- any list of reads
@@ -112,10 +112,10 @@ Fed-is-cut =
     (setting : ℕ) (bytes p : List ℕ) → limitOf setting ≤ length p → (os : List Offer)
     → let f = feedAll setting bytes ([], fresh, 0, p) os in
     let c = cutOf (limitOf setting) (take (f .2) bytes) in
-    (f .0 ≡ c .items) × (f .2 ≤ length bytes) × Stands c (f .1) (f .3) × (length (f .3) ≡ length p)
+    (f .0 ≡ c .items) × (f .2 ≤ length bytes) × FollowsCut c (f .1) (f .3) × (length (f .3) ≡ length p)
 
 -- the next read of such a reader answers, takes and stores what the cut says
 abbrev pub Read-is-cut : Type 0
 Read-is-cut =
     (setting : ℕ) (b u : List ℕ) (e : Bool) (r : MessageReader) (p : List ℕ) → limitOf setting ≤ length p
-    → Stands (cutOf (limitOf setting) b) r p → Reads (limitOf setting) b u e p (readOf setting r u e p)
+    → FollowsCut (cutOf (limitOf setting) b) r p → Reads (limitOf setting) b u e p (readOf setting r u e p)

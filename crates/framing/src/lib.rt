@@ -126,7 +126,8 @@ fn behind_header(filled: usize) -> usize
 
 // Takes the payload bytes that the message lacks. The tail of the buffer, from the filled mark on, is lent to the copying leaf.
 fn fill_payload(r: MessageReader, unread: &[u8], ended: bool, payload: &mut [u8]) -> ReadStep
-    ensures { λ s. ⌜ (saidBy (s .answer), s .reader, s .taken, now (payload .exit)) ≡ payloadOf r (now (unread .entry)) ended (now (payload .entry)) ⌝ }
+    ensures { λ s. ⌜ (saidBy (s .answer), s .reader, s .taken, now (payload .exit))
+        ≡ payloadOf r (now (unread .entry)) ended (now (payload .entry)) ⌝ }
 {
     let len = r.payload_len;
     let n = least(len, payload.len());
@@ -159,7 +160,8 @@ fn fill_payload(r: MessageReader, unread: &[u8], ended: bool, payload: &mut [u8]
 
 // Judges the length of a whole header, and begins the payload.
 fn judge(limit: usize, header: [u8; 5], unread: &[u8], payload: &mut [u8]) -> ReadStep
-    ensures { λ s. ⌜ (saidBy (s .answer), s .reader, s .taken, now (payload .exit)) ≡ judgedOf limit header (now (unread .entry)) (now (payload .entry)) ⌝ }
+    ensures { λ s. ⌜ (saidBy (s .answer), s .reader, s .taken, now (payload .exit))
+        ≡ judgedOf limit header (now (unread .entry)) (now (payload .entry)) ⌝ }
 {
     let n = length_of(&header) as usize;
     if FIRST_NEGATIVE <= n {
@@ -195,7 +197,8 @@ fn fill_header(
     payload: &mut [u8],
 ) -> ReadStep
     requires { ⌜ r .filled < 5 ⌝ }
-    ensures { λ s. ⌜ (saidBy (s .answer), s .reader, s .taken, now (payload .exit)) ≡ headerOf limit r (now (unread .entry)) ended (now (payload .entry)) ⌝ }
+    ensures { λ s. ⌜ (saidBy (s .answer), s .reader, s .taken, now (payload .exit))
+        ≡ headerOf limit r (now (unread .entry)) ended (now (payload .entry)) ⌝ }
 {
     let filled = r.filled;
     let k = least(5 - filled, unread.len());
@@ -227,7 +230,8 @@ impl MessageReader {
         ended: bool,
         payload: &mut [u8],
     ) -> ReadStep
-        ensures { λ s. ⌜ (saidBy (s .answer), s .reader, s .taken, now (payload .exit)) ≡ readOf «max_message_size» self (now (unread .entry)) ended (now (payload .entry)) ⌝ }
+        ensures { λ s. ⌜ (saidBy (s .answer), s .reader, s .taken, now (payload .exit))
+            ≡ readOf «max_message_size» self (now (unread .entry)) ended (now (payload .entry)) ⌝ }
     {
         let limit = limit_of(max_message_size);
         if payload.len() < limit {

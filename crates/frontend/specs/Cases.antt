@@ -32,6 +32,7 @@ pub record Cases : Type 0 where
   -- protocol 3.0 and no pair: the version and the terminator
   pub startup-bare : startup (pos 196608) [] ≡ 0 ∷ 0 ∷ 0 ∷ 9 ∷ 0 ∷ 3 ∷ 0 ∷ 0 ∷ 0 ∷ []
 
+-- they hold, by computing
 pub cases : Cases
 unfolding beBytes unsigned framed query copyData copyDone terminate statusBody statusUpdate pairs startup
 cases =

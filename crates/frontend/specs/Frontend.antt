@@ -35,9 +35,9 @@ flag false = 0
 -- stands for all three
 unfoldable pub statusBody : ℕ → ℤ → Bool → List ℕ
 statusBody position time reply =
-    114 ∷ (beBytes 8 position
-    ++ (beBytes 8 position
-    ++ (beBytes 8 position
+    114 ∷ (beBytes 8 position  -- written
+    ++ (beBytes 8 position  -- flushed
+    ++ (beBytes 8 position  -- applied
     ++ (intBytes 8 time
     ++ (flag reply ∷ [])))))
 

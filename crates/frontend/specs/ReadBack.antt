@@ -81,6 +81,7 @@ confirming position time reply = record { written = position; flushed = position
 abbrev pub inQuery : Message → Option (List ℕ × List ℕ)
 inQuery m = pick (eqb (m .tag) 81) (stringOf (m .payload)) none
 
+-- a query at the front of these bytes
 unfoldable pub queryOf : List ℕ → Option (List ℕ × List ℕ)
 queryOf s = andThen (messageRead s) inQuery
 

@@ -31,5 +31,6 @@ nameBy s n a from = record { from = from; to = from + min (numberAt 2 s a) (n - 
 abbrev pub nameFrom : List ℕ → ℕ → ℕ → Name
 nameFrom s n a = nameBy s n a (a + min 2 (n - a))
 
+-- the name at a place, which is held to the list's end
 unfoldable pub nameAt : List ℕ → ℕ → Name
 nameAt s i = nameFrom s (length s) (min i (length s))

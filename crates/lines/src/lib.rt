@@ -7,7 +7,8 @@ ghost use mathlib.Core.Bool.{false};
 ghost use Prim.Native.Nat.{_-_, _<_};
 ghost use lib.ListN.{length, replicate};
 ghost use Rattle.wire.specs.Bytes.{pick};
-ghost use Rattle.lines.specs.Line.{sumNext, sumOf, afterOf, pieces, numberTexts, signedTexts, flagTexts, isWithin, outsideTexts, partTexts, bytesTexts, positionTexts, datedTexts, spannedTexts, flaggedTexts, endTexts};
+ghost use Rattle.lines.specs.Line.{sumNext, sumOf, afterOf, pieces, numberTexts, signedTexts, flagTexts, isWithin, outsideTexts, partTexts};
+ghost use Rattle.lines.specs.Line.{bytesTexts, positionTexts, datedTexts, spannedTexts, flaggedTexts, endTexts};
 use lsn::Lsn;
 
 // The sum of a buffer.

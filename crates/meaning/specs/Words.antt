@@ -139,7 +139,8 @@ Reader-words =
     × ((a b c d e f g : ℕ) (h : Bool) → readerWords (reader a b c d e f g h) ≡ a ∷ b ∷ c ∷ d ∷ e ∷ f ∷ g ∷ flagWord h ∷ [])
     × (readerOf (0 ∷ 0 ∷ 0 ∷ 0 ∷ 0 ∷ 0 ∷ 0 ∷ 0 ∷ []) ≡ fresh)
 
--- ---- a run. Its files are the words 19, 48, 49 and 50, the server's end of its page is word 51. The words from 52 on are ignored; they are 0 in what is written
+-- ---- a run. Its files are the words 19, 48, 49 and 50, the server's end of its page is word 51. The words from 52 on are ignored; they are 0 in
+-- what is written
 
 abbrev pub Run-words : Type 0
 Run-words =

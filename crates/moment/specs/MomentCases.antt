@@ -22,5 +22,7 @@ pub record MomentCases : Type 0 where
   pub passed : sinceOf (at 5) (at 2) ≡ 3
   pub ahead : sinceOf (at 2) (at 5) ≡ 0
 
+-- they hold, by computing
 pub moment-cases : MomentCases
-moment-cases = record { too-early = refl; first = refl; latest = refl; too-late = refl; before = refl; same = refl; after = refl; passed = refl; ahead = refl }
+moment-cases =
+    record { too-early = refl; first = refl; latest = refl; too-late = refl; before = refl; same = refl; after = refl; passed = refl; ahead = refl }

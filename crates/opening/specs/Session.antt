@@ -36,7 +36,8 @@ TooLong s = (day < s .«status_interval») ⊎ (day < s .«idle_wakeup_interval�
 
 -- ---- a run that begins
 
--- the run has the settings, is in the state, and would confirm the start, at which all four files are; nothing is signalled, pending, sent, counted or read
+-- the run has the settings, is in the state, and would confirm the start, at which all four files are; nothing is signalled, pending, sent, counted
+-- or read
 pub record Begins (s : Settings) (state : ℕ) (start : Lsn) (r : Run) : Type 0 where
   pub settings : r .settings ≡ s
   pub in-state : stateNumber (r .state) ≡ state

@@ -1,4 +1,4 @@
-// The service page: what a run shows to a technician, as six lines of 32 characters and a newline.
+// The service page of a run: six lines of 32 characters and a newline.
 ghost use mathlib.Core.Path.{_≡_};
 ghost use Prim.Native.Nat.{_≤_};
 ghost use lib.ListN.{length};

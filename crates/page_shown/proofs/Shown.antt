@@ -27,7 +27,7 @@ use Rattle.worker.specs.Run.{stateNumber, lsn, cellIn, freshRun}
 use Rattle.worker.specs.Step.{Lent, Outcome, isEnded, stepOf}
 use Rattle.effects.proofs.Effects.{step-effects}
 use Rattle.claims.specs.Calls.{Beginning, Call, step, report, Played, isOpening, startOf, runBegun, lentTo, playOne, playAll, begun, played, setupOf}
-use Rattle.claims.specs.Confirms.{Reached, reaching}
+use Rattle.claims.specs.Confirms.{Reached, reachedWith}
 use Rattle.claims.specs.Tests.{both, isIn}
 use Rattle.claims.specs.Counters.{endAfter, lastEnd}
 use Rattle.claims.specs.Table.{lastMessage, limitBy, responseOf}
@@ -52,7 +52,7 @@ reachedIn start h = λ n. reachedBy n start h
 
 -- a report of a file, and one of a number that is no file
 files-next : (start : Lsn) (h : Trace) (file : ℕ) (p : Lsn) (m : Moment)
-    → filesBy (reaching (reachedIn start h) file p) ≡ filesBy (reachedIn start (a-report file p m ∷ h))
+    → filesBy (reachedWith (reachedIn start h) file p) ≡ filesBy (reachedIn start (a-report file p m ∷ h))
 unfolding reachedBy
 files-next start h file p m =
     by-test (ltb 3 file)

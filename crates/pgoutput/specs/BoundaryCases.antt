@@ -1,5 +1,5 @@
--- What data give, by their first letter and their layout: which letters are boundaries, which refusal cut or short data get, that all other data are read, and
--- that the parts that an answer names lie within the data. SCOPE 3.9; 01, "Where each call turns back", 14 to 18.
+-- What data give, by their first letter and their layout: which letters are boundaries, which refusal cut or short data get, that all other data are
+-- read, and that the parts that an answer names lie within the data. SCOPE 3.9; 01, "Where each call turns back", 14 to 18.
 use mathlib.Core.Path.{_≡_}
 use mathlib.Core.Bool.{Bool, true, false}
 use mathlib.Core.List.{List, [], _∷_, _++_}
@@ -65,7 +65,8 @@ pub record MessageRefusals : Type 0 where
 -- the parts that a Message names lie within the data, whatever these are
 abbrev pub Parts-within : Type 0
 Parts-within =
-    (s : List ℕ) (flag : Bool) (position pf pl cf cl : ℕ) → boundaryOf s ≡ message flag position pf pl cf cl → (pf + pl ≤ length s) × (cf + cl ≤ length s)
+    (s : List ℕ) (flag : Bool) (position pf pl cf cl : ℕ) → boundaryOf s ≡ message flag position pf pl cf cl → (pf + pl ≤ length s)
+    × (cf + cl ≤ length s)
 
 -- in plain bytes
 pub record BoundaryCases : Type 0 where

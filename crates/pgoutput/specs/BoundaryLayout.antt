@@ -53,7 +53,8 @@ pub record SentCommit (s : List ℕ) (position end : ℕ) (time : ℤ) : Type 0 
 
 -- what is read as Commit was sent so
 abbrev pub Read-is-Commit : Type 0
-Read-is-Commit = (s : List ℕ) (position end : ℕ) (time : ℤ) → areBytes s ≡ true → boundaryOf s ≡ commit position end time → SentCommit s position end time
+Read-is-Commit =
+    (s : List ℕ) (position end : ℕ) (time : ℤ) → areBytes s ≡ true → boundaryOf s ≡ commit position end time → SentCommit s position end time
 
 -- ---- Message, of whose flags bit 0 is told
 

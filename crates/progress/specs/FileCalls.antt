@@ -68,7 +68,7 @@ pub record Progress-as-called (start : Lsn) (timed : Bool) (h : List FileCall) :
   pub position : cellPosition (asCell (progressAfter start timed h)) .0 ≡ confirmable start h
   -- signal, pending moment and position are those of one cell that is told that smallest (Calls says what that cell has)
   pub cell : asCell (progressAfter start timed h) ≡ cellAfter start timed (toldTo start h)
-  -- a translator's reading: no file lies behind what a status would confirm
+  -- no file lies behind what a status would confirm
   pub no-file-behind : (file : ℕ) → file ≤ 3 → cellPosition (asCell (progressAfter start timed h)) .0 ≤ reached file start h
   -- a number above 3 is refused with 31, and nothing changes; no other is refused
   pub refused : (file : ℕ) (position : Lsn) (moment : Moment) → 3 < file

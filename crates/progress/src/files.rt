@@ -47,7 +47,7 @@ pub struct Filed {
 pub const LAST_FILE: u64 = 3;
 
 impl FileRefusal {
-    // The refusal's number. It follows those of crate `error` and of later wishes.
+    // The refusal's number; 26 to 30 are of other crates.
     pub fn number(self) -> u8
         ensures { λ r. ⌜ r ≡ fileNumber self ⌝ }
     {

@@ -1,5 +1,5 @@
-// A reader over lent data, in place of the Rust's `&mut &[u8]`: the data and a place in them. It is made at a place, moved by `skip`, and reads what stands
-// there; what it reads is read by functions on the data and a place.
+// A reader over lent data, in place of the Rust's `&mut &[u8]`: the data and a place in them. It is made at a place, moved by `skip`, and reads what
+// stands there; what it reads is read by functions on the data and a place.
 ghost use mathlib.Core.Path.{_≡_};
 ghost use Prim.Native.Nat.{_-_};
 ghost use lib.ListN.{drop, length};

@@ -1,5 +1,5 @@
--- Which refusal a CopyData payload gets, by its letter and its length; that no other payload is refused; and that the part that an answer names lies within the
--- payload. SCOPE 3.8; 01, "Where each call turns back", 10 to 13.
+-- Which refusal a CopyData payload gets, by its letter and its length; that no other payload is refused; and that the part that an answer names lies
+-- within the payload. SCOPE 3.8; 01, "Where each call turns back", 10 to 13.
 use mathlib.Core.Path.{_≡_}
 use mathlib.Core.Bool.{true, false}
 use mathlib.Core.List.{List, [], _∷_}
@@ -34,7 +34,8 @@ pub record CopyDataCases : Type 0 where
   pub thirteen : copyDataOf (120 ∷ replicate 24 7) ≡ refused 13
   pub thirteen-alone : copyDataOf (0 ∷ []) ≡ refused 13
   -- start 1, end 2, time -1, two bytes of data
-  pub xlog-data : copyDataOf (119 ∷ 0 ∷ 0 ∷ 0 ∷ 0 ∷ 0 ∷ 0 ∷ 0 ∷ 1 ∷ 0 ∷ 0 ∷ 0 ∷ 0 ∷ 0 ∷ 0 ∷ 0 ∷ 2 ∷ 255 ∷ 255 ∷ 255 ∷ 255 ∷ 255 ∷ 255 ∷ 255 ∷ 255 ∷ 66 ∷ 67 ∷ [])
+  pub xlog-data : copyDataOf
+      (119 ∷ 0 ∷ 0 ∷ 0 ∷ 0 ∷ 0 ∷ 0 ∷ 0 ∷ 1 ∷ 0 ∷ 0 ∷ 0 ∷ 0 ∷ 0 ∷ 0 ∷ 0 ∷ 2 ∷ 255 ∷ 255 ∷ 255 ∷ 255 ∷ 255 ∷ 255 ∷ 255 ∷ 255 ∷ 66 ∷ 67 ∷ [])
       ≡ w 1 2 (negsuc 0) 25 2
   -- wal_end 0x10, time 3; a reply is asked for by any byte but 0
   pub keepalive : copyDataOf (107 ∷ 0 ∷ 0 ∷ 0 ∷ 0 ∷ 0 ∷ 0 ∷ 0 ∷ 0x10 ∷ 0 ∷ 0 ∷ 0 ∷ 0 ∷ 0 ∷ 0 ∷ 0 ∷ 3 ∷ 0 ∷ []) ≡ k 0x10 (pos 3) false

@@ -54,6 +54,7 @@ pub record Asked : Type 0 where
   pub position : ℕ × ℕ
   pub options : List (List ℕ × List ℕ)
 
+-- the same of a query's text, none where it is no such query
 unfoldable pub askedOf : List ℕ → Option Asked
 askedOf s =
     andThen (restAfter (ascii "START_REPLICATION SLOT ") s) (λ a.
@@ -95,6 +96,7 @@ pub record Cases : Type 0 where
   pub quote-in-name : startReplication true (ascii "s1") (lent "o'k" ∷ []) (record { 0 = 0 })
       ≡ ascii "START_REPLICATION SLOT s1 LOGICAL 0/0 (proto_version '1', publication_names 'o''k', messages 'true', binary 'true')"
 
+-- they hold, by computing
 pub cases : Cases
 unfolding ascii doubled following optionValue numeral displayOf startReplication
 cases = record { plain = refl; quote-in-name = refl }

@@ -47,7 +47,8 @@ fn place_query(
     out: &mut [u8],
 ) -> usize
     requires { ⌜ (n ≡ length (query (startReplication binary (now slot) (now publications) position))) × (n ≤ length (now out)) ⌝ }
-    ensures { λ r. ⌜ (r, now (out .exit)) ≡ placed (now (out .entry)) 0 (query (startReplication binary (now (slot .entry)) (now (publications .entry)) position)) ⌝ }
+    ensures { λ r. ⌜ (r, now (out .exit))
+        ≡ placed (now (out .entry)) 0 (query (startReplication binary (now (slot .entry)) (now (publications .entry)) position)) ⌝ }
 {
     let a = wire::field::write_u8(out, 0, b'Q');
     let b = wire::store::write_be(out, a, 4, (n - 1) as u64);
@@ -68,7 +69,9 @@ pub fn start_replication(
     position: Lsn,
     out: &mut [u8],
 ) -> Written
-    ensures { λ r. ⌜ (outcome r, now (out .exit)) ≡ writing (length (now (slot .entry)) + total (now (publications .entry))) (query (startReplication binary (now (slot .entry)) (now (publications .entry)) position)) (now (out .entry)) ⌝ }
+    ensures { λ r. ⌜ (outcome r, now (out .exit))
+        ≡ writing (length (now (slot .entry)) + total (now (publications .entry)))
+        (query (startReplication binary (now (slot .entry)) (now (publications .entry)) position)) (now (out .entry)) ⌝ }
 {
     if INPUT_LIMIT < slot.len() {
         return Written::Refused(Refusal::InputTooLong);

@@ -16,7 +16,7 @@ use Rattle.wire.specs.Int.{intAt}
 use Rattle.wire.specs.Find.{indexOf}
 use Rattle.wire.proofs.Laws.{by-test, impossible}
 use Rattle.wire.proofs.FieldLaws.{beBytes-one}
-use Rattle.rows.specs.Layout.{Layout, Letters, number, integer, name, value, many, both, nothing, letter, no-other, or, Value, Choice, Read, got, after, told, numberBy, nameBy, countAt, bytesAt, timesAt, readAt, chooseAt, allBytes, bytesOf, letterOf, underOf, All, Fits, ChoiceFits, Unlike, Proper, ProperLetters, Stands, Written-is-read, Read-is-written}
+use Rattle.rows.specs.Layout.{Layout, Letters, number, integer, name, value, many, both, nothing, letter, no-other, or, Value, Choice, Read, got, after, mapped, numberBy, nameBy, countAt, bytesAt, timesAt, readAt, chooseAt, allBytes, bytesOf, letterOf, underOf, All, Fits, ChoiceFits, Unlike, Proper, ProperLetters, Stands, Written-is-read, Read-is-written}
 use Rattle.rows.proofs.Places.{by-after, by-told, number-some, split, join, none-stands, number-read, number-there, integer-read, integer-there, count-read, count-there, bytes-read, bytes-there, name-read, name-back, times-read, times-there}
 
 -- a letter that is listed nowhere else is not taken for another
@@ -94,7 +94,7 @@ mutual
       let l : k ≡ length vs = sym (t .0) in
       rw ev ((rw l at (c .0), d .0, t .1), join s i (beBytes n (length vs)) m (bytesOf a u ++ allBytes (λ w. bytesOf b w) vs) j (rw l at (c .1)) (join s m (bytesOf a u) q (allBytes (λ w. bytesOf b w) vs) j (d .1) (t .2))))))
   read-is-written (both a b) p s bs i v j e =
-      by-after (readAt a s i) (λ u k. told (λ w. (u, w)) (readAt b s k)) v j e (λ u k x y.
+      by-after (readAt a s i) (λ u k. mapped (λ w. (u, w)) (readAt b s k)) v j e (λ u k x y.
       by-told (λ w. (u, w)) (readAt b s k) v j y (λ w x₁ ev.
       let c = read-is-written a (p .0) s bs i u k x in
       let d = read-is-written b (p .1) s bs k w j x₁ in

@@ -9,14 +9,14 @@ use native.Mathlib.Omega.{arith}
 use lib.ListN.{length}
 use borrow.Author.Tests.{eq-eqb, ne-eqb}
 use Rattle.wire.specs.Field.{fieldAt}
-use Rattle.rows.specs.Layout.{Layout, Letters, value, letter, nothing, or, no-other, Value, Read, got, refused, cut, wrong, told, readAt, chooseAt}
+use Rattle.rows.specs.Layout.{Layout, Letters, value, letter, nothing, or, no-other, Value, Read, got, refused, cut, wrong, mapped, readAt, chooseAt}
 use Rattle.rows.specs.Rows.{columnLayout, cellOf}
 use Rattle.rows.specs.Head.{Span, ToldCell, told-null, told-unchanged, told-text, told-binary, cellAt, columnAt}
 use Rattle.rows.proofs.Steps.{letter-got, letter-cut, choose-here, choose-next, choose-none, nothing-got}
 
 module _ (s : List ℕ) (i : ℕ) where
   abbrev Reads : Read ToldCell → Type 0
-  Reads r = told (cellAt i) (columnAt s i) ≡ r
+  Reads r = mapped (cellAt i) (columnAt s i) ≡ r
 
   pub column-cut : fieldAt 1 s i ≡ none → Reads cut
   column-cut e = rw (letter-cut s i _ e)
@@ -30,22 +30,22 @@ module _ (s : List ℕ) (i : ℕ) where
 
     module _ (n : b ≡ code "n" → ⊥) (u : b ≡ code "u" → ⊥) where
       -- a value that was read, told as the code tells it
-      as-text : (r : Read (List ℕ)) (q : Read Span) (x : Read ToldCell) → q ≡ told {B = Span} (λ v. (i + 1 + 4, length v)) r → x ≡ told told-text q
-          → told (cellAt i) (told cellOf (told inr (told inr (told inl r)))) ≡ x
+      as-text : (r : Read (List ℕ)) (q : Read Span) (x : Read ToldCell) → q ≡ mapped {B = Span} (λ v. (i + 1 + 4, length v)) r → x ≡ mapped told-text q
+          → mapped (cellAt i) (mapped cellOf (mapped inr (mapped inr (mapped inl r)))) ≡ x
       as-text (got v j) q x p h = let k : i + 1 + 4 ≡ i + 5 = omega arith in rw (h, p, k)
       as-text (refused m) q x p h = rw (h, p)
 
-      as-binary : (r : Read (List ℕ)) (q : Read Span) (x : Read ToldCell) → q ≡ told {B = Span} (λ v. (i + 1 + 4, length v)) r → x ≡ told told-binary q
-          → told (cellAt i) (told cellOf (told inr (told inr (told inr (told inl r))))) ≡ x
+      as-binary : (r : Read (List ℕ)) (q : Read Span) (x : Read ToldCell) → q ≡ mapped {B = Span} (λ v. (i + 1 + 4, length v)) r → x ≡ mapped told-binary q
+          → mapped (cellAt i) (mapped cellOf (mapped inr (mapped inr (mapped inr (mapped inl r))))) ≡ x
       as-binary (got v j) q x p h = let k : i + 1 + 4 ≡ i + 5 = omega arith in rw (h, p, k)
       as-binary (refused m) q x p h = rw (h, p)
 
-      pub column-text : b ≡ code "t" → {q : Read Span} {x : Read ToldCell} → q ≡ told {B = Span} (λ v. (i + 1 + 4, length v)) (readAt value s (i + 1)) → x ≡ told told-text q → Reads x
+      pub column-text : b ≡ code "t" → {q : Read Span} {x : Read ToldCell} → q ≡ mapped {B = Span} (λ v. (i + 1 + 4, length v)) (readAt value s (i + 1)) → x ≡ mapped told-text q → Reads x
       column-text h {q} {x} p g =
           rw (letter-got s i _ b e, choose-next s (i + 1) _ _ _ b n, choose-next s (i + 1) _ _ _ b u, choose-here s (i + 1) _ _ _ b h) (as-text (readAt value s (i + 1)) q x p g)
 
       module _ (t : b ≡ code "t" → ⊥) where
-        pub column-binary : b ≡ code "b" → {q : Read Span} {x : Read ToldCell} → q ≡ told {B = Span} (λ v. (i + 1 + 4, length v)) (readAt value s (i + 1)) → x ≡ told told-binary q → Reads x
+        pub column-binary : b ≡ code "b" → {q : Read Span} {x : Read ToldCell} → q ≡ mapped {B = Span} (λ v. (i + 1 + 4, length v)) (readAt value s (i + 1)) → x ≡ mapped told-binary q → Reads x
         column-binary h {q} {x} p g =
             rw (letter-got s i _ b e, choose-next s (i + 1) _ _ _ b n, choose-next s (i + 1) _ _ _ b u, choose-next s (i + 1) _ _ _ b t, choose-here s (i + 1) _ _ _ b h)
             (as-binary (readAt value s (i + 1)) q x p g)

@@ -18,7 +18,7 @@ use Rattle.wire.specs.Find.{indexOf, NoZero}
 use Rattle.wire.proofs.Laws.{length-beBytes}
 use Rattle.wire.proofs.FieldLaws.{field-cut, beBytes-one}
 use Rattle.wire.proofs.FindLaws.{no-zero}
-use Rattle.rows.specs.Layout.{Layout, Letters, number, integer, name, value, many, both, nothing, letter, no-other, or, Value, Choice, Read, got, cut, told, countAt, bytesAt, timesAt, readAt, chooseAt, allBytes, bytesOf, letterOf, underOf, All, Fits, ChoiceFits, Proper, ProperLetters, Stands, Cut-is-refused}
+use Rattle.rows.specs.Layout.{Layout, Letters, number, integer, name, value, many, both, nothing, letter, no-other, or, Value, Choice, Read, got, cut, mapped, countAt, bytesAt, timesAt, readAt, chooseAt, allBytes, bytesOf, letterOf, underOf, All, Fits, ChoiceFits, Proper, ProperLetters, Stands, Cut-is-refused}
 use Rattle.rows.specs.Rows.{Row, relation, type, origin, insert, update, update-from, delete, truncate, rowBytes, rowLayout, rowOf, refused-by, boundaryLetter, isBoundary, saidOf, rowSaid}
 use Rattle.rows.specs.RowLayout.{RowFits, Cut-row-is-refused}
 use Rattle.rows.proofs.BothWays.{other-letter, letter-below, written-is-read}

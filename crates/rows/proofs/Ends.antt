@@ -13,7 +13,7 @@ use Rattle.wire.specs.Field.{fieldAt}
 use Rattle.wire.specs.Int.{intAt, isNegative, intBytes, value as intValue}
 use Rattle.wire.specs.Find.{indexOf}
 use Rattle.wire.proofs.Laws.{by-test, impossible, length-beBytes}
-use Rattle.rows.specs.Layout.{Layout, Letters, number, integer, name, value, many, both, nothing, letter, no-other, or, Value, Choice, Read, got, told, after, numberBy, nameBy, countAt, bytesAt, timesAt, readAt, chooseAt, allBytes, bytesOf, letterOf, underOf}
+use Rattle.rows.specs.Layout.{Layout, Letters, number, integer, name, value, many, both, nothing, letter, no-other, or, Value, Choice, Read, got, mapped, after, numberBy, nameBy, countAt, bytesAt, timesAt, readAt, chooseAt, allBytes, bytesOf, letterOf, underOf}
 use Rattle.rows.specs.Rows.{Cell, cellBytes, columnLayout, tupleLayout, cellOf, cellsOf}
 use Rattle.rows.proofs.Places.{after-got, by-after, by-told, number-some, pick-got, bytes-there, name-there}
 
@@ -41,7 +41,7 @@ times-end f g one zero i vs j e =
     let ej : j ≡ i = cc in
     rw (ev, ej) (refl, omega arith)
 times-end f g one (suc n) i vs j e =
-    by-after (f i) (λ v k. told (λ ws. v ∷ ws) (timesAt f n k)) vs j e (λ v k p q.
+    by-after (f i) (λ v k. mapped (λ ws. v ∷ ws) (timesAt f n k)) vs j e (λ v k p q.
     by-told (λ ws. v ∷ ws) (timesAt f n k) vs j q (λ ws r ev.
     let t = times-end f g one n k ws j r in
     rw ev (ap suc (t .0), omega (arith, t .1, one i v k p, length-append (g v) (allBytes g ws)))))
@@ -63,7 +63,7 @@ mutual
       let t = times-end (λ r. readAt b s r) (λ w. bytesOf b w) (λ r w p. read-ends b s r w p) k q vs j x₂ in
       rw ev (omega (arith, count-ends s n i k m x, read-ends a s m u q x₁, t .1, length-beBytes n (length vs), length-append (beBytes n (length vs)) (bytesOf a u ++ allBytes (λ w. bytesOf b w) vs), length-append (bytesOf a u) (allBytes (λ w. bytesOf b w) vs))))))
   read-ends (both a b) s i v j e =
-      by-after (readAt a s i) (λ u k. told (λ w. (u, w)) (readAt b s k)) v j e (λ u k x y.
+      by-after (readAt a s i) (λ u k. mapped (λ w. (u, w)) (readAt b s k)) v j e (λ u k x y.
       by-told (λ w. (u, w)) (readAt b s k) v j y (λ w x₁ ev.
       rw ev (omega (arith, read-ends a s i u k x, read-ends b s k w j x₁, length-append (bytesOf a u) (bytesOf b w)))))
   read-ends nothing s i v j e =

@@ -11,7 +11,7 @@ use lib.ListN.{length, getD}
 use Rattle.wire.specs.Bytes.{pick}
 use Rattle.wire.specs.Field.{fieldAt}
 use Rattle.wire.proofs.FieldLaws.{field-whole, field-cut, be-one}
-use Rattle.rows.specs.Layout.{Layout, Letters, letter, or, no-other, Value, Read, got, refused, told, readAt, chooseAt}
+use Rattle.rows.specs.Layout.{Layout, Letters, letter, or, no-other, Value, Read, got, refused, mapped, readAt, chooseAt}
 use Rattle.rows.specs.Rows.{Row, Said, relationLayout, typeLayout, originLayout, insertLayout, updateLayout, deleteLayout, truncateLayout, rowLetters, rowLayout, relationOf, typeOf, originOf, insertOf, updateOf, deleteOf, truncateOf, rowOf, boundaryLetter, isBoundary, saidOf, rowSaid}
 use Rattle.rows.specs.Head.{headOf, Answer, head, none as no-answer, refusal, answerOf, headTold}
 use Rattle.rows.proofs.Heads.{head-told}

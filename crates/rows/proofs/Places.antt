@@ -19,7 +19,7 @@ use Rattle.wire.specs.Find.{indexOf, NoZero}
 use Rattle.wire.proofs.Laws.{length-beBytes, impossible}
 use Rattle.wire.proofs.FieldLaws.{field-read, field-there, int-read, int-there, halves}
 use Rattle.wire.proofs.FindLaws.{zero-at, found-at, found-below}
-use Rattle.rows.specs.Layout.{Read, got, refused, cut, after, told, numberBy, nameBy, countAt, bytesAt, timesAt, allBytes, All, Stands}
+use Rattle.rows.specs.Layout.{Read, got, refused, cut, after, mapped, numberBy, nameBy, countAt, bytesAt, timesAt, allBytes, All, Stands}
 
 -- ---- what a reading that went on says of each of its fields
 
@@ -32,13 +32,13 @@ pub by-after : {A B X : Type 0} (r : Read A) (go : A → ℕ → Read B) (w : B)
 by-after r go w k e f = let a = after-got r go w k e in f (a .0) (a .1) (a .2) (a .3)
 
 -- .. and of the values that were told
-pub told-got : {A B : Type 0} (f : A → B) (r : Read A) (w : B) (k : ℕ) → told f r ≡ got w k → (v : A) × (r ≡ got v k) × (w ≡ f v)
+pub told-got : {A B : Type 0} (f : A → B) (r : Read A) (w : B) (k : ℕ) → mapped f r ≡ got w k → (v : A) × (r ≡ got v k) × (w ≡ f v)
 told-got f (got v j) w k e =
     let ej : j ≡ k = cc in
     (v, ap (λ (x : ℕ). got v x) ej, (cc))
 told-got f (refused n) w k e = impossible cc
 
-pub by-told : {A B X : Type 0} (f : A → B) (r : Read A) (w : B) (k : ℕ) → told f r ≡ got w k → ((v : A) → r ≡ got v k → w ≡ f v → X) → X
+pub by-told : {A B X : Type 0} (f : A → B) (r : Read A) (w : B) (k : ℕ) → mapped f r ≡ got w k → ((v : A) → r ≡ got v k → w ≡ f v → X) → X
 by-told f r w k e g = let a = told-got f r w k e in g (a .0) (a .1) (a .2)
 
 pub number-some : {A : Type 0} (n i : ℕ) (o : Option A) (v : A) (j : ℕ) → numberBy n i o ≡ got v j → (o ≡ some v) × (j ≡ i + n)
@@ -172,7 +172,7 @@ module _ (s : List ℕ) where
         let ej : j ≡ i = cc in
         rw (ev, ej) (refl, tt, none-stands i)
     times-there one (suc n) i vs j e =
-        by-after (f i) (λ v k. told (λ ws. v ∷ ws) (timesAt f n k)) vs j e (λ v k p q.
+        by-after (f i) (λ v k. mapped (λ ws. v ∷ ws) (timesAt f n k)) vs j e (λ v k p q.
         by-told (λ ws. v ∷ ws) (timesAt f n k) vs j q (λ ws r ev.
         let o = one i v k p in
         let t = times-there one n k ws j r in

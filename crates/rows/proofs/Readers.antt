@@ -12,7 +12,7 @@ use lib.Seq.{drop-append-seam}
 use lib.Pow.{areBytes}
 use Rattle.wire.specs.Bytes.{beBytes}
 use Rattle.wire.proofs.Laws.{length-beBytes}
-use Rattle.rows.specs.Layout.{number, Value, Read, got, told, readAt, allBytes, bytesOf, All, Fits, Stands}
+use Rattle.rows.specs.Layout.{number, Value, Read, got, mapped, readAt, allBytes, bytesOf, All, Fits, Stands}
 use Rattle.rows.specs.Rows.{Cell, null, unchanged, text, binary, Described, described, Row, relation, type, origin, insert, update, update-from, delete, truncate, cellBytes, tupleBytes, describedBytes, rowBytes, whichLetter, columnLayout, describedLayout, cellOf, describedOf, row, rowSaid}
 use Rattle.rows.specs.Head.{columnAt, descriptionAt, identifierAt}
 use Rattle.rows.specs.RowLayout.{CellFits, DescribedFits, RowFits, InTurn, ColumnsFrom, ReadersOf, Readers-answer}

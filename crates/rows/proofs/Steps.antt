@@ -16,7 +16,7 @@ use Rattle.wire.proofs.FindLaws.{found-below}
 use Rattle.wire.proofs.Laws.{impossible}
 use Rattle.wire.specs.Int.{half, intAt}
 use Rattle.rows.proofs.Places.{name-there, told-got}
-use Rattle.rows.specs.Layout.{Layout, Letters, number, integer, name, value, many, both, nothing, letter, no-other, or, Value, Choice, Read, got, refused, cut, wrong, after, told, numberBy, countAt, bytesAt, timesAt, readAt, chooseAt}
+use Rattle.rows.specs.Layout.{Layout, Letters, number, integer, name, value, many, both, nothing, letter, no-other, or, Value, Choice, Read, got, refused, cut, wrong, after, mapped, numberBy, countAt, bytesAt, timesAt, readAt, chooseAt}
 
 module _ (s : List ℕ) (i : ℕ) where
   pub number-got : (n v : ℕ) → fieldAt n s i ≡ some v → readAt (number n) s i ≡ got v (i + n)
@@ -35,7 +35,7 @@ module _ (s : List ℕ) (i : ℕ) where
   unfolding readAt
   integer-cut e = rw e
 
-  pub both-got : (a b : Layout) (v : Value a) (j : ℕ) → readAt a s i ≡ got v j → readAt (both a b) s i ≡ told (λ w. (v, w)) (readAt b s j)
+  pub both-got : (a b : Layout) (v : Value a) (j : ℕ) → readAt a s i ≡ got v j → readAt (both a b) s i ≡ mapped (λ w. (v, w)) (readAt b s j)
   unfolding readAt
   both-got a b v j e = rw e
 
@@ -49,11 +49,11 @@ module _ (s : List ℕ) (i : ℕ) where
 
   -- ---- names
 
-  pub name-got : (n : ℕ) → indexOf 0 (drop i s) ≡ some n → told {B = ℕ × ℕ} (λ v. (i, length v)) (readAt name s i) ≡ got (i, n) (i + n + 1)
+  pub name-got : (n : ℕ) → indexOf 0 (drop i s) ≡ some n → mapped {B = ℕ × ℕ} (λ v. (i, length v)) (readAt name s i) ≡ got (i, n) (i + n + 1)
   unfolding readAt
   name-got n e = rw e (rw (name-there s i n e .0))
 
-  pub name-cut : indexOf 0 (drop i s) ≡ none → told {B = ℕ × ℕ} (λ v. (i, length v)) (readAt name s i) ≡ cut
+  pub name-cut : indexOf 0 (drop i s) ≡ none → mapped {B = ℕ × ℕ} (λ v. (i, length v)) (readAt name s i) ≡ cut
   unfolding readAt
   name-cut e = rw e
 
@@ -77,7 +77,7 @@ module _ (s : List ℕ) (i : ℕ) where
   -- ---- values
 
   abbrev Valued : Read (ℕ × ℕ) → Type 0
-  Valued r = told {B = ℕ × ℕ} (λ v. (i + 4, length v)) (readAt value s i) ≡ r
+  Valued r = mapped {B = ℕ × ℕ} (λ v. (i + 4, length v)) (readAt value s i) ≡ r
 
   pub value-cut : fieldAt 4 s i ≡ none → Valued cut
   unfolding readAt
@@ -102,7 +102,7 @@ module _ (s : List ℕ) (i : ℕ) where
   many-none n a b m e = rw e
 
   pub many-got : (n : ℕ) (a b : Layout) (k j : ℕ) (v : Value a) (p : ℕ) → countAt n s i ≡ got k j → readAt a s j ≡ got v p
-      → readAt (many n a b) s i ≡ told (λ vs. (v, vs)) (timesAt (λ q. readAt b s q) k p)
+      → readAt (many n a b) s i ≡ mapped (λ vs. (v, vs)) (timesAt (λ q. readAt b s q) k p)
   unfolding readAt
   many-got n a b k j v p e f = rw (e, f)
 
@@ -124,11 +124,11 @@ module _ (s : List ℕ) (i : ℕ) where
   unfolding readAt
   letter-cut ls e = rw e
 
-  pub choose-here : (c : ℕ) (a : Layout) (ls : Letters) (b : ℕ) → b ≡ c → chooseAt (or c a ls) b s i ≡ told inl (readAt a s i)
+  pub choose-here : (c : ℕ) (a : Layout) (ls : Letters) (b : ℕ) → b ≡ c → chooseAt (or c a ls) b s i ≡ mapped inl (readAt a s i)
   unfolding readAt
   choose-here c a ls b e = simp (eq-eqb b c e)
 
-  pub choose-next : (c : ℕ) (a : Layout) (ls : Letters) (b : ℕ) → (b ≡ c → ⊥) → chooseAt (or c a ls) b s i ≡ told inr (chooseAt ls b s i)
+  pub choose-next : (c : ℕ) (a : Layout) (ls : Letters) (b : ℕ) → (b ≡ c → ⊥) → chooseAt (or c a ls) b s i ≡ mapped inr (chooseAt ls b s i)
   unfolding readAt
   choose-next c a ls b e = simp (ne-eqb b c e)
 
@@ -137,24 +137,24 @@ module _ (s : List ℕ) (i : ℕ) where
   choose-none b = refl
 
 -- what is told twice is told once
-pub told-told : {A B C : Type 0} (f : B → C) (g : A → B) (r : Read A) → told f (told g r) ≡ told (λ v. f (g v)) r
+pub told-told : {A B C : Type 0} (f : B → C) (g : A → B) (r : Read A) → mapped f (mapped g r) ≡ mapped (λ v. f (g v)) r
 told-told f g (got v j) = refl
 told-told f g (refused n) = refl
 
 -- a refusal that is told was read
-pub refused-back : {A B : Type 0} (f : A → B) (r : Read A) (n : ℕ) → refused n ≡ told f r → r ≡ refused n
+pub refused-back : {A B : Type 0} (f : A → B) (r : Read A) (n : ℕ) → refused n ≡ mapped f r → r ≡ refused n
 refused-back f (got v j) n e = impossible cc
 refused-back f (refused m) n e = let h : m ≡ n = cc in ap refused h
 
 -- .. and so was a value
-pub got-back : {A B : Type 0} (f : A → B) (r : Read A) (w : B) (j : ℕ) → got w j ≡ told f r → (v : A) × (r ≡ got v j) × (w ≡ f v)
+pub got-back : {A B : Type 0} (f : A → B) (r : Read A) (w : B) (j : ℕ) → got w j ≡ mapped f r → (v : A) × (r ≡ got v j) × (w ≡ f v)
 got-back f r w j e = told-got f r w j (sym e)
 
 -- the place alone
 abbrev pub ended : {A : Type 0} → Read A → Read Unit
-ended r = told (λ v. tt) r
+ended r = mapped (λ v. tt) r
 
-pub ended-told : {A B C : Type 0} (f : B → C) (g : A → B) (r : Read A) (x : Read C) (e : Read Unit) → x ≡ told f (told g r) → e ≡ ended x → e ≡ ended r
+pub ended-told : {A B C : Type 0} (f : B → C) (g : A → B) (r : Read A) (x : Read C) (e : Read Unit) → x ≡ mapped f (mapped g r) → e ≡ ended x → e ≡ ended r
 ended-told f g (got v j) x e p q = q ∙ rw p
 ended-told f g (refused n) x e p q = q ∙ rw p
 

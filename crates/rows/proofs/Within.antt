@@ -17,7 +17,7 @@ use Rattle.wire.specs.Find.{indexOf}
 use Rattle.wire.proofs.Laws.{by-test, impossible, length-beBytes}
 use Rattle.wire.proofs.FieldLaws.{field-within, int-within}
 use Rattle.wire.proofs.FindLaws.{found-below}
-use Rattle.rows.specs.Layout.{Layout, Letters, number, integer, name, value, many, both, nothing, letter, no-other, or, Value, Choice, Read, got, told, after, numberBy, nameBy, countAt, bytesAt, timesAt, readAt, chooseAt, bytesOf}
+use Rattle.rows.specs.Layout.{Layout, Letters, number, integer, name, value, many, both, nothing, letter, no-other, or, Value, Choice, Read, got, mapped, after, numberBy, nameBy, countAt, bytesAt, timesAt, readAt, chooseAt, bytesOf}
 use Rattle.rows.specs.Rows.{Cell, Described, described, cellBytes, describedBytes, columnLetters, columnLayout, describedLayout, cellOf, describedOf}
 use Rattle.rows.specs.Head.{columnAt, descriptionAt, identifierAt}
 use Rattle.rows.specs.RowLayout.{ReaderLaws}
@@ -53,7 +53,7 @@ module _ (s : List ℕ) where
   unfolding timesAt
   times-within f one zero i vs j e l = let ej : i ≡ j = cc in omega arith
   times-within f one (suc n) i vs j e l =
-      by-after (f i) (λ v k. told (λ ws. v ∷ ws) (timesAt f n k)) vs j e (λ v k p q.
+      by-after (f i) (λ v k. mapped (λ ws. v ∷ ws) (timesAt f n k)) vs j e (λ v k p q.
       by-told (λ ws. v ∷ ws) (timesAt f n k) vs j q (λ ws r ev. times-within f one n k ws j r (one i v k p l)))
 
   mutual
@@ -70,7 +70,7 @@ module _ (s : List ℕ) where
         by-told (λ vs. (u, vs)) (timesAt (λ r. readAt b s r) k q) v j y₁ (λ vs x₂ ev.
         times-within (λ r. readAt b s r) (λ r w p. read-within b r w p) k q vs j x₂ (read-within a m u q x₁ (count-within n i k m x)))))
     read-within (both a b) i v j e l =
-        by-after (readAt a s i) (λ u k. told (λ w. (u, w)) (readAt b s k)) v j e (λ u k x y.
+        by-after (readAt a s i) (λ u k. mapped (λ w. (u, w)) (readAt b s k)) v j e (λ u k x y.
         by-told (λ w. (u, w)) (readAt b s k) v j y (λ w x₁ ev. read-within b k w j x₁ (read-within a i u k x l)))
     read-within nothing i v j e l = let ej : i ≡ j = cc in omega arith
     read-within (letter ls) i w j e l =
@@ -95,7 +95,7 @@ module _ (s : List ℕ) where
   number-starts : (n : ℕ) (b : Layout) (i : ℕ) (v : Value (both (number n) b)) (j : ℕ) → readAt (both (number n) b) s i ≡ got v j → i ≤ length s
   unfolding readAt
   number-starts n b i v j e =
-      by-after (numberBy n i (fieldAt n s i)) (λ u k. told (λ w. (u, w)) (readAt b s k)) v j e (λ u k x y.
+      by-after (numberBy n i (fieldAt n s i)) (λ u k. mapped (λ w. (u, w)) (readAt b s k)) v j e (λ u k x y.
       omega (arith, field-within n s i u (number-some n i (fieldAt n s i) u k x .0)))
 
   column-on : (i : ℕ) (c : Cell) (j : ℕ) → columnAt s i ≡ got c j → (j ≡ i + length (cellBytes c)) × (i < j) × (j ≤ length s)

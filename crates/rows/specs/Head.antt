@@ -5,7 +5,7 @@ use mathlib.Core.Bool.{true, false}
 use Prim.Native.Nat.{ℕ, _+_}
 use lib.ListN.{length}
 use lib.IntN.{ℤ}
-use Rattle.rows.specs.Layout.{Layout, number, integer, both, Value, Read, got, refused, cut, told, readAt, allBytes}
+use Rattle.rows.specs.Layout.{Layout, number, integer, both, Value, Read, got, refused, cut, mapped, readAt, allBytes}
 use Rattle.rows.specs.Rows.{Cell, null, unchanged, text, binary, Described, described, Row, relation, type, origin, insert, update, update-from, delete, truncate, cellBytes, columnLayout, describedLayout, cellOf, describedOf, Said, row, no-row, refused-by, rowSaid}
 use Rattle.rows.specs.declared.Refusal.{Refusal}
 use Rattle.rows.specs.declared.Refusal.the-variants.{FieldCut, UnknownLetter}
@@ -121,7 +121,7 @@ cellAt i (binary v) = told-binary (i + 5, length v)
 
 -- the column at a place, and the place after it
 abbrev pub columnAt : List ℕ → ℕ → Read Cell
-columnAt s i = told cellOf (readAt columnLayout s i)
+columnAt s i = mapped cellOf (readAt columnLayout s i)
 
 -- what an answer about a column says
 abbrev pub columnBy : Column → Read ToldCell
@@ -143,7 +143,7 @@ describedAt i (described flags v oid modifier) = told-description flags (i + 1, 
 
 -- the description at a place, and the place after it
 abbrev pub descriptionAt : List ℕ → ℕ → Read Described
-descriptionAt s i = told describedOf (readAt describedLayout s i)
+descriptionAt s i = mapped describedOf (readAt describedLayout s i)
 
 -- what an answer about a description says
 abbrev pub descriptionBy : Description → Read ToldDescription

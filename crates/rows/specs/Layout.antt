@@ -71,10 +71,10 @@ abbrev pub after : {A B : Type 0} → Read A → (A → ℕ → Read B) → Read
 after (got v j) go = go v j
 after (refused n) go = refused n
 
--- what is told of values that were read
-abbrev pub told : {A B : Type 0} → (A → B) → Read A → Read B
-told f (got v j) = got (f v) j
-told f (refused n) = refused n
+-- a function of the values that were read
+abbrev pub mapped : {A B : Type 0} → (A → B) → Read A → Read B
+mapped f (got v j) = got (f v) j
+mapped f (refused n) = refused n
 
 -- a number of n bytes from place i, which may be cut
 abbrev pub numberBy : {A : Type 0} → ℕ → ℕ → Option A → Read A
@@ -97,7 +97,7 @@ bytesAt n s i = pick (ltb (length s - i) n) cut (got (at s i n) (i + n))
 -- so many times what is read at a place
 unfoldable pub timesAt : {A : Type 0} → (ℕ → Read A) → ℕ → ℕ → Read (List A)
 timesAt f zero i = got [] i
-timesAt f (suc n) i = after (f i) (λ v j. told (λ vs. v ∷ vs) (timesAt f n j))
+timesAt f (suc n) i = after (f i) (λ v j. mapped (λ vs. v ∷ vs) (timesAt f n j))
 
 -- the fields of a layout from place i on, in their order
 unfoldable mutual
@@ -106,15 +106,15 @@ unfoldable mutual
   readAt integer s i = numberBy 4 i (intAt 4 s i)
   readAt name s i = nameBy s i (indexOf 0 (drop i s))
   readAt value s i = after (countAt 4 s i) (λ n j. bytesAt n s j)
-  readAt (many n a b) s i = after (countAt n s i) (λ k j. after (readAt a s j) (λ v p. told (λ vs. (v, vs)) (timesAt (λ q. readAt b s q) k p)))
-  readAt (both a b) s i = after (readAt a s i) (λ v j. told (λ w. (v, w)) (readAt b s j))
+  readAt (many n a b) s i = after (countAt n s i) (λ k j. after (readAt a s j) (λ v p. mapped (λ vs. (v, vs)) (timesAt (λ q. readAt b s q) k p)))
+  readAt (both a b) s i = after (readAt a s i) (λ v j. mapped (λ w. (v, w)) (readAt b s j))
   readAt nothing s i = got tt i
   readAt (letter ls) s i = after (numberBy 1 i (fieldAt 1 s i)) (λ b j. chooseAt ls b s j)
 
   -- by the letter b, the fields that are listed under it
   pub chooseAt : (ls : Letters) → ℕ → List ℕ → ℕ → Read (Choice ls)
   chooseAt no-other b s i = wrong
-  chooseAt (or c a ls) b s i = pick (eqb b c) (told inl (readAt a s i)) (told inr (chooseAt ls b s i))
+  chooseAt (or c a ls) b s i = pick (eqb b c) (mapped inl (readAt a s i)) (mapped inr (chooseAt ls b s i))
 
 -- ---- what is sent
 

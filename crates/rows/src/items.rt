@@ -2,7 +2,7 @@
 ghost use mathlib.Core.Path.{_≡_};
 ghost use Prim.Native.Nat.{_+_};
 ghost use lib.ListN.{length};
-ghost use Rattle.rows.specs.Layout.{name, value, readAt, told};
+ghost use Rattle.rows.specs.Layout.{name, value, readAt, mapped};
 ghost use Rattle.rows.specs.Head.{spanOf, told-text, told-binary, told-description, typedLayout, nameBy, bytesBy, cellAt, columnAt, columnBy, describedAt, descriptionAt, descriptionBy, identifierAt, identifierBy};
 use crate::Bytes;
 use crate::Column;
@@ -19,7 +19,7 @@ use wire::find::Found;
 
 // A name goes to the first zero byte.
 pub(crate) fn name_at(bytes: &[u8], at: usize) -> Name
-    ensures { λ r. ⌜ nameBy r ≡ told (λ v. (at, length v)) (readAt name (now (bytes .entry)) at) ⌝ }
+    ensures { λ r. ⌜ nameBy r ≡ mapped (λ v. (at, length v)) (readAt name (now (bytes .entry)) at) ⌝ }
 {
     let Found::At(len) = reader::zero_after(bytes, at, 0) else {
         return Name::Cut;
@@ -30,7 +30,7 @@ pub(crate) fn name_at(bytes: &[u8], at: usize) -> Name
 
 // A value's length and its bytes.
 fn bytes_at(bytes: &[u8], at: usize) -> Bytes
-    ensures { λ r. ⌜ bytesBy r ≡ told (λ v. (at + 4, length v)) (readAt value (now (bytes .entry)) at) ⌝ }
+    ensures { λ r. ⌜ bytesBy r ≡ mapped (λ v. (at + 4, length v)) (readAt value (now (bytes .entry)) at) ⌝ }
 {
     let U32Field::Value(len) = wire::field::read_u32(bytes, at) else {
         return Bytes::Cut;
@@ -49,7 +49,7 @@ fn bytes_at(bytes: &[u8], at: usize) -> Bytes
 
 // A value as text.
 fn text_of(b: Bytes) -> Column
-    ensures { λ r. ⌜ columnBy r ≡ told told-text (bytesBy b) ⌝ }
+    ensures { λ r. ⌜ columnBy r ≡ mapped told-text (bytesBy b) ⌝ }
 {
     match b {
         Bytes::At(part, next) => Column::Text(part, next),
@@ -59,7 +59,7 @@ fn text_of(b: Bytes) -> Column
 
 // A value in binary format.
 fn binary_of(b: Bytes) -> Column
-    ensures { λ r. ⌜ columnBy r ≡ told told-binary (bytesBy b) ⌝ }
+    ensures { λ r. ⌜ columnBy r ≡ mapped told-binary (bytesBy b) ⌝ }
 {
     match b {
         Bytes::At(part, next) => Column::Binary(part, next),
@@ -69,7 +69,7 @@ fn binary_of(b: Bytes) -> Column
 
 // The column of a tuple that stands at a place.
 pub fn column_at(bytes: &[u8], at: usize) -> Column
-    ensures { λ r. ⌜ columnBy r ≡ told (cellAt at) (columnAt (now (bytes .entry)) at) ⌝ }
+    ensures { λ r. ⌜ columnBy r ≡ mapped (cellAt at) (columnAt (now (bytes .entry)) at) ⌝ }
 {
     let U8Field::Value(letter) = wire::field::read_u8(bytes, at) else {
         return Column::Refused(Refusal::FieldCut);
@@ -92,7 +92,7 @@ pub fn column_at(bytes: &[u8], at: usize) -> Column
 
 // The type and the type modifier of a description whose flags and name were read.
 fn typed(bytes: &[u8], flags: u8, name: Part, at: usize) -> Description
-    ensures { λ r. ⌜ descriptionBy r ≡ told (λ v. told-description flags (spanOf name) (v .0) (v .1)) (readAt typedLayout (now (bytes .entry)) at) ⌝ }
+    ensures { λ r. ⌜ descriptionBy r ≡ mapped (λ v. told-description flags (spanOf name) (v .0) (v .1)) (readAt typedLayout (now (bytes .entry)) at) ⌝ }
 {
     let U32Field::Value(oid) = wire::field::read_u32(bytes, at) else {
         return Description::Refused(Refusal::FieldCut);
@@ -111,7 +111,7 @@ fn typed(bytes: &[u8], flags: u8, name: Part, at: usize) -> Description
 
 // The column of a relation that is described at a place.
 pub fn description_at(bytes: &[u8], at: usize) -> Description
-    ensures { λ r. ⌜ descriptionBy r ≡ told (describedAt at) (descriptionAt (now (bytes .entry)) at) ⌝ }
+    ensures { λ r. ⌜ descriptionBy r ≡ mapped (describedAt at) (descriptionAt (now (bytes .entry)) at) ⌝ }
 {
     let U8Field::Value(flags) = wire::field::read_u8(bytes, at) else {
         return Description::Refused(Refusal::FieldCut);

@@ -2,7 +2,7 @@
 ghost use mathlib.Core.Path.{_≡_};
 ghost use Prim.Native.Nat.{_+_};
 ghost use lib.ListN.{length};
-ghost use Rattle.rows.specs.Layout.{many, nothing, readAt, timesAt, told};
+ghost use Rattle.rows.specs.Layout.{many, nothing, readAt, timesAt, mapped};
 ghost use Rattle.rows.specs.Rows.{newLayout, newOf};
 ghost use Rattle.rows.specs.Head.{columnBy, descriptionBy, identifierBy, layoutOf, tupleOf, endBy, countedBy};
 use crate::Column;
@@ -20,7 +20,7 @@ use wire::field::U16Field;
 
 // The place after a column.
 fn after_column(c: Column) -> End
-    ensures { λ r. ⌜ endBy r ≡ told (λ v. tt) (columnBy c) ⌝ }
+    ensures { λ r. ⌜ endBy r ≡ mapped (λ v. tt) (columnBy c) ⌝ }
 {
     match c {
         Column::Null(next) => End::At(next),
@@ -33,7 +33,7 @@ fn after_column(c: Column) -> End
 
 // The place after a description.
 fn after_description(d: Description) -> End
-    ensures { λ r. ⌜ endBy r ≡ told (λ v. tt) (descriptionBy d) ⌝ }
+    ensures { λ r. ⌜ endBy r ≡ mapped (λ v. tt) (descriptionBy d) ⌝ }
 {
     match d {
         Description::Of {
@@ -49,7 +49,7 @@ fn after_description(d: Description) -> End
 
 // The place after an identifier.
 fn after_identifier(i: Identifier) -> End
-    ensures { λ r. ⌜ endBy r ≡ told (λ v. tt) (identifierBy i) ⌝ }
+    ensures { λ r. ⌜ endBy r ≡ mapped (λ v. tt) (identifierBy i) ⌝ }
 {
     match i {
         Identifier::Of(_, next) => End::At(next),
@@ -59,7 +59,7 @@ fn after_identifier(i: Identifier) -> End
 
 // The place after one.
 fn after_one(bytes: &[u8], at: usize, kind: Item) -> End
-    ensures { λ r. ⌜ endBy r ≡ told (λ v. tt) (readAt (layoutOf kind) (now (bytes .entry)) at) ⌝ }
+    ensures { λ r. ⌜ endBy r ≡ mapped (λ v. tt) (readAt (layoutOf kind) (now (bytes .entry)) at) ⌝ }
 {
     match kind {
         Item::Column => after_column(items::column_at(bytes, at)),
@@ -70,7 +70,7 @@ fn after_one(bytes: &[u8], at: usize, kind: Item) -> End
 
 // The place after n of them, one after the other.
 pub(crate) fn after_all(bytes: &[u8], from: usize, n: usize, kind: Item) -> End
-    ensures { λ r. ⌜ endBy r ≡ told (λ v. tt) (timesAt (λ q. readAt (layoutOf kind) (now (bytes .entry)) q) n from) ⌝ }
+    ensures { λ r. ⌜ endBy r ≡ mapped (λ v. tt) (timesAt (λ q. readAt (layoutOf kind) (now (bytes .entry)) q) n from) ⌝ }
 {
     let mut at = from;
     let mut k: usize = 0;
@@ -87,7 +87,7 @@ pub(crate) fn after_all(bytes: &[u8], from: usize, n: usize, kind: Item) -> End
 
 // What was counted, and where it ends.
 fn counted_to(tuple: Tuple, e: End) -> Counted
-    ensures { λ r. ⌜ countedBy r ≡ told (λ v. tupleOf tuple) (endBy e) ⌝ }
+    ensures { λ r. ⌜ countedBy r ≡ mapped (λ v. tupleOf tuple) (endBy e) ⌝ }
 {
     match e {
         End::At(next) => Counted::Of(tuple, next),
@@ -97,7 +97,7 @@ fn counted_to(tuple: Tuple, e: End) -> Counted
 
 // A count of 16 bits, and so many columns or descriptions.
 pub(crate) fn counted_at(bytes: &[u8], at: usize, kind: Item) -> Counted
-    ensures { λ r. ⌜ countedBy r ≡ told (λ v. (length (v .1), at + 2)) (readAt (many 2 nothing (layoutOf kind)) (now (bytes .entry)) at) ⌝ }
+    ensures { λ r. ⌜ countedBy r ≡ mapped (λ v. (length (v .1), at + 2)) (readAt (many 2 nothing (layoutOf kind)) (now (bytes .entry)) at) ⌝ }
 {
     let U16Field::Value(n) = wire::field::read_u16(bytes, at) else {
         return Counted::Refused(Refusal::FieldCut);
@@ -113,7 +113,7 @@ pub(crate) fn counted_at(bytes: &[u8], at: usize, kind: Item) -> Counted
 
 // `N` and the new tuple.
 pub(crate) fn new_at(bytes: &[u8], at: usize) -> Counted
-    ensures { λ r. ⌜ countedBy r ≡ told (λ v. (length (newOf v), at + 3)) (readAt newLayout (now (bytes .entry)) at) ⌝ }
+    ensures { λ r. ⌜ countedBy r ≡ mapped (λ v. (length (newOf v), at + 3)) (readAt newLayout (now (bytes .entry)) at) ⌝ }
 {
     let U8Field::Value(letter) = wire::field::read_u8(bytes, at) else {
         return Counted::Refused(Refusal::FieldCut);

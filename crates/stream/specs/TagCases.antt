@@ -21,6 +21,7 @@ pub record TagCases : Type 0 where
   pub auth : isAuthRequest (code "R") ≡ true
   pub auth-only : (tag : ℕ) → isAuthRequest tag ≡ true → tag ≡ code "R"
 
+-- they hold, by computing and by what the test says of its byte
 pub tag-cases : TagCases
 tag-cases =
     record {

@@ -35,10 +35,12 @@ pub record TextCases : Type 0 where
   pub decimal-nine : decimalText 9 ≡ 57 ∷ []
   pub decimal-ten : decimalText 10 ≡ 49 ∷ 48 ∷ []
   pub decimal-many : decimalText 1234567890 ≡ 49 ∷ 50 ∷ 51 ∷ 52 ∷ 53 ∷ 54 ∷ 55 ∷ 56 ∷ 57 ∷ 48 ∷ []
-  pub decimal-largest : decimalText 18446744073709551615 ≡ 49 ∷ 56 ∷ 52 ∷ 52 ∷ 54 ∷ 55 ∷ 52 ∷ 52 ∷ 48 ∷ 55 ∷ 51 ∷ 55 ∷ 48 ∷ 57 ∷ 53 ∷ 53 ∷ 49 ∷ 54 ∷ 49 ∷ 53 ∷ []
+  pub decimal-largest : decimalText 18446744073709551615 ≡ 49 ∷ 56 ∷ 52 ∷ 52 ∷ 54 ∷ 55 ∷ 52 ∷ 52 ∷ 48 ∷ 55 ∷ 51 ∷ 55 ∷ 48 ∷ 57 ∷ 53 ∷ 53 ∷ 49 ∷ 54
+      ∷ 49 ∷ 53 ∷ []
   pub signed-positive : signedText (pos 7) ≡ 55 ∷ []
   pub signed-minus-one : signedText (negsuc 0) ≡ 45 ∷ 49 ∷ []
-  pub signed-smallest : signedText (negsuc 9223372036854775807) ≡ 45 ∷ 57 ∷ 50 ∷ 50 ∷ 51 ∷ 51 ∷ 55 ∷ 50 ∷ 48 ∷ 51 ∷ 54 ∷ 56 ∷ 53 ∷ 52 ∷ 55 ∷ 55 ∷ 53 ∷ 56 ∷ 48 ∷ 56 ∷ []
+  pub signed-smallest : signedText (negsuc 9223372036854775807) ≡ 45 ∷ 57 ∷ 50 ∷ 50 ∷ 51 ∷ 51 ∷ 55 ∷ 50 ∷ 48 ∷ 51 ∷ 54 ∷ 56 ∷ 53 ∷ 52 ∷ 55 ∷ 55 ∷ 53
+      ∷ 56 ∷ 48 ∷ 56 ∷ []
   pub hex-zero : hexText 0 ≡ 48 ∷ []
   pub hex-upper : hexText 0xABCDEF ≡ 65 ∷ 66 ∷ 67 ∷ 68 ∷ 69 ∷ 70 ∷ []
   pub hex-sixteen : hexText 16 ≡ 49 ∷ 48 ∷ []

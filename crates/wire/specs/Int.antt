@@ -1,6 +1,6 @@
--- Integer fields as the PostgreSQL documentation names them ("Message Data Types"): Intn is an n-bit integer in network byte order, of which it does not
--- say whether it is signed. That times, lengths and counts are signed is the Rust's (i64, i32, i16) and 01's; positions and xids are read by their
--- value (`fieldAt`, `beBytes`). Widths are in bytes: Int64 is `intAt 8`. SCOPE 1.2.
+-- Integer fields as the PostgreSQL documentation names them ("Message Data Types"): Intn is an n-bit integer in network byte order, of which it does
+-- not say whether it is signed. That times, lengths and counts are signed is the Rust's (i64, i32, i16) and 01's; positions and xids are read by
+-- their value (`fieldAt`, `beBytes`). Widths are in bytes: Int64 is `intAt 8`. SCOPE 1.2.
 use Prim.Native.Nat.{ℕ, _/_, _^_}
 use mathlib.Core.Bool.{Bool}
 use mathlib.Core.List.{List}

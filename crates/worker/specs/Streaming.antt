@@ -19,20 +19,20 @@ whileStreaming tag failed done copied skipped =
     pick (isError tag) failed (pick (isCopyDone tag) done (pick (isCopyData tag) copied skipped))
 
 -- each kind by its letter, with a number for each kind
-abbrev pub kindOf : ℕ → ℕ
-kindOf tag = whileStreaming tag 0 1 2 3
+abbrev pub streamingKind : ℕ → ℕ
+streamingKind tag = whileStreaming tag 0 1 2 3
 
 -- the letters that are told apart, among them those that a server sends besides while it streams; and no other byte is a CopyDone
 pub record StreamingCases : Type 0 where
-  pub error : kindOf (code "E") ≡ 0
-  pub copy-done : kindOf (code "c") ≡ 1
-  pub copy-data : kindOf (code "d") ≡ 2
-  pub notice : kindOf (code "N") ≡ 3
-  pub parameter : kindOf (code "S") ≡ 3
-  pub complete : kindOf (code "C") ≡ 3
-  pub copy-fail : kindOf (code "f") ≡ 3
-  pub copy-both : kindOf (code "W") ≡ 3
-  pub ready : kindOf (code "Z") ≡ 3
+  pub error : streamingKind (code "E") ≡ 0
+  pub copy-done : streamingKind (code "c") ≡ 1
+  pub copy-data : streamingKind (code "d") ≡ 2
+  pub notice : streamingKind (code "N") ≡ 3
+  pub parameter : streamingKind (code "S") ≡ 3
+  pub complete : streamingKind (code "C") ≡ 3
+  pub copy-fail : streamingKind (code "f") ≡ 3
+  pub copy-both : streamingKind (code "W") ≡ 3
+  pub ready : streamingKind (code "Z") ≡ 3
   pub done-only : (tag : ℕ) → isCopyDone tag ≡ true → tag ≡ code "c"
 
 pub streaming-cases : StreamingCases

@@ -1,5 +1,5 @@
 -- By what is repeated: the place after it.
-use Rattle.rows.specs.Layout.{readAt, number, told}
+use Rattle.rows.specs.Layout.{readAt, number, mapped}
 use Rattle.rows.specs.Rows.{columnLayout, describedLayout, cellOf, describedOf}
 use Rattle.rows.specs.Head.{cellAt, describedAt}
 use Rattle.rows.proofs.Steps.{ended-told}
