@@ -1,6 +1,6 @@
 //! Holds three lists together: what the archive exports (crates/export/src, Rattle), what the crate declares (host/src/ffi.rs) and what the header
 //! declares (host/include/rufflesquash.h): the same functions, with the same arguments by name, order and type, the same answer, and the same named
-//! numbers (crates/words/src/layout.rt). Run in the repository's root.
+//! numbers (each crate's src/layout.rt, and export's src/abi.rt). Run in the repository's root.
 use std::collections::BTreeMap;
 use std::fs;
 
@@ -94,6 +94,7 @@ fn c_argument(text: &str, numbers: &Numbers) -> (String, String) {
         "uint64_t" => "u64",
         "int64_t" => "i64",
         "int32_t" => "i32",
+        "uint32_t" => "u32",
         "uint8_t" => "u8",
         "size_t" => "usize",
         "struct rufflesquash_bytes" => "text",
@@ -218,10 +219,24 @@ fn compare<T: PartialEq + std::fmt::Display>(wrong: &mut Vec<String>, first: (&s
     wrong.extend(second.1.keys().filter(|n| !first.1.contains_key(*n)).map(|n| format!("{n} is in {} and not in {}", second.0, first.0)));
 }
 
+/// The named numbers of Rattle: every crate's list of words, and the number of all of it. A name stands once.
+fn numbers() -> Numbers {
+    let mut files: Vec<_> = fs::read_dir("crates").expect("crates").map(|e| e.expect("an entry").path().join("src/layout.rt")).collect();
+    files.retain(|file| file.exists());
+    files.push("crates/export/src/abi.rt".into());
+    let mut all = Numbers::new();
+    for file in files {
+        for (name, number) in constants(&fs::read_to_string(&file).expect("a text")) {
+            assert!(all.insert(name.clone(), number).is_none(), "{name} stands in two lists of words");
+        }
+    }
+    all
+}
+
 fn main() {
     let read = |path: &str| fs::read_to_string(path).unwrap_or_else(|e| panic!("{path}: {e}"));
-    let (layout, ffi, h) = (read("crates/words/src/layout.rt"), read("host/src/ffi.rs"), read("host/include/rufflesquash.h"));
-    let (ours, crates, cs) = (constants(&layout), constants(&ffi), defines(&h));
+    let (ffi, h) = (read("host/src/ffi.rs"), read("host/include/rufflesquash.h"));
+    let (ours, crates, cs) = (numbers(), constants(&ffi), defines(&h));
     let mut wrong = Vec::new();
     compare(&mut wrong, ("layout.rt", &ours), ("ffi.rs", &crates));
     compare(&mut wrong, ("layout.rt", &ours), ("rufflesquash.h", &cs));

@@ -344,19 +344,24 @@ fn large(v: &mut Vectors) {
 /// The data of every XLogData that a real server sent.
 fn streams(v: &mut Vectors) {
     for path in shared::stream_files() {
-        let bytes = std::fs::read(path).unwrap();
-        let mut rest = &bytes[..];
-        while rest.len() >= 5 {
-            let len = 1 + u32::from_be_bytes(rest[1..5].try_into().unwrap()) as usize;
-            if rest.len() < len {
-                break;
-            }
-            if rest[0] == b'd' && rest[5] == b'w' {
-                v.row(&rest[30..len]);
-            }
-            rest = &rest[len..];
-        }
+        stream_data(&std::fs::read(path).unwrap()).iter().for_each(|data| v.row(data));
     }
+}
+
+fn stream_data(bytes: &[u8]) -> Vec<Vec<u8>> {
+    let mut all = Vec::new();
+    let mut rest = bytes;
+    while rest.len() >= 5 {
+        let len = 1 + u32::from_be_bytes(rest[1..5].try_into().unwrap()) as usize;
+        if rest.len() < len {
+            break;
+        }
+        if rest[0] == b'd' && rest[5] == b'w' {
+            all.push(rest[30..len].to_vec());
+        }
+        rest = &rest[len..];
+    }
+    all
 }
 
 /// Random tuples, some of them damaged.

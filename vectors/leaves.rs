@@ -71,14 +71,16 @@ impl Vectors {
         writeln!(self.lines, "{line}").unwrap();
     }
 
-    fn lossy(&mut self, text: &[u8], out_len: usize, fill: u8) {
+    /// Kind `l` is the plain path, `u` the one by the table.
+    fn lossy(&mut self, kind: u8, text: &[u8], out_len: usize, fill: u8) {
         let shown = String::from_utf8_lossy(text).into_owned();
-        self.marked(b'l', out_len, fill, text, shown.as_bytes(), marks(text));
+        self.marked(kind, out_len, fill, text, shown.as_bytes(), marks(text));
     }
 
     fn lossy_around(&mut self, text: &[u8]) {
         let shown = String::from_utf8_lossy(text).into_owned();
         self.marked_around(b'l', text, shown.as_bytes(), marks(text));
+        self.marked_around(b'u', text, shown.as_bytes(), marks(text));
     }
 
     /// How far the text is well-formed.
@@ -88,8 +90,8 @@ impl Vectors {
         writeln!(self.lines, "w {length}").unwrap();
     }
 
-    fn lossy_roomy(&mut self, text: &[u8]) {
-        self.lossy(text, 3 * text.len(), 0x5A);
+    fn lossy_roomy(&mut self, kind: u8, text: &[u8]) {
+        self.lossy(kind, text, 3 * text.len(), 0x5A);
     }
 
     fn error(&mut self, payload: &[u8]) {
@@ -251,8 +253,14 @@ fn lossy_texts(v: &mut Vectors, draw: &mut Draw) {
         v.lossy_around(text);
         v.prefix(text);
         for n in 0..text.len() {
-            v.lossy_roomy(&text[..n]);
+            v.lossy_roomy(b'l', &text[..n]);
+            v.lossy_roomy(b'u', &text[..n]);
         }
+    }
+    // a byte that is ill-formed within a character is looked at again; the end of the text within one is one mark
+    let again: [&[u8]; 4] = [&[0xE2, 0x42], &[0xE2, 0xE2, 0x82, 0xAC], &[0xF0, 0x9F, 0xC3, 0xA4], &[0xC3, 0xF4, 0x8F]];
+    for text in again {
+        v.lossy_around(text);
     }
     // U+FFFD of the text's own, alone, twice, cut, and beside ill-formed parts
     let own: [&[u8]; 6] = [
@@ -269,15 +277,42 @@ fn lossy_texts(v: &mut Vectors, draw: &mut Draw) {
     }
     prefixes(v);
     for b in 0..=255u8 {
-        v.lossy_around(&[b]);
+        v.lossy_roomy(b'l', &[b]);
+        v.lossy_roomy(b'u', &[b]);
     }
     lossy_edges(v);
     lossy_mixed(v, draw);
+    lossy_blocks(v);
+    // the longest that a record holds
     let long: Vec<u8> = (0..21_845u32).map(|i| if i % 7 == 3 { 0xE2 } else { b'a' + (i % 26) as u8 }).collect();
-    v.lossy(&long, 65_536, 0x11);
-    v.lossy(&vec![0x80; 21_845], 65_535, 0x11);
-    v.lossy(&vec![0x80; 21_846], 65_536, 0x11);
-    v.lossy(&vec![b'x'; 65_536], 65_536, 0x11);
+    v.lossy(b'l', &long, 65_536, 0x11);
+    v.lossy(b'u', &vec![0x80; 21_846], 65_536, 0x11);
+    v.lossy(b'u', &"Ω".repeat(32_768).into_bytes(), 65_536, 0x11);
+}
+
+/// Characters of one and two bytes, which the table path passes in blocks of 32 bytes, with something else at each place of the first blocks; and
+/// what stands where no block passes.
+fn lossy_blocks(v: &mut Vectors) {
+    let text = "Wystawa w głównej sali: η έκθεση ανοίγει στις δέκα.".as_bytes();
+    for n in 0..=text.len() {
+        let others: [&[u8]; 6] = [&[0xFF], &[0xC2], &[0x80], &[0xC1, 0x80], "€".as_bytes(), &[0xED, 0xA0, 0x80]];
+        for other in others {
+            v.lossy_roomy(b'u', &[&text[..n], other, &text[n..]].concat());
+        }
+    }
+    // behind characters of three bytes, which no block passes, the table is read
+    for first in [0x7F, 0x80, 0xBF, 0xC1, 0xC2, 0xDF, 0xE0, 0xE1, 0xEC, 0xED, 0xEE, 0xF0, 0xF1, 0xF3, 0xF4, 0xF5] {
+        for second in [0x41, 0x80, 0x8F, 0x90, 0x9F, 0xA0, 0xBF, 0xC2] {
+            for rest in [&[0x80, 0x80][..], &[0x42]] {
+                v.lossy_roomy(b'u', &["語".repeat(12).as_bytes(), &[first, second], rest, "語".repeat(11).as_bytes()].concat());
+            }
+        }
+    }
+    for n in 60..70 {
+        v.lossy_roomy(b'u', &"ä".repeat(40).as_bytes()[..n]);
+        v.lossy_roomy(b'u', &["a", &"ä".repeat(40)].concat().as_bytes()[..n]);
+        v.lossy_roomy(b'u', &[b'a'; 70][..n]);
+    }
 }
 
 /// Well-formed characters of every length, cut at every byte, and before and after ill-formed ones.
@@ -301,12 +336,14 @@ fn lossy_edges(v: &mut Vectors) {
     let later = [0x7F, 0x80, 0xBF, 0xC0];
     for a in first {
         for b in second {
-            v.lossy_roomy(&[a, b]);
-            v.lossy_roomy(&[a, b, 0x41]);
+            for kind in *b"lu" {
+                v.lossy_roomy(kind, &[a, b]);
+                v.lossy_roomy(kind, &[a, b, 0x41]);
+            }
             for c in later {
-                v.lossy_roomy(&[a, b, c]);
+                v.lossy_roomy(b'l', &[a, b, c]);
                 for d in later {
-                    v.lossy_roomy(&[a, b, c, d]);
+                    v.lossy_roomy(b'u', &[a, b, c, d]);
                 }
             }
         }
@@ -333,17 +370,19 @@ fn lossy_mixed(v: &mut Vectors, draw: &mut Draw) {
         &[0xF4, 0x90],
         &[0x00],
     ];
-    for _ in 0..300 {
+    for _ in 0..200 {
         let mut text = Vec::new();
         for _ in 0..draw.below(12) {
             text.extend(*draw.pick(&pieces));
         }
         v.lossy_around(&text);
     }
-    for _ in 0..300 {
-        let n = draw.below(40);
-        let text: Vec<u8> = (0..n).map(|_| draw.next() as u8).collect();
-        v.lossy_roomy(&text);
+    for kind in *b"lu" {
+        for _ in 0..200 {
+            let n = draw.below(40);
+            let text: Vec<u8> = (0..n).map(|_| draw.next() as u8).collect();
+            v.lossy_roomy(kind, &text);
+        }
     }
 }
 
@@ -475,7 +514,7 @@ fn name_lists(v: &mut Vectors, draw: &mut Draw) {
 /// Every refusal that a kind's line can begin with is reached, and each that a reader alone can answer. 25 is the program `too_long`'s.
 fn refusals_reached(lines: &str) {
     let readers = [("p", 22..=24), ("a", 21..=21), ("c", 10..=13), ("b", 14..=18), ("r", 20..=20)];
-    let writers = ["d", "l", "e", "o", "q", "y", "t", "z", "x", "s"].map(|kind| (kind, 4..=4));
+    let writers = ["d", "l", "u", "e", "o", "q", "y", "t", "z", "x", "s"].map(|kind| (kind, 4..=4));
     for (kind, numbers) in readers.into_iter().chain(writers) {
         for n in numbers.chain([0]) {
             let start = format!("{kind} {n}");

@@ -9,9 +9,9 @@
  * A part that an answer names (a place and a length) lies within the buffer that it is a part of, whatever words a call was given: place
  * and place + length are at most that buffer's length.
  *
- * A call that can refuse answers the refusal's number, 1 to 25 or 31 (docs/SCOPE.md, section 7); 0 is none.
+ * A call that can refuse answers the refusal's number, 1 to 35 (docs/SCOPE.md, section 7); 0 is none.
  *
- * The macros are the list of crates/words/src/layout.rt, name by name; a host that was built with another list is told by
+ * The macros are the lists of words of the Rattle crates (src/layout.rt), name by name; a host that was built with other lists is told by
  * rufflesquash_abi() != RUFFLESQUASH_ABI. */
 #ifndef RUFFLESQUASH_H
 #define RUFFLESQUASH_H
@@ -326,6 +326,7 @@ uint64_t rufflesquash_page(const uint64_t run[RUFFLESQUASH_RUN_WORDS], uint8_t *
  * in, one for each ill-formed part of the texts that are shown, 0 where refused; one that was in the text already is not counted. */
 
 uint64_t rufflesquash_lossy(const uint8_t *text, size_t text_len, uint8_t *out, size_t out_len, uint64_t *written, uint64_t *marks);
+
 /* The length of the longest well-formed beginning of a text of any length. No writer: it refuses nothing. */
 uint64_t rufflesquash_well_formed_prefix(const uint8_t *text, size_t text_len);
 uint64_t rufflesquash_error_text(const uint8_t *payload, size_t payload_len, uint8_t *out, size_t out_len, uint64_t *written,
@@ -341,12 +342,16 @@ uint64_t rufflesquash_parse_position(const uint8_t *text, size_t text_len, uint6
 void rufflesquash_cell_new(uint64_t start, bool timed, uint64_t cell[RUFFLESQUASH_CELL_WORDS]);
 uint64_t rufflesquash_cell_load(const uint64_t cell[RUFFLESQUASH_CELL_WORDS]);
 uint64_t rufflesquash_cell_pending_since(const uint64_t cell[RUFFLESQUASH_CELL_WORDS]);
+
 /* A report; answers 1 where the signal is new, else 0. */
 uint64_t rufflesquash_cell_raise(uint64_t cell[RUFFLESQUASH_CELL_WORDS], uint64_t position, uint64_t moment);
+
 /* Clears the signal; answers the position. */
 uint64_t rufflesquash_cell_take_signal(uint64_t cell[RUFFLESQUASH_CELL_WORDS]);
+
 /* A status was sent with a position that was read at a moment; answers the moment that was pending. */
 uint64_t rufflesquash_cell_take_pending(uint64_t cell[RUFFLESQUASH_CELL_WORDS], uint64_t sent, uint64_t loaded_at);
+
 /* A pending moment from an earlier session: the older one counts. */
 void rufflesquash_cell_carry_pending(uint64_t cell[RUFFLESQUASH_CELL_WORDS], uint64_t since);
 

@@ -233,6 +233,7 @@ pub const KIND_PROTOCOL: u64 = 3;
 pub const KIND_SERVER: u64 = 4;
 pub const KIND_MESSAGE_TOO_LARGE: u64 = 5;
 pub const KIND_PARSE_LSN: u64 = 6;
+
 /// A text in a list of texts, as the archive has it.
 #[repr(C)]
 pub struct Bytes {

@@ -17,6 +17,22 @@
 //! # fn run_limit(s: &Settings) -> usize { s.payload_len() }
 //! # Ok::<(), rufflesquash::Refusal>(())
 //! ```
+//!
+//! The data of an event are rows of pgoutput, which [`Event::row`] reads (module [`rows`]):
+//!
+//! ```
+//! use rufflesquash::{rows::Column, Event, Lsn, Refusal};
+//!
+//! fn texts<'a>(event: &Event<'a>) -> Result<Vec<&'a [u8]>, Refusal> {
+//!     let Some(row) = event.row()? else { return Ok(Vec::new()) };
+//!     Ok(row.columns().filter_map(|column| if let Column::Text(text) = column { Some(text) } else { None }).collect())
+//! }
+//!
+//! let data = b"I\x00\x00\x40\x01N\x00\x02t\x00\x00\x00\x02abn";
+//! let event = Event::XLogData { wal_start: Lsn(1), wal_end: Lsn(2), server_time_micros: 0, data };
+//! assert_eq!(texts(&event)?, [b"ab"]);
+//! # Ok::<(), Refusal>(())
+//! ```
 #![deny(missing_docs, unsafe_code)]
 
 mod archive;

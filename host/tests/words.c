@@ -1,6 +1,7 @@
-/* Reads and checks every word that rufflesquash.h documents, from C: of settings, runs, answers, events, metrics, cells, readers, queries and
- * parts, on inputs whose numbers differ from word to word, so that two words that change places are seen. The expected numbers are read off the
- * header and the PostgreSQL documentation. host/test builds and runs it; it prints what differs, and its last line is how many checks were made. */
+/* Reads and checks every word that rufflesquash.h documents, from C: of settings, runs, answers, events, metrics, cells, readers, queries,
+ * parts and rows, on inputs whose numbers differ from word to word, so that two words that change places are seen. The expected numbers are
+ * read off the header and the PostgreSQL documentation. host/test builds and runs it; it prints what differs, and its last line is how many
+ * checks were made. */
 #include "rufflesquash.h"
 #include <inttypes.h>
 #include <stdio.h>
@@ -1021,25 +1022,28 @@ static void requests_and_errors(void) {
 
 static void kinds(void) {
     /* By number, from 0. */
-    static const char *of = "nuuuuuptiippppppppp" /* to 18 */ "spplllu";
+    static const char *of = "nuuuuuptiippppppppp" /* to 18 */ "spplllu" /* to 25 */ "pppppuuuuu";
     static const uint64_t numbers[128] = {
         ['n'] = R(KIND_NONE),      ['u'] = R(KIND_USAGE),  ['i'] = R(KIND_IO),
         ['p'] = R(KIND_PROTOCOL),  ['s'] = R(KIND_SERVER), ['t'] = R(KIND_MESSAGE_TOO_LARGE),
         ['l'] = R(KIND_PARSE_LSN),
     };
-    SAME(strlen(of), 26);
-    for (uint64_t i = 0; i < 26; i++) {
+    SAME(strlen(of), 36);
+    for (uint64_t i = 0; i < 36; i++) {
         SAME(rufflesquash_refusal_kind(i), numbers[(int)of[i]]);
         SAME(rufflesquash_refusal_is_transient(i), i == 8 || i == 9);
     }
-    SAME(rufflesquash_refusal_kind(26), R(KIND_NONE));
-    SAME(rufflesquash_refusal_kind(31), R(KIND_USAGE));
-    SAME(rufflesquash_refusal_is_transient(31), 0);
+    SAME(rufflesquash_refusal_kind(36), R(KIND_NONE));
     SAME(rufflesquash_refusal_kind(UINT64_C(1) << 32 | 31), R(KIND_NONE));
     SAME(rufflesquash_refusal_kind(UINT64_MAX), R(KIND_NONE));
     SAME(rufflesquash_refusal_is_transient(UINT64_MAX), 0);
 }
 
+/* ---- opening hours */
+
+/* ---- a load: seed 1 draws a Begin, seed 2 other data with two letters; of each the numbers were drawn by hand */
+
+/* Marsaglia's generator, here once more, for the numbers that the events are to have. */
 /* A null pointer with length 0, in every place of a buffer. */
 static void null_pointers(void) {
     static const uint64_t no_limit[R(SETTINGS_WORDS)] = {0};
@@ -1091,6 +1095,15 @@ static void null_pointers_elsewhere(void) {
     WORDS(part, 0);
 }
 
+/* ---- rows of pgoutput */
+
+/* A Relation: 0x10203040, "sp", "rel", identity `f`, columns "k" (flags 1, type 0x17, modifier -1) and "val" (flags 0, type 0x0413, modifier 36). */
+/* A Type, an Origin, a Truncate. */
+/* An Insert, Updates with and without an old tuple, a Delete, and every kind of column. */
+/* No row, refusals, and data that are none. */
+/* ---- which files a transaction touched */
+
+/* Relation 0x10203040 with columns "k", of the key, of type 23, and "value", of type 0x80000001. */
 int main(void) {
     SAME(rufflesquash_abi(), R(ABI));
     opening();

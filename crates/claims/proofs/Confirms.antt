@@ -1,16 +1,15 @@
 -- Each status confirms the smallest of the four files: a step preserves them, whatever it is lent, and what it writes is by them (crate effects).
 -- Condition3 takes the theorems.
-use Prim.Native.Nat.{ℕ, zero, suc, _+_, _<_, _≤_, min, max, _%_, _^_}
+use Prim.Native.Nat.{ℕ, zero, suc, _+_, _≤_, _%_, _^_}
 use native.Mathlib.Omega.{arith}
-use mathlib.Core.Bool.{Bool, true, false}
+use mathlib.Core.Bool.{Bool}
 use mathlib.Core.Path.{_≡_, refl, sym, ap, _∙_}
 use mathlib.Core.List.{List, [], _∷_, _++_, append-nil}
 use mathlib.Core.Option.{Option, some, none}
 use lib.ListN.{length, take, drop}
 use lib.Seq.{take-append-seam}
 use lib.IntN.{ℤ}
-use lib.Dec.{ltb, eqb}
-use Rattle.wire.specs.Bytes.{pick, put}
+use Rattle.wire.specs.Bytes.{put}
 use Rattle.wire.specs.Field.{andThen, fieldAt}
 use Rattle.wire.proofs.Laws.{by-test, impossible}
 use Rattle.wire.specs.Int.{int, value}
@@ -32,9 +31,10 @@ use Rattle.worker.specs.Step.{Lent, Outcome, stepOf}
 use Rattle.worker.specs.Opening.{reportOf}
 use Rattle.effects.specs.Effects as W
 use Rattle.effects.proofs.Effects.{step-effects}
-use Rattle.claims.proofs.Beginnings.{first-state, run-begun}
-use Rattle.claims.specs.Calls.{Beginning, isOpening, startOf, runBegun}
-use Rattle.claims.specs.Confirms.{AnyCall, step, report, Writes, nothing, done, status, Reached, reachedWith, leastOf, Confirmed, Confirms-smallest, NotAbove, NoneBehind, No-file-behind}
+use Rattle.claims.proofs.Beginnings.{run-begun}
+use Rattle.claims.specs.Calls.{Beginning, startOf, runBegun}
+use Rattle.claims.specs.Confirms.{AnyCall, step, report, Writes, nothing, done, status, Reached, reachedWith, leastOf, Confirmed}
+use Rattle.claims.specs.Confirms.{Confirms-smallest, NotAbove, NoneBehind, No-file-behind}
 
 length-update : (position : ℕ) (time : ℤ) (reply : Bool) → length (statusUpdate position time reply) ≡ 39
 unfolding statusUpdate copyData
@@ -54,13 +54,13 @@ reads-back position time reply out =
     ap statusOf (front ∙ sym (append-nil m)) ∙ status-read-back-modulo position time reply []
 
 -- what a step wrote, and how a server reads it
-as-read : {position : ℕ} {i : Input} {l : Lent} {o : Outcome} → W.Writing position i l o → Writes position i l o
-as-read (W.nothing a c) = nothing a c
-as-read (W.done a c) = done a c
-as-read {position} {i} {l} {o} (W.status reply a c) =
+as-read : {b : W.Before} {i : Input} {l : Lent} {o : Outcome} → W.Writing b i l o → Writes (smallest (b .files) .0) i l o
+as-read (W.nothing a c d) = nothing a c
+as-read (W.done a c d) = done a c
+as-read {b} {i} {l} {o} (W.status reply a c d) =
     status reply a c
     (ap (λ (n : ℕ). statusOf (take n (o .out))) a ∙ ap (λ (x : List ℕ). statusOf (take 39 x)) c
-    ∙ reads-back position (i .«client_time») reply (l .out))
+    ∙ reads-back (smallest (b .files) .0) (i .«client_time») reply (l .out))
 
 length-done : length copyDone ≡ 5
 unfolding copyDone

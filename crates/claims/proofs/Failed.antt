@@ -3,11 +3,10 @@ use mathlib.Core.Path.{_≡_, refl, sym, ap, _∙_, subst}
 use mathlib.Core.List.{List, [], _∷_, _++_}
 use Prim.Native.Nat.{ℕ, _+_}
 use lib.ListN.{length, take}
-use Rattle.worker.specs.declared.Input.{Input}
-use Rattle.worker.specs.declared.Run.{Run}
 use Rattle.worker.specs.declared.State.the-variants.{Ended}
-use Rattle.worker.specs.Step.{Outcome, Lent, refusedWith, stepOf}
+use Rattle.worker.specs.Step.{Outcome, isEnded, stepOf}
 use Rattle.worker.specs.Opening.{reportOf}
+use Rattle.effects.proofs.Effects.{ended-refused}
 use Rattle.claims.specs.Trace.{Setup, Trace, Response, takenBy}
 use Rattle.claims.specs.Calls.{Call, step, report, Played, stepped, lentTo, playOne, playAll, played, begun, runBegun, setupOf}
 use Rattle.claims.specs.Table.{limitBy, lastMessage, responseOf}
@@ -25,16 +24,12 @@ play-more bytes z (c ∷ cs) ds = play-more bytes (playOne bytes z c) cs ds
 abbrev Shown : List ℕ → Played → Type 0
 Shown m z = (z .run .state ≡ Ended) × Shows m (z .run) (z .payload)
 
-ended-step : (r : Run) (i : Input) (l : Lent) → r .state ≡ Ended → stepOf r i l ≡ refusedWith 2 r l
-unfolding stepOf
-ended-step r i l e = rw e refl
-
 shown-on : (bytes m : List ℕ) (ds : List Call) (z : Played) → Shown m z → Shown m (playAll bytes z ds)
 unfolding playAll reportOf
 shown-on bytes m [] z h = h
 shown-on bytes m (step i n out ∷ ds) z h =
     shown-on bytes m ds (playOne bytes z (step i n out))
-    (subst (λ (o : Outcome). Shown m (stepped z i o)) (sym (ended-step (z .run) i (lentTo bytes z n out) (h .0))) h)
+    (subst (λ (o : Outcome). Shown m (stepped z i o)) (sym (ended-refused (z .run) i (lentTo bytes z n out) (ap isEnded (h .0)))) h)
 shown-on bytes m (report file p t ∷ ds) z h =
     shown-on bytes m ds (playOne bytes z (report file p t)) (h .0, record { part = h .1 .part; bytes = h .1 .bytes })
 

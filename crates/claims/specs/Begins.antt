@@ -15,10 +15,11 @@ pub record Begins {A : Type 0} (xs ys : List A) : Type 0 where
   pub rest : List A
   pub joined : xs ++ rest ≡ ys
 
--- no queue closes
+-- the queue is closed
 abbrev pub isClosed : Queue → Bool
 isClosed q = byQueue q false false true
 
+-- no queue closes
 abbrev pub NoneClosed : List Observation → Type 0
 NoneClosed [] = Unit
 NoneClosed (t ∷ ts) = (isClosed (t .queue) ≡ false) × NoneClosed ts
@@ -27,6 +28,7 @@ NoneClosed (t ∷ ts) = (isClosed (t .queue) ≡ false) × NoneClosed ts
 abbrev pub everything : Bounds → Bool → List ℕ → List Happened
 everything b opening bytes = eventsOf (b .stop) opening (wholeOnes (cutOf (b .limit) bytes .items))
 
+-- where no queue closes, what was handed on is a beginning of that
 abbrev pub Plain-begins : Type 0
 Plain-begins =
     (b : Bounds) (opening : Bool) (bytes : List ℕ) (ts : List Observation) → NoneClosed ts

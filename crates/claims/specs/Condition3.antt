@@ -9,6 +9,7 @@ use Rattle.claims.specs.Counters.{Counters-traced}
 use Rattle.claims.specs.HandsOn.{Hands-on, Events-begin}
 use Rattle.claims.specs.Views.{Views-traced}
 
+-- the parts; before each stands the file that states it
 pub record Condition-3 : Type 0 where
   -- Beginnings: `open` and `already_open` refuse, write and answer by their arguments; each part below is about a run that they made
   pub beginnings : Beginnings-answer

@@ -74,5 +74,6 @@ NoneBehind reached r [] = Unit
 NoneBehind reached r (step i l ∷ cs) = ((file : ℕ) → file ≤ 3 → NotAbove (reached file) (stepOf r i l)) × NoneBehind reached (stepOf r i l .run) cs
 NoneBehind reached r (report file position moment ∷ cs) = NoneBehind (reachedWith reached file position) (reportOf r file position moment .1) cs
 
+-- from the start, at which each file begins
 abbrev pub No-file-behind : Type 0
 No-file-behind = (s : Settings) (b : Beginning) (cs : List AnyCall) → NoneBehind (λ n. startOf b .0) (runBegun s b) cs

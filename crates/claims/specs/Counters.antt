@@ -26,6 +26,7 @@ use Rattle.claims.specs.Traced.{traceOf}
 
 -- ---- statuses
 
+-- the steps that wrote one
 unfoldable pub statusCount : Trace → ℕ
 statusCount [] = 0
 statusCount (a-step i from y ∷ h) = pick (isStatus (y .writing)) (statusCount h + 1) (statusCount h)
@@ -51,6 +52,7 @@ beginsStall h i from y = both (isOffer from y) (unless (fullBefore h) (isFull (i
 abbrev pub endsStall : Trace → Input → State → Response → Bool
 endsStall h i from y = both (isOffer from y) (both (fullBefore h) (unless (i .stop) (not (isFull (i .queue)))))
 
+-- the steps that began a stall
 unfoldable pub stallCount : Trace → ℕ
 stallCount [] = 0
 stallCount (a-step i from y ∷ h) = pick (beginsStall h i from y) (stallCount h + 1) (stallCount h)
@@ -77,6 +79,7 @@ endBy (C.w start end time from len) old = lsn end
 endBy (C.k end time reply) old = lsn end
 endBy (C.refused n) old = old
 
+-- .. after a message of any tag
 abbrev pub endAfter : Msg → Lsn → Lsn
 endAfter m old = pick (isCopyData (m .0)) (endBy (copyDataOf (m .1)) old) old
 

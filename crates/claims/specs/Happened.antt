@@ -7,6 +7,7 @@ use lib.IntN.{ℤ}
 use Rattle.wire.specs.Bytes.{at}
 use Rattle.worker.specs.Events as E
 
+-- an event as its receiver reads it: row data and messages are bytes, not places in a buffer
 pub data Happened : Type 0 where
   keepAlive : ℕ → ℤ → Bool → Happened
   begin : ℕ → ℤ → ℕ → Happened

@@ -100,6 +100,7 @@ unfoldable pub given : Option ℕ → List Msg → List Happened
 given stop [] = []
 given stop (m ∷ ms) = let g : Gives = messageGives stop (m .0) (m .1) in g .events ++ pick (g .ends) [] (given stop ms)
 
+-- .. where the run began in Opening, only those after the first `W`
 abbrev pub eventsOf : Option ℕ → Bool → List Msg → List Happened
 eventsOf stop opening ms = given stop (pick opening (afterOpening ms) ms)
 
@@ -130,6 +131,7 @@ byQueue Free a b c = a
 byQueue Full a b c = b
 byQueue Closed a b c = c
 
+-- the queue is full
 abbrev pub isFull : Queue → Bool
 isFull q = byQueue q false true false
 

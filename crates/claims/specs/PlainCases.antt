@@ -31,6 +31,7 @@ meets stop queue = record { stop = stop; queue = queue; refusal = 0; taken = 0 }
 abbrev pub isRefused : ℕ → Observation
 isRefused n = record { stop = false; queue = Free; refusal = n; taken = 0 }
 
+-- a step that meets a free queue or a full one, without and with a stop request
 abbrev pub free : Observation
 free = meets false Free
 
@@ -67,6 +68,7 @@ all bytes = reading none false bytes (takes 1000 ∷ free ∷ free ∷ free ∷ 
 abbrev pub begun : ℕ → Happened
 begun final = H.begin final (pos 0) 7
 
+-- the plain reading of short streams
 pub record PlainCases : Type 0 where
   -- as many of the first bytes are cut into messages as the taken counts add up to
   pub counts-add-up : reading none false (beginAt 1 ++ beginAt 2) (takes 20 ∷ takes 31 ∷ free ∷ free ∷ []) ≡ begun 1 ∷ []

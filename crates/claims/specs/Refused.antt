@@ -41,5 +41,6 @@ pub record Reports (r : Run) : Type 0 where
   pub refused : (file : ℕ) (position : Lsn) (moment : Moment) → 3 < file → reportOf r file position moment ≡ (31, r)
   pub accepted : (file : ℕ) (position : Lsn) (moment : Moment) → file ≤ 3 → reportOf r file position moment .0 ≡ 0
 
+-- so of each run that a list of calls leaves
 abbrev pub Reports-answer : Type 0
 Reports-answer = (s : Settings) (b : Beginning) (bytes payload : List ℕ) (cs : List Call) → Reports (played s b bytes payload cs .run)

@@ -84,6 +84,7 @@ broken =
     (is-open (lsn 0)) (beginAt 1) (replicate 64 0)
     (onward false ∷ onwardWith false 3 false ∷ onwardWith false 3 false ∷ steps 5 false)
 
+-- runs over short streams, computed of the definitions
 pub record RunCases : Type 0 where
   -- the program's case: `K 0/10 0 0`, then `END 8`
   pub keepalive-then-end : after (settings false 0) keepAliveBytes 9 true .events ≡ H.keepAlive 0x10 (pos 0) false ∷ []

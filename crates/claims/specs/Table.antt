@@ -41,6 +41,7 @@ writes w to = respond 0 w to []
 abbrev pub refuses : ℕ → Response
 refuses n = respond n nothing Ended []
 
+-- the longest payload that the settings admit
 abbrev pub limitBy : Setup → ℕ
 limitBy s = limitOf (s .settings .«max_message_size»)
 
@@ -86,6 +87,7 @@ openingResponse (whole tag n) =
     (enters Opening)
 openingResponse (refused n) = refuses n
 
+-- a message that is whole is handled in the next step
 abbrev pub readingResponse : Said → Response
 readingResponse more = enters Reading
 readingResponse (whole tag n) = enters Handling
@@ -108,6 +110,7 @@ unfoldable pub lastOr : Msg → List Msg → Msg
 lastOr m [] = m
 lastOr m (n ∷ ns) = lastOr n ns
 
+-- .. of the whole messages in the taken bytes
 abbrev pub lastMessage : ℕ → List ℕ → Msg
 lastMessage limit b = lastOr (0, []) (wholeOnes (cutOf limit b .items))
 

@@ -32,6 +32,7 @@ unless a b = pick a false b
 
 -- ---- states
 
+-- the row of a state in the step table
 abbrev pub placeOf : State → ℕ
 placeOf Opening = 0
 placeOf Turn = 1
@@ -46,6 +47,7 @@ placeOf Ended = 7
 abbrev pub isIn : State → State → Bool
 isIn a b = eqb (placeOf a) (placeOf b)
 
+-- the run is over
 abbrev pub isEnded : State → Bool
 isEnded Opening = false
 isEnded Turn = false
@@ -58,6 +60,7 @@ isEnded Ended = true
 
 -- ---- positions and moments
 
+-- a position of a number
 abbrev pub lsn : ℕ → Lsn
 lsn v = record { 0 = v }
 
@@ -65,6 +68,7 @@ lsn v = record { 0 = v }
 abbrev pub noMoment : Moment
 noMoment = record { 0 = 0 }
 
+-- a moment is none
 abbrev pub isNone : Moment → Bool
 isNone m = eqb (m .0) 0
 

@@ -38,6 +38,7 @@ pub data Writing : Type 0 where
   nothing done : Writing
   status : Bool → Writing
 
+-- a status is written
 abbrev pub isStatus : Writing → Bool
 isStatus nothing = false
 isStatus done = false
@@ -61,10 +62,12 @@ pub record Response : Type 0 where
 
 -- ---- traces
 
+-- a step with its input, the state that it found and its response; a report with its file, position and moment
 pub data Entry : Type 0 where
   a-step : Input → State → Response → Entry
   a-report : ℕ → Lsn → Moment → Entry
 
+-- the newest stands first
 abbrev pub Trace : Type 0
 Trace = List Entry
 

@@ -75,6 +75,7 @@ pub record Traced (s : Setup) (h : Trace) (z : Played) : Type 0 where
   pub next : (i : Input) (n : ℕ) (out : List ℕ)
       → let l : Lent = lentTo (s .bytes) z n out in Answers s h i l (responseOf s h i n (length out)) (stepOf (z .run) i l)
 
+-- after any list of calls
 abbrev pub Calls-traced : Type 0
 Calls-traced =
     (s : Settings) (b : Beginning) (bytes payload : List ℕ) (cs : List Call)

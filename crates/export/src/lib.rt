@@ -1,6 +1,7 @@
 // Functions for a host in Rust or C: a run is 64 lent words, bytes are lent slices. No words are refused: any are the words of some run.
 // SCOPE 9. Each function converts words, calls one function of a crate below, and converts what that answers.
 // `preserved`: the words at exit stand for the run that the call leaves, so calls over words are calls over runs.
+mod abi;
 mod cells;
 mod client;
 mod server;
@@ -105,7 +106,7 @@ pub extern "C" fn rufflesquash_already_open(
 pub extern "C" fn rufflesquash_abi() -> u64
     ensures { λ r. ⌜ r ≡ abi ⌝ }
 {
-    layout::ABI
+    abi::ABI
 }
 
 // One step. The answer: the refusal's number, taken, written, whether a wait is told, the wait, seven words of the event, whose parts lie in

@@ -33,6 +33,7 @@ pub record Words : Type 0 where
   pub queue : ℕ
   pub ended : Bool
 
+-- .. as the input of a step
 abbrev pub inputBy : Words → Input
 inputBy a = inputOf (a .moment) (a .time) (a .stop) (a .queue) (a .ended)
 
@@ -48,6 +49,7 @@ callOf (step a n out) = M.step (inputBy a) n out
 callOf (advance a n out) = M.advance (inputBy a) n out
 callOf (report file p m) = M.report file (lsn p) (moment m)
 
+-- .. for each call of a list
 unfoldable pub callsOf : List HostCall → List Call
 callsOf [] = []
 callsOf (c ∷ cs) = callOf c ∷ callsOf cs
@@ -81,6 +83,7 @@ pub record Reported (h : Held) (file p m : ℕ) (g : Held) : Type 0 where
   pub taken : g .taken ≡ h .taken
   pub answers : g .answers ≡ h .answers ++ ((answer ∷ []) ∷ [])
 
+-- one exported call, from what the host has before to what it has after
 abbrev pub Called : List ℕ → Held → HostCall → Held → Type 0
 Called bytes h (step a n out) g = Stepped stepOf bytes h a n out g
 Called bytes h (advance a n out) g = Stepped advanceOf bytes h a n out g
@@ -111,6 +114,7 @@ answersOne bytes z (M.step i n out) = steppedWords (stepOf (z .run) i (lentTo by
 answersOne bytes z (M.advance i n out) = steppedWords (advanceOf (z .run) i (lentTo bytes z n out)) .1 ∷ []
 answersOne bytes z (M.report file p m) = (reportOf (z .run) file p m .0 ∷ []) ∷ []
 
+-- .. and those of a list
 unfoldable pub answersAll : List ℕ → Played → List Call → List (List ℕ)
 answersAll bytes z [] = []
 answersAll bytes z (c ∷ cs) = answersOne bytes z c ++ answersAll bytes (mixOne bytes z c) cs
@@ -123,6 +127,7 @@ pub record StandsFor (bytes buffer : List ℕ) (r : Run) (cs : List HostCall) (g
   pub answers : g .answers ≡ answersAll bytes (begun r buffer) (callsOf cs)
   pub steps : AsSteps bytes (begun r buffer) (callsOf cs)
 
+-- so after any list of exported calls from an opening that was not refused
 abbrev pub Exported-stand : Type 0
 Exported-stand =
     (settings before words bytes payload : List ℕ) (b : Beginning) → Opened settings before words b

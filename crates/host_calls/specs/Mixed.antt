@@ -68,5 +68,6 @@ pub record AsSteps (bytes : List ℕ) (z : Played) (cs : List Call) : Type 0 whe
   pub unrolls : Unrolls bytes z cs calls
   pub same : Same (mixAll bytes z cs) (playAll bytes z calls)
 
+-- so is every list, from anything that calls left
 abbrev pub Mixed-is-steps : Type 0
 Mixed-is-steps = (bytes : List ℕ) (z : Played) (cs : List Call) → AsSteps bytes z cs

@@ -3,12 +3,11 @@
 use mathlib.Core.Path.{_≡_, refl, sym, ap, _∙_, subst}
 use mathlib.Core.Bool.{Bool, true, false, not}
 use mathlib.Core.List.{List, [], _∷_}
-use Prim.Native.Nat.{ℕ, _≤_, max}
+use Prim.Native.Nat.{ℕ, _≤_}
 use native.Mathlib.Omega.{arith}
 use lib.ListN.{length, take}
-use lib.Dec.{eqb, ltb}
-use borrow.Author.Tests.{ltb-true, ltb-false, ne-eqb}
-use Rattle.wire.specs.Bytes.{pick}
+use lib.Dec.{ltb}
+use borrow.Author.Tests.{ltb-true, ne-eqb}
 use Rattle.wire.proofs.Laws.{by-test, impossible}
 use Rattle.lsn.specs.declared.Lsn.{Lsn}
 use Rattle.metrics.specs.declared.Metrics.{Metrics}
@@ -23,9 +22,10 @@ use Rattle.worker.specs.declared.Settings.{Settings}
 use Rattle.worker.specs.declared.State.{State}
 use Rattle.worker.specs.declared.State.the-variants.{Opening, Turn, Drain, Reading, Waiting, Handling, Offering, Ended}
 use Rattle.worker.specs.Opening.{reportOf}
-use Rattle.worker.specs.Run.{stateNumber, lsn, cellIn, freshRun}
+use Rattle.worker.specs.Run.{stateNumber, cellIn, freshRun}
 use Rattle.worker.specs.Step.{Lent, Outcome, isEnded, stepOf}
-use Rattle.effects.proofs.Effects.{step-effects}
+use Rattle.effects.specs.Effects.{Heard, stay, offered, ended}
+use Rattle.effects.proofs.Effects.{step-effects, ended-refused}
 use Rattle.claims.specs.Calls.{Beginning, Call, step, report, Played, isOpening, startOf, runBegun, lentTo, playOne, playAll, begun, played, setupOf}
 use Rattle.claims.specs.Confirms.{Reached, reachedWith}
 use Rattle.claims.specs.Tests.{both, isIn}
@@ -40,9 +40,7 @@ use Rattle.claims.proofs.Counters.{counters-traced}
 use Rattle.claims.proofs.Facts.{factsBy, factsOf, agree-metrics}
 use Rattle.claims.proofs.Preserved.{Preserved, step-next, calls-preserved, played-preserved}
 use Rattle.claims.proofs.Views.{views-traced}
-use Rattle.run_page.specs.RunPage.{shownBy}
-use Rattle.page_shown.specs.PageShown.{serverOf, pageAfter, Page-traced}
-use Rattle.page_shown.proofs.Heard.{Heard, same, again, offered, ended, step-hears}
+use Rattle.page_shown.specs.PageShown.{serverOf, Page-traced}
 
 -- ---- the position
 
@@ -66,7 +64,8 @@ files-all : (s : Setup) (cs : List Call) (h : Trace) (z : Played) → z .run .pr
 unfolding playAll traceAll reachedBy
 files-all s [] h z e = e
 files-all s (step i n out ∷ cs) h z e =
-    files-all s cs (traceOne s h (step i n out)) (playOne (s .bytes) z (step i n out)) (step-effects (z .run) i (lentTo (s .bytes) z n out) .preserved ∙ e)
+    files-all s cs (traceOne s h (step i n out)) (playOne (s .bytes) z (step i n out))
+    (step-effects (z .run) i (lentTo (s .bytes) z n out) .preserved ∙ e)
 files-all s (report file p m ∷ cs) h z e =
     files-all s cs (traceOne s h (report file p m)) (playOne (s .bytes) z (report file p m))
     (files-reach (z .run) (reachedIn (s .start) h) file p m e ∙ files-next (s .start) h file p m)
@@ -83,7 +82,8 @@ record Told (s : Setup) (h : Trace) (r : Run) : Type 0 where
   metric : isEnded (r .state) ≡ false → r .server ≡ r .metrics .«last_wal_end»
 
 -- a step of Handling that offers an event handles the last whole message and does not end the run
-offers-by : (from to : State) → went Handling Offering from to ≡ true → (both (isIn Handling from) (not (isIn Handling to)) ≡ true) × (isEnded to ≡ false)
+offers-by : (from to : State) → went Handling Offering from to ≡ true
+    → (both (isIn Handling from) (not (isIn Handling to)) ≡ true) × (isEnded to ≡ false)
 offers-by Opening to e = impossible cc
 offers-by Turn to e = impossible cc
 offers-by Drain to e = impossible cc
@@ -111,11 +111,6 @@ ended-offers Handling to e = impossible cc
 ended-offers Offering to e = impossible cc
 ended-offers Ended to e = refl
 
--- .. and stays as it was
-ended-stays : (r : Run) (i : Input) (l : Lent) → isEnded (r .state) ≡ true → stepOf r i l .run ≡ r
-unfolding stepOf
-ended-stays r i l e = rw e
-
 ended-told : (s : Setup) (h : Trace) (i : Input) (from : State) (y : Response) (r q : Run) → Told s h r → isEnded (r .state) ≡ true → r .state ≡ from
     → q ≡ r → Told s (a-step i from y ∷ h) q
 unfolding serverOf
@@ -125,24 +120,30 @@ ended-told s h i from y r q w a hf e =
 
 -- a step more, of a run that had not ended
 module _ (s : Setup) (h : Trace) (i : Input) (from : State) (y : Response) (r : Run) (o : Outcome) (w : Told s h r)
-    (a : isEnded (r .state) ≡ false) (hf : r .state ≡ from) (ht : o .run .state ≡ y .entered) (he : r .metrics .«last_wal_end» ≡ lastEnd s h)
+    (a : isEnded (r .state) ≡ false) (ht : o .run .state ≡ y .entered) (he : r .metrics .«last_wal_end» ≡ lastEnd s h)
     (hn : o .run .metrics .«last_wal_end» ≡ lastEnd s (a-step i from y ∷ h)) where
   -- the two ends are the same before it
   both-are : r .server ≡ r .metrics .«last_wal_end»
   both-are = w .metric a
 
   -- .. and after it, unless it ends the run
-  metric-next : Heard (r .state) (r .server) (r .metrics .«last_wal_end») o → isEnded (o .run .state) ≡ false
+  metric-next : Heard (r .server) (r .metrics .«last_wal_end») (o .run) → isEnded (o .run .state) ≡ false
       → o .run .server ≡ o .run .metrics .«last_wal_end»
-  metric-next (same p q) b = p ∙ both-are ∙ sym q
-  metric-next (again p q) b = p ∙ sym q
-  metric-next (offered p q t) b = t
+  metric-next (stay p q) b = p ∙ both-are ∙ sym q
+  metric-next (offered p q) b = q
   metric-next (ended p q) b = let z : isEnded (o .run .state) ≡ true = ap isEnded p in impossible cc
 
-  kept : went Handling Offering from (y .entered) ≡ false → Heard (r .state) (r .server) (r .metrics .«last_wal_end») o → o .run .server ≡ serverOf s h
-  kept e (same p q) = p ∙ w .server
-  kept e (again p q) = p ∙ sym both-are ∙ w .server
-  kept e (offered p q t) = let z : went Handling Offering from (y .entered) ≡ true = rw (← hf, p, ← ht, q) in impossible cc
+  -- StoppedAt is offered after the event of its message, and the metric stays
+  metric-stays : went Handling Offering from (y .entered) ≡ false → o .run .state ≡ Offering → o .run .metrics .«last_wal_end» ≡ lastEnd s h
+  unfolding lastEnd
+  metric-stays e p =
+      let j : y .entered ≡ Offering = sym ht ∙ p in
+      let k : both (isIn Handling from) (not (isIn Handling (y .entered))) ≡ false = rw j (rw j at e) in
+      rw k at hn
+
+  kept : went Handling Offering from (y .entered) ≡ false → Heard (r .server) (r .metrics .«last_wal_end») (o .run) → o .run .server ≡ serverOf s h
+  kept e (stay p q) = p ∙ w .server
+  kept e (offered p q) = q ∙ metric-stays e p ∙ sym he ∙ sym both-are ∙ w .server
   kept e (ended p q) = q ∙ w .server
 
   told-end : went Handling Offering from (y .entered) ≡ true
@@ -154,14 +155,14 @@ module _ (s : Setup) (h : Trace) (i : Input) (from : State) (y : Response) (r : 
       let n : o .run .metrics .«last_wal_end» ≡ endAfter m (lastEnd s h) = rw b at hn in
       n ∙ ap (endAfter m) (sym he ∙ sym both-are ∙ w .server)
 
-  server-next : Heard (r .state) (r .server) (r .metrics .«last_wal_end») o → o .run .server ≡ serverOf s (a-step i from y ∷ h)
+  server-next : Heard (r .server) (r .metrics .«last_wal_end») (o .run) → o .run .server ≡ serverOf s (a-step i from y ∷ h)
   unfolding serverOf
   server-next x =
       by-test (went Handling Offering from (y .entered))
       (λ e. rw e (metric-next x (rw ht (offers-by from (y .entered) e .1)) ∙ told-end e))
       (λ e. rw e (kept e x))
 
-  step-told : Heard (r .state) (r .server) (r .metrics .«last_wal_end») o → Told s (a-step i from y ∷ h) (o .run)
+  step-told : Heard (r .server) (r .metrics .«last_wal_end») (o .run) → Told s (a-step i from y ∷ h) (o .run)
   step-told x = record { server = server-next x; metric = metric-next x }
 
 -- the metric's end after a list
@@ -183,11 +184,12 @@ told-all s (step i n out ∷ cs) h z w v =
     let after = calls-preserved s (step i n out ∷ []) h z w in
     told-all s cs (traceOne s h (step i n out)) (playOne (s .bytes) z (step i n out)) after
     (by-test (isEnded (z .run .state))
-    (λ a. ended-told s h i (stateAfter (s .opening) h) y (z .run) (stepOf (z .run) i l .run) v a (w .follows .state) (ended-stays (z .run) i l a))
+    (λ a. ended-told s h i (stateAfter (s .opening) h) y (z .run) (stepOf (z .run) i l .run) v a (w .follows .state)
+    (ap (λ (o : Outcome). o .run) (ended-refused (z .run) i l a)))
     (λ a.
-    step-told s h i (stateAfter (s .opening) h) y (z .run) (stepOf (z .run) i l) v a (w .follows .state) (step-next s h z w i n out .answers .state)
+    step-told s h i (stateAfter (s .opening) h) y (z .run) (stepOf (z .run) i l) v a (step-next s h z w i n out .answers .state)
     (metric-is s h z w) (metric-is s (traceOne s h (step i n out)) (playOne (s .bytes) z (step i n out)) after)
-    (step-hears i l (z .run))))
+    (step-effects (z .run) i l .server)))
 told-all s (report file p m ∷ cs) h z w v =
     told-all s cs (traceOne s h (report file p m)) (playOne (s .bytes) z (report file p m)) (calls-preserved s (report file p m ∷ []) h z w)
     (report-told s h (z .run) file p m v)

@@ -19,6 +19,7 @@ dataAt end bytes = framed 0x64 (xlogData 0 end (pos 0) bytes)
 abbrev pub refusedAfter : List ℕ
 refusedAfter = dataAt 5 (0x49 ∷ []) ++ dataAt 9 (0x42 ∷ [])
 
+-- what is shown as these streams are read
 pub record ShownCases : Type 0 where
   -- before the first step, and after the first status
   pub fresh : shownBy (after (settings false 0) [] 0 false .run) ≡ page 0 false 0 0 0 0 1

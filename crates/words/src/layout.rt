@@ -2,9 +2,6 @@
 // The same names with the same numbers stand in host/src/ffi.rs and, with RUFFLESQUASH_ before them, in host/include/rufflesquash.h; the
 // gate holds the three together. What the words mean is said in crate `meaning`.
 
-// The number of this list and of the exported functions; it grows with every change of either.
-pub const ABI: u64 = 6;
-
 // ---- settings: intervals are nanoseconds, a flag is true unless 0
 pub const SETTINGS_WORDS: usize = 7;
 
