@@ -1,5 +1,5 @@
 //! Holds the documents against the repository: the files, names, must-fail edits and sections that they cite are there, every edit and every
-//! crate is named, statements stand in specs/, links lead somewhere. Run in the repository's root.
+//! crate is named, statements stand in specs/, links lead somewhere. The table of crate `utf8` is what is printed of it. Run in the repository's root.
 use std::collections::{BTreeMap, BTreeSet};
 use std::fs;
 use std::path::{Path, PathBuf};
@@ -255,6 +255,18 @@ fn wrong_links(wrong: &mut Vec<String>) {
     }
 }
 
+/// The 2,048 numbers that the program `utf8_table` prints are those of the constant of the crate `utf8`.
+fn wrong_entries(wrong: &mut Vec<String>) {
+    let page = "crates/utf8/src/lib.rt";
+    let source = read(page);
+    let constant = source.split_once("const NEXT: [u8; 2048] = [").and_then(|(_, rest)| rest.split_once("];")).map_or("", |(entries, _)| entries);
+    let bare: String = constant.lines().map(|line| line.split("//").next().unwrap_or("")).collect();
+    let numbers = |text: &str| -> Vec<u8> { text.split([',', ' ', '\n']).filter(|x| !x.is_empty()).map(|x| x.parse().unwrap_or(u8::MAX)).collect() };
+    if numbers(&bare).len() != 2048 || numbers(&bare) != numbers(&read("crates/utf8_table/stdout")) {
+        wrong.push(format!("{page}: what utf8_table prints"));
+    }
+}
+
 /// ARCHITECTURE's table has every crate, at a level above those of all crates that it uses.
 fn wrong_levels(uses: &BTreeMap<String, Vec<String>>, wrong: &mut Vec<String>) {
     let page = "docs/ARCHITECTURE.md";
@@ -296,6 +308,7 @@ fn main() {
     wrong_statements("docs/PROMISES.md", &mut wrong);
     wrong_sections(&mut wrong);
     wrong_links(&mut wrong);
+    wrong_entries(&mut wrong);
     wrong_levels(&uses, &mut wrong);
     wrong.iter().for_each(|line| eprintln!("tables: {line} is not there"));
     std::process::exit(!wrong.is_empty() as i32)

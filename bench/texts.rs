@@ -1,4 +1,5 @@
-//! Writes lossy texts with the Rattle function and with `String::from_utf8_lossy`, each into a lent buffer, results compared.
+//! Writes lossy texts with the Rattle functions, on the plain path and by the table, and with `String::from_utf8_lossy`, each into a lent buffer, and
+//! finds how far a text is well-formed; results compared. MB/s.
 //! It prints what it measured; with --check it only compares, on short texts. `bench/run` builds and runs it.
 
 use std::hint::black_box;
@@ -6,26 +7,40 @@ use std::time::Instant;
 
 extern "C" {
     fn bench_lossy(text: *const u8, text_len: usize, out: *mut u8, out_len: usize) -> usize;
+    fn bench_lossy_plain(text: *const u8, text_len: usize, out: *mut u8, out_len: usize) -> usize;
     fn bench_well_formed_prefix(text: *const u8, text_len: usize) -> usize;
+    fn bench_well_formed_prefix_plain(text: *const u8, text_len: usize) -> usize;
 }
 
-fn rattle(text: &[u8], out: &mut [u8]) -> usize {
+/// By the table.
+fn table(text: &[u8], out: &mut [u8]) -> usize {
     // SAFETY: both slices are lent whole and do not overlap.
     unsafe { bench_lossy(text.as_ptr(), text.len(), out.as_mut_ptr(), out.len()) }
 }
 
-fn rattle_prefix(text: &[u8]) -> usize {
-    // SAFETY: the slice is lent whole.
-    unsafe { bench_well_formed_prefix(text.as_ptr(), text.len()) }
+/// A part at a time.
+fn plain(text: &[u8], out: &mut [u8]) -> usize {
+    // SAFETY: both slices are lent whole and do not overlap.
+    unsafe { bench_lossy_plain(text.as_ptr(), text.len(), out.as_mut_ptr(), out.len()) }
 }
 
-fn plain(text: &[u8], out: &mut [u8]) -> usize {
+fn library(text: &[u8], out: &mut [u8]) -> usize {
     let shown = String::from_utf8_lossy(text);
     out[..shown.len()].copy_from_slice(shown.as_bytes());
     shown.len()
 }
 
+fn table_prefix(text: &[u8]) -> usize {
+    // SAFETY: the slice is lent whole.
+    unsafe { bench_well_formed_prefix(text.as_ptr(), text.len()) }
+}
+
 fn plain_prefix(text: &[u8]) -> usize {
+    // SAFETY: the slice is lent whole.
+    unsafe { bench_well_formed_prefix_plain(text.as_ptr(), text.len()) }
+}
+
+fn library_prefix(text: &[u8]) -> usize {
     std::str::from_utf8(text).map_or_else(|e| e.valid_up_to(), str::len)
 }
 
@@ -37,7 +52,7 @@ fn repeated(words: &str, length: usize) -> Vec<u8> {
 /// The last character may be cut by `repeated`: it is left out.
 fn well_formed(words: &str, length: usize) -> Vec<u8> {
     let mut text = repeated(words, length);
-    text.truncate(plain_prefix(&text));
+    text.truncate(library_prefix(&text));
     text
 }
 
@@ -68,25 +83,32 @@ fn speed(text: &[u8], mut call: impl FnMut(&[u8]) -> usize) -> f64 {
 }
 
 fn compared(name: &str, text: &[u8]) {
-    let (mut ours, mut theirs) = (vec![0; 3 * text.len()], vec![0; 3 * text.len()]);
-    assert_eq!(rattle(text, &mut ours), plain(text, &mut theirs), "{name}");
-    assert_eq!(ours, theirs, "{name}");
-    assert_eq!(rattle_prefix(text), plain_prefix(text), "{name}");
+    let mut theirs = vec![0; 3 * text.len()];
+    let length = library(text, &mut theirs);
+    for path in [plain, table] {
+        let mut ours = vec![0; 3 * text.len()];
+        assert_eq!(path(text, &mut ours), length, "{name}");
+        assert_eq!(ours, theirs, "{name}");
+    }
+    assert_eq!(plain_prefix(text), library_prefix(text), "{name}");
+    assert_eq!(table_prefix(text), library_prefix(text), "{name}");
 }
 
 fn main() {
     let check = std::env::args().any(|a| a == "--check");
     type Maker = fn(usize) -> Vec<u8>;
-    let texts: [(&str, Maker); 5] = [
+    let texts: [(&str, Maker); 7] = [
         ("ASCII", |n| well_formed("The exhibition opens at ten o'clock in the great hall. ", n)),
         ("German", |n| well_formed("Die Ausstellung öffnet um zehn Uhr im großen Saal für Gäste. ", n)),
         ("Greek", |n| well_formed("Η έκθεση ανοίγει στις δέκα στη μεγάλη αίθουσα. ", n)),
         ("Polish", |n| well_formed("Wystawa zostanie otwarta o dziesiątej w głównej sali, żółw też. ", n)),
+        ("Japanese", |n| well_formed("展覧会は十時に大広間で始まります。", n)),
+        ("quoted", |n| well_formed("Die „Ausstellung“ öffnet um 10 Uhr – für 5 € im großen Saal… ", n)),
         ("garbled", garbled),
     ];
     if !check {
-        println!("| text | bytes | ours, MB/s | standard library, MB/s | ours / library, time | prefix, ours, MB/s | valid_up_to, MB/s |");
-        println!("|---|---|---|---|---|---|---|");
+        println!("| text | bytes | plain | table | library | plain / table, time | table / library, time | prefix, plain | prefix, table | `valid_up_to` |");
+        println!("|---|---|---|---|---|---|---|---|---|---|");
     }
     for (name, make) in texts {
         for length in [100, 10_000, 1_000_000] {
@@ -96,17 +118,16 @@ fn main() {
                 continue;
             }
             let mut out = vec![0; 3 * text.len()];
-            let ours = speed(&text, |text| rattle(text, &mut out));
-            let theirs = speed(&text, |text| plain(text, &mut out));
+            let [plain, table, library] = [plain, table, library].map(|path| speed(&text, |text| path(text, &mut out)));
             // Of a text that is soon ill-formed there is nothing to measure.
-            let prefix = match plain_prefix(&text) == text.len() {
-                true => format!("{:.0} | {:.0}", speed(&text, rattle_prefix), speed(&text, plain_prefix)),
-                false => "- | -".to_string(),
+            let prefix = match library_prefix(&text) == text.len() {
+                true => [plain_prefix, table_prefix, library_prefix].map(|path| format!("{:.0}", speed(&text, path))).join(" | "),
+                false => "- | - | -".to_string(),
             };
-            println!("| {name} | {length} | {ours:.0} | {theirs:.0} | {:.2} | {prefix} |", theirs / ours);
+            println!("| {name} | {length} | {plain:.0} | {table:.0} | {library:.0} | {:.2} | {:.2} | {prefix} |", table / plain, library / table);
         }
     }
     if check {
-        println!("bench: lossy texts, both sides alike");
+        println!("bench: lossy texts, both paths and the library alike");
     }
 }

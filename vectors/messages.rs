@@ -378,9 +378,10 @@ fn streams(v: &mut Vectors, draw: &mut Draw) {
     for name in stream_files() {
         let bytes = std::fs::read(name).unwrap();
         let bytes = &bytes[..bytes.len().min(65_529)];
-        for size in [1u16, 1 + draw.below(60) as u16, 4096, 65_535] {
-            // The longest stream leaves room for others.
-            if size == 4096 && bytes.len() > 60_000 {
+        let drawn = 1 + draw.below(60) as u16;
+        for size in [1u16, drawn, 4096, 65_535] {
+            // The longest stream leaves room for others: the program `streams` plays it, too.
+            if size != drawn && bytes.len() > 60_000 {
                 continue;
             }
             v.reads(65_536, true, size, bytes, 65_536, 0);

@@ -1,7 +1,9 @@
-// Functions for the benchmark to link: one read by a fresh reader, a CopyData, a boundary, a lossy text, a well-formed beginning.
+// Functions for the benchmark to link: one read by a fresh reader, a CopyData, a boundary, a lossy text and a well-formed beginning, both by the table
+// and on the plain path, and a generated stream.
 ghost use mathlib.Core.Path.{_≡_};
 ghost use Rattle.replication.specs.CopyData.{copyDataOf, saidBy as copySaid};
 ghost use Rattle.pgoutput.specs.Boundary.{boundaryOf, saidBy as boundarySaid};
+ghost use Rattle.lossy.specs.Marks.{lossyOutcome};
 ghost use Rattle.lossy.specs.Stretch.{stretchOf};
 ghost use Rattle.bench.specs.Mixed.{plus, bit, copyMixed, boundaryMixed, readTaken, lossyWritten};
 use framing::MessageReader;
@@ -94,15 +96,29 @@ pub extern "C" fn bench_boundary(bytes: &[u8]) -> u64
     boundary_number(pgoutput::parse_pgoutput_boundary(bytes))
 }
 
+fn bytes_of(w: Lossy) -> usize
+    ensures { λ r. ⌜ r ≡ lossyOutcome w .1 ⌝ }
+{
+    match w {
+        Lossy::Wrote { bytes, marks: _ } => bytes,
+        Lossy::Refused(_) => 0,
+    }
+}
+
 // How long the lossy text is that stands at the front of out, 0 where it is refused.
 #[no_mangle]
 pub extern "C" fn bench_lossy(text: &[u8], out: &mut [u8]) -> usize
     ensures { λ r. ⌜ (r, now (out .exit)) ≡ lossyWritten (now (text .entry)) (now (out .entry)) ⌝ }
 {
-    match lossy::write_lossy(text, out) {
-        Lossy::Wrote { bytes, marks: _ } => bytes,
-        Lossy::Refused(_) => 0,
-    }
+    bytes_of(lossy::write_lossy(text, out))
+}
+
+// The same on the plain path.
+#[no_mangle]
+pub extern "C" fn bench_lossy_plain(text: &[u8], out: &mut [u8]) -> usize
+    ensures { λ r. ⌜ (r, now (out .exit)) ≡ lossyWritten (now (text .entry)) (now (out .entry)) ⌝ }
+{
+    bytes_of(lossy::plain::write_lossy(text, out))
 }
 
 #[no_mangle]
@@ -110,4 +126,12 @@ pub extern "C" fn bench_well_formed_prefix(text: &[u8]) -> usize
     ensures { λ r. ⌜ r ≡ stretchOf (now (text .entry)) ⌝ }
 {
     lossy::well_formed_prefix(text)
+}
+
+// The same on the plain path.
+#[no_mangle]
+pub extern "C" fn bench_well_formed_prefix_plain(text: &[u8]) -> usize
+    ensures { λ r. ⌜ r ≡ stretchOf (now (text .entry)) ⌝ }
+{
+    lossy::plain::well_formed_prefix(text)
 }

@@ -17,7 +17,7 @@ pub(crate) struct Answer {
     pub(crate) marks: usize,
 }
 
-fn wrote(count: usize, marks: usize) -> Answer {
+pub(crate) fn wrote(count: usize, marks: usize) -> Answer {
     Answer {
         good: true,
         refusal: 0,
@@ -26,7 +26,7 @@ fn wrote(count: usize, marks: usize) -> Answer {
     }
 }
 
-fn refused(refusal: u8) -> Answer {
+pub(crate) fn refused(refusal: u8) -> Answer {
     Answer {
         good: true,
         refusal,
@@ -62,7 +62,8 @@ fn of_text(kind: u8, input: &[u8], out: &mut [u8]) -> Answer {
     match kind {
         b'q' => written(frontend::write_query(input, out)),
         b'y' => written(frontend::write_copy_data(input, out)),
-        b'l' => shown(lossy::write_lossy(input, out)),
+        b'l' => shown(lossy::plain::write_lossy(input, out)),
+        b'u' => shown(lossy::write_lossy(input, out)),
         _ => shown(messages::parse_error_response(input, out)),
     }
 }
@@ -95,7 +96,7 @@ fn status(input: &[u8], out: &mut [u8]) -> Answer {
 
 fn write(kind: u8, input: &[u8], out: &mut [u8]) -> Answer {
     match kind {
-        b'q' | b'y' | b'l' | b'e' => of_text(kind, input, out),
+        b'q' | b'y' | b'l' | b'u' | b'e' => of_text(kind, input, out),
         b'z' | b'x' => of_nothing(kind, out),
         b'd' => display(input, out),
         b't' => status(input, out),
@@ -122,7 +123,7 @@ pub(crate) fn after_fields(kind: u8, input: &[u8], out: &mut [u8], line: &mut [u
     }
     let at = spelled(line, a.refusal, a.count, out);
     match kind {
-        b'l' | b'e' => lines::number(line, at, a.marks as u64),
+        b'l' | b'u' | b'e' => lines::number(line, at, a.marks as u64),
         _ => at,
     }
 }

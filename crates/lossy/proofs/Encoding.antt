@@ -10,7 +10,7 @@ use lib.Dec.{ltb, leb, lit<}
 use borrow.Author.Tests.{le-leb, lt-ltb, le-ltb, leb-true, leb-false, ltb-true, ltb-false}
 use Rattle.wire.specs.Bytes.{pick}
 use Rattle.wire.proofs.Laws.{by-test, impossible}
-use Rattle.lossy.specs.WellFormed.{Range, table, within}
+use Rattle.utf8.specs.WellFormed.{Range, table, within}
 use Rattle.lossy.specs.Parts.{Matches, AnyRow, Sequence, AllSequences, concat}
 use Rattle.lossy.specs.Encoding.{Scalar, trailing, utf8, AllScalars, Scalar-is-sequence, Sequence-is-scalar, Encoded-is-unchanged}
 use Rattle.lossy.proofs.Parts.{well-formed-is-unchanged}

@@ -12,7 +12,7 @@ use lib.Dec.{leb, eqb, eqb·zero-suc}
 use borrow.Author.Tests.{le-leb, lt-leb, leb-true, leb-false}
 use Rattle.wire.specs.Bytes.{pick}
 use Rattle.wire.proofs.Laws.{impossible}
-use Rattle.lossy.specs.WellFormed.{Range, table, rowOf, matched}
+use Rattle.utf8.specs.WellFormed.{Range, table, rowOf, matched}
 use Rattle.lossy.specs.Lossy.{Part, well, ill, partBy, bytesOf, partsOf, shown, shownAll, lossyOf}
 use Rattle.lossy.specs.Marks.{marksIn, marksAll, marksOf, measured, measureOf, withMarks}
 use Rattle.lossy.specs.Stretch.{stretchAll, stretchOf}

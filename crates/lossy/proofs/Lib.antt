@@ -1,7 +1,10 @@
 pub mod Laws
 mod Table
+mod States
+mod Pairs
 mod Turns
 pub mod Parts
 pub mod Stretches
 pub mod Marks
 pub mod Encoding
+pub mod Automaton

@@ -12,7 +12,7 @@ use lib.Dec.{leb, ltb, eqb}
 use borrow.Author.Tests.{leb-true, ltb-true, eqb-true, eqb-false, ne-eqb}
 use Rattle.wire.specs.Bytes.{pick}
 use Rattle.wire.proofs.Laws.{by-test, impossible}
-use Rattle.lossy.specs.WellFormed.{Range, within, table, begins, rowOf, matched}
+use Rattle.utf8.specs.WellFormed.{Range, within, table, begins, rowOf, matched}
 use Rattle.lossy.specs.Lossy.{Part, well, ill, partBy, bytesOf, partsOf, shown, shownAll, lossyOf}
 use Rattle.lossy.specs.Code.{partFound}
 use Rattle.lossy.specs.declared.part.Part.{Part as Cut}

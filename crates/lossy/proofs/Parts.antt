@@ -12,7 +12,7 @@ use lib.Dec.{leb, ltb, eqb}
 use borrow.Author.Tests.{leb-true, leb-false, ltb-true, lt-leb, eqb-true, eqb-false, eq-eqb}
 use Rattle.wire.specs.Bytes.{pick}
 use Rattle.wire.proofs.Laws.{by-test, impossible}
-use Rattle.lossy.specs.WellFormed.{Range, table, within, begins, rowOf, matched}
+use Rattle.utf8.specs.WellFormed.{Range, table, within, begins, rowOf, matched}
 use Rattle.lossy.specs.Lossy.{Part, well, ill, partBy, bytesOf, partsOf, lossyOf, shown}
 use Rattle.lossy.specs.Parts.{Matches, Begins, AnyRow, Sequence, Beginning, Maximal, bytesOfAll, Right, Parts-are-right, AllSequences, concat, Well-formed-is-unchanged}
 use Rattle.lossy.proofs.Table.{own, matched-fits}

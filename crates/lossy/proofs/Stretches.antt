@@ -7,7 +7,7 @@ use native.Mathlib.Nat.{not-suc-le-zero}
 use native.Mathlib.Omega.{arith}
 use lib.ListN.{length, take, drop, length-append, length-drop, take-append-drop}
 use lib.Seq.{drop-drop, drop-append-seam, take-append-add, drop-append-add, length-take-le}
-use Rattle.lossy.specs.WellFormed.{table, rowOf}
+use Rattle.utf8.specs.WellFormed.{table, rowOf}
 use Rattle.lossy.specs.Lossy.{Part, well, ill, partBy, partsOf, bytesOf, shown, lossyOf}
 use Rattle.lossy.specs.Marks.{marksIn, marksOf, Unmarked-is-unchanged}
 use Rattle.lossy.specs.Parts.{Sequence, AllSequences, concat, Right}
@@ -165,7 +165,7 @@ all-well-formed (suc n) (b ∷ s) h =
     part-well-formed p (b ∷ s) t (front-joined (z .0) (b ∷ s) (bytesOf p) (z .2)) (stretch-next b s) (first-part p (partsOf (length t) t) r)
     (all-well-formed n t (fewer b s _ n (part-some (rowOf table b) b s) h))
 
-sequence-stretch : (b : ℕ) (t rest : List ℕ) → Sequence (b ∷ t) → stretchOf ((b ∷ t) ++ rest) ≡ length (b ∷ t) + stretchOf rest
+pub sequence-stretch : (b : ℕ) (t rest : List ℕ) → Sequence (b ∷ t) → stretchOf ((b ∷ t) ++ rest) ≡ length (b ∷ t) + stretchOf rest
 sequence-stretch b t rest q = stretch-next b (t ++ rest) ∙ rw (sequence-part (rowOf table b) b t rest (sequence-row b t q), drop-append-seam (b ∷ t) rest)
 
 sequences-stretch : (qs : List (List ℕ)) (rest : List ℕ) → AllSequences qs → length (concat qs) ≤ stretchOf (concat qs ++ rest)

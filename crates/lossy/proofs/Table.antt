@@ -11,7 +11,7 @@ use lib.Seq.{drop-drop, drop-cons, take-nil}
 use lib.Dec.{leb, eqb, eqb·suc-suc}
 use borrow.Author.Tests.{le-leb, lt-leb}
 use Rattle.wire.specs.Bytes.{pick}
-use Rattle.lossy.specs.WellFormed.{Range, within, table, rowOf, matched}
+use Rattle.utf8.specs.WellFormed.{Range, within, table, rowOf, matched}
 use Rattle.lossy.specs.Lossy.{well, ill, partBy}
 use Rattle.lossy.specs.Code.{behindFirst, firstIn, partFound, PartAt}
 

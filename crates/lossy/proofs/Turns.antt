@@ -7,10 +7,11 @@ use native.Mathlib.Omega.{arith}
 use lib.ListN.{length, take, drop, getD, length-drop}
 use lib.Seq.{drop-cons, drop-drop, length-take-le}
 use Rattle.wire.specs.Bytes.{pick}
-use Rattle.lossy.specs.WellFormed.{table, rowOf}
+use Rattle.utf8.specs.WellFormed.{table, rowOf}
 use Rattle.lossy.specs.Lossy.{Part, well, ill, partBy, bytesOf, shown, lossyOf}
 use Rattle.lossy.specs.Marks.{marksIn, marksOf}
 use Rattle.lossy.specs.Stretch.{stretchOf}
+use Rattle.lossy.specs.Blocks.{PassedTo}
 use Rattle.lossy.specs.Code.{partFound, PartAt}
 use Rattle.lossy.specs.declared.part.Part.{Part as Cut}
 use Rattle.lossy.proofs.Laws.{bytes-either, lossy-next, marks-next, stretchPart, stretch-next}
@@ -54,3 +55,10 @@ module _ (s : List ℕ) (i : ℕ) (p : Cut) (h : i < length s) (a : PartAt s i p
 
   pub stretch-ends : p .well ≡ false → stretchOf (drop i s) ≡ 0
   stretch-ends w = stretch-turn ∙ rw w
+
+-- places that were passed one after the other
+pub passed-on : {s : List ℕ} {i j k : ℕ} → PassedTo s i j → PassedTo s j k → PassedTo s i k
+passed-on {s} {i} {j} {k} p q =
+    let a : i ≤ j = p .from in
+    let b : j ≤ k = q .from in
+    record { from = omega arith; within = q .within; is = p .is ∙ q .is }

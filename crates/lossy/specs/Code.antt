@@ -5,10 +5,11 @@ use mathlib.Core.Bool.{Bool, true, false}
 use mathlib.Core.List.{List, [], _∷_}
 use lib.ListN.{length, take, drop, getD}
 use Rattle.wire.specs.Bytes.{pick}
-use Rattle.lossy.specs.WellFormed.{Range, table, rowOf, within}
+use Rattle.utf8.specs.WellFormed.{Range, table, rowOf, within}
 use Rattle.lossy.specs.Lossy.{Part, well, ill, partBy}
 use Rattle.lossy.specs.declared.part.Part.{Part as Cut}
 use Rattle.lossy.specs.Stretch.{stretchOf}
+use Rattle.lossy.specs.Blocks.{PassedTo}
 use Rattle.lossy.specs.declared.part.Lead.{Lead}
 use Rattle.lossy.specs.declared.Stretch.{Stretch}
 
@@ -40,4 +41,10 @@ pub record PartAt (s : List ℕ) (i : ℕ) (p : Cut) : Type 0 where
 pub record StretchAt (s : List ℕ) (i : ℕ) (t : Stretch) : Type 0 where
   pub is : t .end ≡ i + stretchOf (drop i s)
   pub last : t .ill ≡ 0 → t .end ≡ length s
+  pub behind : 1 ≤ t .ill → PartAt s (t .end) (record { len = t .ill; well = false })
+
+-- t says where well-formed parts that begin at i end, not before the place stop, or how long the ill-formed part there is
+pub record WalkedTo (s : List ℕ) (i stop : ℕ) (t : Stretch) : Type 0 where
+  pub passed : PassedTo s i (t .end)
+  pub far : t .ill ≡ 0 → stop ≤ t .end
   pub behind : 1 ≤ t .ill → PartAt s (t .end) (record { len = t .ill; well = false })

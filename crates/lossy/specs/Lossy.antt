@@ -6,7 +6,7 @@ use mathlib.Core.List.{List, [], _∷_, _++_}
 use lib.ListN.{length, take, drop}
 use lib.Dec.{eqb}
 use Rattle.wire.specs.Bytes.{pick}
-use Rattle.lossy.specs.WellFormed.{Range, table, rowOf, matched}
+use Rattle.utf8.specs.WellFormed.{Range, table, rowOf, matched}
 
 -- a part of a text: a well-formed sequence, or a maximal ill-formed part
 pub data Part : Type 0 where

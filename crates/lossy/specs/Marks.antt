@@ -9,7 +9,7 @@ use lib.ListN.{length, getD}
 use lib.Dec.{eqb, leb}
 use Rattle.wire.specs.Bytes.{pick}
 use Rattle.error.specs.Refusal.{numberOf}
-use Rattle.lossy.specs.WellFormed.{table, rowOf, matched}
+use Rattle.utf8.specs.WellFormed.{table, rowOf, matched}
 use Rattle.lossy.specs.Lossy.{Part, well, ill, partsOf, shownAll, lossyOf}
 use Rattle.lossy.specs.declared.Lossy.{Lossy}
 use Rattle.lossy.specs.declared.Lossy.the-variants.{Wrote, Refused}

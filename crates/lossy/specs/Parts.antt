@@ -6,7 +6,7 @@ use mathlib.Core.List.{List, [], _∷_, _++_}
 use mathlib.Core.Logic.{_⊎_}
 use Prim.Native.Nat.{ℕ, _≤_, _<_}
 use lib.ListN.{length, take}
-use Rattle.lossy.specs.WellFormed.{Range, table, within}
+use Rattle.utf8.specs.WellFormed.{Range, table, within}
 use Rattle.lossy.specs.Lossy.{Part, well, ill, bytesOf, partsOf, lossyOf}
 
 -- a byte in each range of a row, and no more bytes

@@ -3,7 +3,7 @@ use mathlib.Core.Path.{_≡_, refl}
 use mathlib.Core.List.{List, [], _∷_, _++_}
 use Prim.Native.Nat.{ℕ, _+_, _≤_, _<_}
 use lib.ListN.{length, take, drop}
-use Rattle.lossy.specs.WellFormed.{table, rowOf, matched}
+use Rattle.utf8.specs.WellFormed.{table, rowOf, matched}
 use Rattle.lossy.specs.Lossy.{Part, well, ill, partsOf, lossyOf}
 use Rattle.lossy.specs.Parts.{AllSequences, concat}
 

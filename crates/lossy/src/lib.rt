@@ -1,19 +1,24 @@
 // Lossy text: what String::from_utf8_lossy makes of a byte string.
+mod blocks;
+mod lookup;
 mod part;
+pub mod plain;
 
 ghost use mathlib.Core.Path.{_≡_};
-ghost use Prim.Native.Nat.{_+_, _≤_};
+ghost use Prim.Native.Nat.{_+_, _-_, _≤_, _<_, min};
 ghost use lib.ListN.{length};
 ghost use Rattle.wire.specs.Bytes.{placed, put};
 ghost use Rattle.error.specs.Writer.{writing, counted, countOf};
+ghost use Rattle.utf8.specs.Automaton.{IsTable};
 ghost use Rattle.lossy.specs.Lossy.{lossyOf};
 ghost use Rattle.lossy.specs.Marks.{marksOf, measured, measureOf, withMarks, lossyOutcome};
 ghost use Rattle.lossy.specs.Stretch.{stretchOf};
-ghost use Rattle.lossy.specs.Code.{StretchAt};
+ghost use Rattle.lossy.specs.Code.{StretchAt, WalkedTo};
 use error::Counted;
 use error::INPUT_LIMIT;
 use error::Refusal;
 use wire::store::NOWHERE;
+use wire::store::least;
 
 // What the lossy writer answers: how many bytes it wrote and how many marks it put in, or why it wrote none.
 pub enum Lossy {
@@ -33,8 +38,8 @@ struct Stretch {
     ill: usize,
 }
 
-// How far the text is well-formed from a place on.
-fn stretch_from(text: &[u8], from: usize) -> Stretch
+// How far the text is well-formed from a place on, a part at a time.
+fn plain_from(text: &[u8], from: usize) -> Stretch
     requires { ⌜ from ≤ length (now text) ⌝ }
     ensures { λ r. ⌜ StretchAt (now (text .entry)) from r ⌝ }
 {
@@ -49,22 +54,119 @@ fn stretch_from(text: &[u8], from: usize) -> Stretch
     Stretch { end: i, ill: 0 }
 }
 
+// The same until a place is reached.
+fn plain_to(text: &[u8], from: usize, stop: usize) -> Stretch
+    requires { ⌜ (from ≤ length (now text)) × (stop ≤ length (now text)) ⌝ }
+    ensures { λ r. ⌜ WalkedTo (now (text .entry)) from stop r ⌝ }
+{
+    let mut i = from;
+    while i < stop {
+        let p = part::part_at(text, i);
+        if !p.well {
+            return Stretch { end: i, ill: p.len };
+        }
+        i += p.len;
+    }
+    Stretch { end: i, ill: 0 }
+}
+
+// The same by the table, until a place is reached.
+fn table_to(text: &[u8], from: usize, stop: usize, table: &[u8; 2048]) -> Stretch
+    requires { ⌜ (from ≤ length (now text)) × (stop ≤ length (now text)) × IsTable (now table) ⌝ }
+    ensures { λ r. ⌜ WalkedTo (now (text .entry)) from stop r ⌝ }
+{
+    let mut i = from;
+    while i < stop {
+        let p = lookup::part_in(text, i, table);
+        if !p.well {
+            return Stretch { end: i, ill: p.len };
+        }
+        i += p.len;
+    }
+    Stretch { end: i, ill: 0 }
+}
+
+// How many bytes go by the table where a block does not pass: to make the table takes some time.
+const BY_TABLE: usize = 256;
+
+fn table_some(text: &[u8], from: usize) -> Stretch
+    requires { ⌜ from ≤ length (now text) ⌝ }
+    ensures { λ r. ⌜ WalkedTo (now (text .entry)) from (from + min (length (now (text .entry)) - from) 256) r ⌝ }
+{
+    let table = utf8::states();
+    table_to(
+        text,
+        from,
+        from + least(text.len() - from, BY_TABLE),
+        &table,
+    )
+}
+
+// What stands where a block does not pass: as many bytes as a block has go a part at a time, since the text may soon be ill-formed; where no block
+// passes then, the table is made.
+fn unblocked(text: &[u8], from: usize) -> Stretch
+    requires { ⌜ from + 32 < length (now text) ⌝ }
+    ensures { λ r. ⌜ WalkedTo (now (text .entry)) from (from + 1) r ⌝ }
+{
+    let t = plain_to(text, from, from + blocks::BLOCK);
+    if t.ill != 0 {
+        return t;
+    }
+    let a = t.end;
+    let b = blocks::passed(text, a);
+    if a < b {
+        return Stretch { end: b, ill: 0 };
+    }
+    table_some(text, b)
+}
+
+// The same by blocks and by the table. The last bytes, fewer than a block has, go a part at a time.
+fn table_from(text: &[u8], from: usize) -> Stretch
+    requires { ⌜ from ≤ length (now text) ⌝ }
+    ensures { λ r. ⌜ StretchAt (now (text .entry)) from r ⌝ }
+{
+    let mut i = from;
+    while i < text.len() {
+        let a = blocks::passed(text, i);
+        if text.len() - a <= blocks::BLOCK {
+            return plain_from(text, a);
+        }
+        let t = unblocked(text, a);
+        if t.ill != 0 {
+            return t;
+        }
+        i = t.end;
+    }
+    Stretch { end: i, ill: 0 }
+}
+
+// How far the text is well-formed from a place on, on the path that is asked for.
+fn stretch_from(text: &[u8], from: usize, by_table: bool) -> Stretch
+    requires { ⌜ from ≤ length (now text) ⌝ }
+    ensures { λ r. ⌜ StretchAt (now (text .entry)) from r ⌝ }
+{
+    if by_table {
+        return table_from(text, from);
+    }
+    plain_from(text, from)
+}
+
 // The length of the longest well-formed beginning of a text of any length.
 pub fn well_formed_prefix(text: &[u8]) -> usize
     ensures { λ r. ⌜ r ≡ stretchOf (now (text .entry)) ⌝ }
 {
-    stretch_from(text, 0).end
+    stretch_from(text, 0, true).end
 }
 
-// The length of the lossy text, where that is at most room, and the marks that are put in.
-pub fn measure(text: &[u8], room: usize) -> Measured
+// The length of the lossy text, where that is at most room, and the marks that are put in, on the path that is asked for.
+fn measure_by(text: &[u8], room: usize, by_table: bool) -> Measured
     ensures { λ r. ⌜ measureOf r ≡ measured room (length (lossyOf (now (text .entry)))) (marksOf (now (text .entry))) ⌝ }
 {
     let mut bytes: usize = 0;
     let mut marks: usize = 0;
     let mut i: usize = 0;
     while i < text.len() {
-        let t = stretch_from(text, i);
+        let t = stretch_from(text, i, by_table);
         let n = t.end - i;
         if room - bytes < n {
             return Measured::Over;
@@ -83,6 +185,13 @@ pub fn measure(text: &[u8], room: usize) -> Measured
     Measured::Fits { bytes, marks }
 }
 
+// The length of the lossy text, where that is at most room, and the marks that are put in.
+pub fn measure(text: &[u8], room: usize) -> Measured
+    ensures { λ r. ⌜ measureOf r ≡ measured room (length (lossyOf (now (text .entry)))) (marksOf (now (text .entry))) ⌝ }
+{
+    measure_by(text, room, true)
+}
+
 // The length of the lossy text alone.
 pub fn count(text: &[u8], room: usize) -> Counted
     ensures { λ r. ⌜ countOf r ≡ counted room (length (lossyOf (now (text .entry)))) ⌝ }
@@ -94,14 +203,14 @@ pub fn count(text: &[u8], room: usize) -> Counted
 }
 
 // The lossy text over out from `to` on: a well-formed stretch as it is, one mark for what ends it, and so on.
-fn fill(out: &mut [u8], to: usize, text: &[u8])
+fn fill(out: &mut [u8], to: usize, text: &[u8], by_table: bool)
     requires { ⌜ to + length (lossyOf (now text)) ≤ length (now out) ⌝ }
     ensures { λ _. ⌜ now (out .exit) ≡ put (now (out .entry)) to (lossyOf (now (text .entry))) ⌝ }
 {
     let mut at = to;
     let mut i: usize = 0;
     while i < text.len() {
-        let t = stretch_from(text, i);
+        let t = stretch_from(text, i, by_table);
         let end = t.end;
         at = wire::store::place(out, at, &text[i..end]);
         if t.ill == 0 {
@@ -122,24 +231,31 @@ pub fn place(out: &mut [u8], to: usize, text: &[u8]) -> usize
     let Counted::Fits(n) = count(text, out.len() - to) else {
         return NOWHERE;
     };
-    fill(out, to, text);
+    fill(out, to, text, true);
     to + n
 }
 
 // The lossy text over the front of out, and its marks. A text without marks is well-formed to its end, and copied whole without a second walk.
-pub fn write_lossy(text: &[u8], out: &mut [u8]) -> Lossy
+fn write_by(text: &[u8], out: &mut [u8], by_table: bool) -> Lossy
     ensures { λ r. ⌜ (lossyOutcome r, now (out .exit)) ≡ withMarks (marksOf (now (text .entry))) (writing (length (now (text .entry))) (lossyOf (now (text .entry))) (now (out .entry))) ⌝ }
 {
     if INPUT_LIMIT < text.len() {
         return Lossy::Refused(Refusal::InputTooLong);
     }
-    let Measured::Fits { bytes, marks } = measure(text, out.len()) else {
+    let Measured::Fits { bytes, marks } = measure_by(text, out.len(), by_table) else {
         return Lossy::Refused(Refusal::OutputTooShort);
     };
     if marks == 0 {
         wire::store::place(out, 0, text);
         return Lossy::Wrote { bytes, marks };
     }
-    fill(out, 0, text);
+    fill(out, 0, text, by_table);
     Lossy::Wrote { bytes, marks }
+}
+
+// The lossy text over the front of out, and its marks.
+pub fn write_lossy(text: &[u8], out: &mut [u8]) -> Lossy
+    ensures { λ r. ⌜ (lossyOutcome r, now (out .exit)) ≡ withMarks (marksOf (now (text .entry))) (writing (length (now (text .entry))) (lossyOf (now (text .entry))) (now (out .entry))) ⌝ }
+{
+    write_by(text, out, true)
 }

@@ -3,7 +3,7 @@ ghost use mathlib.Core.Path.{_≡_};
 ghost use mathlib.Core.Bool.{true, false};
 ghost use Prim.Native.Nat.{_≤_, _<_};
 ghost use lib.ListN.{length, drop};
-ghost use Rattle.lossy.specs.WellFormed.{table, rowOf, matched};
+ghost use Rattle.utf8.specs.WellFormed.{table, rowOf, matched};
 ghost use Rattle.lossy.specs.Code.{behindFirst, trail, firstIn, PartAt};
 
 // How many bytes a part has, and whether they are a well-formed sequence.

@@ -10,7 +10,7 @@ use Rattle.wire.specs.Bytes.{pick}
 use Rattle.error.specs.Writer.{inputLimit, writing}
 use Rattle.lossy.specs.Lossy.{lossyOf, partsOf, shownAll}
 use Rattle.lossy.specs.Marks.{marksAll, marksOf, withMarks}
-use Rattle.lossy.specs.WellFormed.{table, rowOf, matched}
+use Rattle.utf8.specs.WellFormed.{table, rowOf, matched}
 use Rattle.messages.specs.declared.Field.{Field}
 use Rattle.messages.specs.Fields.{absent, named}
 use Rattle.messages.specs.ErrorText.{plain, unknown, coded, textBy, errorText, errorMarks}

@@ -11,7 +11,7 @@ use lib.ListN.{length, getD}
 use lib.Dec.{eqb}
 use Rattle.wire.specs.Bytes.{pick}
 use Rattle.wire.specs.Find.{indexOf}
-use Rattle.lossy.specs.WellFormed.{table, rowOf, matched}
+use Rattle.utf8.specs.WellFormed.{table, rowOf, matched}
 use Rattle.lossy.specs.Lossy.{lossyOf, partsOf}
 use Rattle.lossy.specs.Marks.{seen, marksAll, marksOf}
 use Rattle.messages.specs.declared.Field.{Field}

@@ -21,7 +21,7 @@ use Rattle.pgoutput.specs.Boundary.{boundaryOf}
 use Rattle.pgoutput.proofs.Cases.{begin-refusals, commit-refusals}
 use Rattle.lsn.specs.Hex.{digitOf, valueFrom, hexPart}
 use Rattle.lsn.specs.Position.{joined, positionOf}
-use Rattle.lossy.specs.WellFormed.{table, rowOf, matched}
+use Rattle.utf8.specs.WellFormed.{table, rowOf, matched}
 use Rattle.lossy.specs.Lossy.{partsOf, shownAll, lossyOf}
 use Rattle.proved_table.specs.ProvedTable.{ProvedTable, RefusalTable, dataPart}
 

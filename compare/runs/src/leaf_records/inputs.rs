@@ -50,7 +50,7 @@ pub fn short(see: See) {
 fn short_texts(see: See) {
     every(b"/+-01aFg", 7, &mut |text| see(b'p', text));
     let all: Vec<u8> = (0..=255).collect();
-    for kind in *b"lw" {
+    for kind in *b"luw" {
         every(&all, 2, &mut |text| see(kind, text));
         every(EDGES, 4, &mut |text| see(kind, text));
     }
@@ -106,6 +106,20 @@ fn short_streams(see: See) {
 
 pub(super) fn lengthened<'a>(texts: impl Iterator<Item = &'a [u8]>) -> Vec<u8> {
     texts.flat_map(|t| [&(t.len() as u16).to_be_bytes()[..], t].concat()).collect()
+}
+
+/// Now and then with many characters of at most one, two or three bytes between the others.
+fn lossy_text(draw: &mut Draw) -> Vec<u8> {
+    let mut all = text(draw, true);
+    if draw.once_in(3) {
+        let bound = draw.pick(&[0x80, 0x800, 0xD800]);
+        for _ in 0..draw.below(80) {
+            let c = char::from_u32(draw.below(bound) as u32).unwrap();
+            all.extend_from_slice(c.encode_utf8(&mut [0; 4]).as_bytes());
+        }
+        all.extend(text(draw, true));
+    }
+    all
 }
 
 /// Characters of every length, and with `ill` parts that are none.
@@ -272,12 +286,12 @@ fn answers(draw: &mut Draw) -> Vec<u8> {
 
 /// One random input.
 pub fn random(draw: &mut Draw) -> (u8, Vec<u8>) {
-    let kind = draw.pick(b"ppppllllwwwweeffaccccbbbbbbrrrrqytosggggmmdd");
+    let kind = draw.pick(b"pppplllluuuuwwwweeffaccccbbbbbbrrrrqytosggggmmdd");
     let input = match kind {
         b'p' if draw.once_in(10) => text(draw, false),
         b'p' => position_text(draw),
         b'd' => (draw.next() >> draw.below(64)).to_be_bytes().to_vec(),
-        b'l' | b'w' => text(draw, true),
+        b'l' | b'u' | b'w' => lossy_text(draw),
         b'e' | b'f' => error_payload(draw),
         b'a' | b'y' => some(draw),
         b'c' => marred_by(draw, |draw| copy_data(draw)[5..].to_vec()),

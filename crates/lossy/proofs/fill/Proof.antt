@@ -33,11 +33,11 @@ module _ (s : List ℕ) (i : ℕ) (t : Stretch) (h : i ≤ length s) (a : Stretc
 -- ---- the loop
 
 abbrev Inv-loop : tie.InvT-loop
-Inv-loop out₀ to text at₀ i₀ mark out at i =
+Inv-loop out₀ to text table at₀ i₀ mark out at i =
     (i ≤ length text) × Filling out₀ to (lossyOf text) out at (lossyOf (drop i text))
 
 abbrev μ-loop : tie.MeasureT-loop
-μ-loop out₀ to text at₀ i₀ mark out at i = length text - i
+μ-loop out₀ to text table at₀ i₀ mark out at i = length text - i
 
 loop-holds : tie.Need-loop-holds Inv-loop μ-loop
 loop-holds c = (omega arith, filling-start refl)

@@ -2,7 +2,7 @@
 use borrow.Author.Tests.{not-true, not-false}
 use mathlib.Core.Path.{_≡_}
 use mathlib.Core.List.{[], _∷_}
-use Rattle.lossy.specs.WellFormed.{Range, matched}
+use Rattle.utf8.specs.WellFormed.{Range, matched}
 use Rattle.lossy.specs.Code.{trail}
 use Rattle.lossy.proofs.Table.{matched-end, matched-all, matched-next, matched-stop}
 use Prim.Native.Nat.{ℕ, suc, _+_, _-_}

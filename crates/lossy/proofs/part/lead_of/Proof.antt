@@ -1,5 +1,5 @@
 -- Each branch's bounds say which rows the byte is past.
-use Rattle.lossy.specs.WellFormed.{table}
+use Rattle.utf8.specs.WellFormed.{table}
 use Rattle.lossy.proofs.Table.{row-at, row-none}
 use native.Mathlib.Omega.{arith}
 use borrow.Author.Needs.{needs}

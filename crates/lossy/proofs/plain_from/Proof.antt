@@ -8,8 +8,8 @@ use native.Mathlib.Omega.{arith}
 use lib.ListN.{length, drop, drop-of-length-le}
 use borrow.Author.Tests.{not-true, not-false}
 use borrow.Author.Needs.{needs}
-use Rattle.lossy.proofs.stretch_from.Statement.{statement}
-use Rattle.lossy.proofs.stretch_from.Tie as tie
+use Rattle.lossy.proofs.plain_from.Statement.{statement}
+use Rattle.lossy.proofs.plain_from.Tie as tie
 
 abbrev Inv-loop : tie.InvT-loop
 Inv-loop text from i₀ i = (i ≤ length text) × (i + stretchOf (drop i text) ≡ from + stretchOf (drop from text))
@@ -49,7 +49,7 @@ returns-2 c =
     let z : stretchOf (drop (l .loop .i) s) ≡ 0 = rw (drop-of-length-le s h) stretch-none in
     record { is = omega arith; last = λ n. omega arith; behind = λ n. absurd (omega arith) }
 
-pub stretch-from-spec : {M : Type 1} → statement M
-stretch-from-spec =
+pub plain-from-spec : {M : Type 1} → statement M
+plain-from-spec =
     tie.close
     (tie.spec Inv-loop μ-loop (search needs) (search needs) returns add-i loop-less loop-again returns-2)

@@ -8,17 +8,17 @@ use mathlib.Core.Path.{_≡_, ap}
 use native.Mathlib.Omega.{arith}
 use lib.ListN.{length, drop}
 use borrow.Author.Needs.{needs}
-use Rattle.lossy.proofs.measure.Statement.{statement}
-use Rattle.lossy.proofs.measure.Tie as tie
+use Rattle.lossy.proofs.measure_by.Statement.{statement}
+use Rattle.lossy.proofs.measure_by.Tie as tie
 
 -- no more marks than bytes are behind the loop, so their count has room
 abbrev Inv-loop : tie.InvT-loop
-Inv-loop text room bytes₀ marks₀ i₀ bytes marks i =
+Inv-loop text room table bytes₀ marks₀ i₀ bytes marks i =
     (i ≤ length text) × (bytes + length (lossyOf (drop i text)) ≡ length (lossyOf text)) × (bytes ≤ room)
     × (marks + marksOf (drop i text) ≡ marksOf text) × (marks ≤ i)
 
 abbrev μ-loop : tie.MeasureT-loop
-μ-loop text room bytes₀ marks₀ i₀ bytes marks i = length text - i
+μ-loop text room table bytes₀ marks₀ i₀ bytes marks i = length text - i
 
 loop-holds : tie.Need-loop-holds Inv-loop μ-loop
 loop-holds c = (omega arith, omega arith, omega arith, omega arith, omega arith)
@@ -104,8 +104,8 @@ returns-4 c =
     let f = marks-end (a .text .now) (l .loop .i) (omega arith) in
     measured-within (a .room) (length (lossyOf (a .text .now))) (marksOf (a .text .now)) (l .loop .bytes) (l .loop .marks) (omega arith) (omega arith) (omega arith)
 
-pub measure-spec : {M : Type 1} → statement M
-measure-spec =
+pub measure-by-spec : {M : Type 1} → statement M
+measure-by-spec =
     tie.close
     (tie.spec Inv-loop μ-loop loop-holds (search needs) sub-n (search needs) returns (search needs) returns-2 (search needs) (search needs) returns-3
     (search needs) (search needs) (search needs) add-i loop-less loop-again returns-4)

@@ -12,19 +12,19 @@ use mathlib.Core.List.{List}
 use native.Mathlib.Omega.{arith}
 use lib.ListN.{length}
 use borrow.Author.Needs.{needs}
-use Rattle.lossy.proofs.write_lossy.Statement.{statement}
-use Rattle.lossy.proofs.write_lossy.Tie as tie
+use Rattle.lossy.proofs.write_by.Statement.{statement}
+use Rattle.lossy.proofs.write_by.Tie as tie
 
 returns : tie.Need-returns
 returns c = marked 25 0 0 _ (too-long _ _ _ (c .if1 .taken)) refl
 
 returns-2 : tie.Need-returns-2
-returns-2 c = marked 4 0 0 _ (no-room _ _ _ (omega arith) (measured-over _ _ _ (c .before .before .measure .ensures) (c .enum-told .given .1))) refl
+returns-2 c = marked 4 0 0 _ (no-room _ _ _ (omega arith) (measured-over _ _ _ (c .before .before .measure-by .ensures) (c .enum-told .given .1))) refl
 
 -- the text was measured
 fitting : (c : tie.After-bytes) → let a = c .before .before .before .before .before .before .args in let g = c .bytes .given .0 in
     (length (lossyOf (a .text .now)) ≡ g .0) × (g .0 ≤ length (a .out .now)) × (marksOf (a .text .now) ≡ g .1 .0)
-fitting c = measured-fits _ _ _ _ _ (c .before .before .measure .ensures) (c .bytes .given .1)
+fitting c = measured-fits _ _ _ _ _ (c .before .before .measure-by .ensures) (c .bytes .given .1)
 
 -- a text without marks was placed as it is
 unmarked : (s out : List ℕ) {q : List ℕ} {n r : ℕ} → length s ≤ inputLimit → length (lossyOf s) ≡ n → n ≤ length out → marksOf s ≡ 0 → (r, q) ≡ placed out 0 s
@@ -44,7 +44,7 @@ returns-4 c =
     let h = fitting (c .before .before .before .before .before .before) in
     marked 0 _ _ _ (wrote _ _ _ _ _ (omega arith) (h .0) (h .1) (c .before .before .fill .ensures)) (sym (h .2))
 
-pub write-lossy-spec : {M : Type 1} → statement M
-write-lossy-spec =
+pub write-by-spec : {M : Type 1} → statement M
+write-by-spec =
     tie.close
     (tie.spec returns (search needs) (search needs) (search needs) returns-2 (search needs) (search needs) returns-3 fill-requires (search needs) returns-4)
