@@ -25,7 +25,7 @@ extern "C" {
 #endif
 
 /* The number of this list and of the functions; it grows with every change of either. */
-#define RUFFLESQUASH_ABI 6
+#define RUFFLESQUASH_ABI 7
 
 /* Settings: intervals are nanoseconds, a flag is true unless 0. */
 #define RUFFLESQUASH_SETTINGS_WORDS 7
@@ -251,6 +251,56 @@ extern "C" {
 #define RUFFLESQUASH_KIND_MESSAGE_TOO_LARGE 5
 #define RUFFLESQUASH_KIND_PARSE_LSN 6
 
+/* A row's head. Words that a row does not have are 0. */
+#define RUFFLESQUASH_ROW_WORDS 11
+#define RUFFLESQUASH_ROW_KIND 0
+#define RUFFLESQUASH_ROW_ID 1
+#define RUFFLESQUASH_ROW_BYTE 2
+#define RUFFLESQUASH_ROW_COUNT 3
+#define RUFFLESQUASH_ROW_FROM 4
+#define RUFFLESQUASH_ROW_OLD_COUNT 5
+#define RUFFLESQUASH_ROW_OLD_FROM 6
+#define RUFFLESQUASH_ROW_NAMESPACE_FROM 7
+#define RUFFLESQUASH_ROW_NAMESPACE_LEN 8
+#define RUFFLESQUASH_ROW_NAME_FROM 9
+#define RUFFLESQUASH_ROW_NAME_LEN 10
+
+/* Kinds of rows. */
+#define RUFFLESQUASH_ROW_NONE 0
+#define RUFFLESQUASH_ROW_RELATION 1
+#define RUFFLESQUASH_ROW_TYPE 2
+#define RUFFLESQUASH_ROW_ORIGIN 3
+#define RUFFLESQUASH_ROW_INSERT 4
+#define RUFFLESQUASH_ROW_UPDATE 5
+#define RUFFLESQUASH_ROW_DELETE 6
+#define RUFFLESQUASH_ROW_TRUNCATE 7
+
+/* A column of a tuple, and its kinds. */
+#define RUFFLESQUASH_TUPLE_WORDS 4
+#define RUFFLESQUASH_TUPLE_REFUSAL 0
+#define RUFFLESQUASH_TUPLE_KIND 1
+#define RUFFLESQUASH_TUPLE_FROM 2
+#define RUFFLESQUASH_TUPLE_LEN 3
+#define RUFFLESQUASH_TUPLE_NONE 0
+#define RUFFLESQUASH_TUPLE_NULL 1
+#define RUFFLESQUASH_TUPLE_UNCHANGED 2
+#define RUFFLESQUASH_TUPLE_TEXT 3
+#define RUFFLESQUASH_TUPLE_BINARY 4
+
+/* A column of a relation. */
+#define RUFFLESQUASH_DESCRIPTION_WORDS 6
+#define RUFFLESQUASH_DESCRIPTION_REFUSAL 0
+#define RUFFLESQUASH_DESCRIPTION_FLAGS 1
+#define RUFFLESQUASH_DESCRIPTION_NAME_FROM 2
+#define RUFFLESQUASH_DESCRIPTION_NAME_LEN 3
+#define RUFFLESQUASH_DESCRIPTION_TYPE 4
+#define RUFFLESQUASH_DESCRIPTION_MODIFIER 5
+
+/* A relation of a Truncate. */
+#define RUFFLESQUASH_IDENTIFIER_WORDS 2
+#define RUFFLESQUASH_IDENTIFIER_REFUSAL 0
+#define RUFFLESQUASH_IDENTIFIER_ID 1
+
 /* A text in a list of texts. */
 struct rufflesquash_bytes {
     const uint8_t *at;
@@ -396,6 +446,36 @@ uint64_t rufflesquash_refusal_kind(uint64_t refusal);
 
 /* 1 where a new connection may help after this refusal, else 0. */
 uint64_t rufflesquash_refusal_is_transient(uint64_t refusal);
+
+/* ---- the rows in the data of an event (kind XLOG_DATA), or in any data of pgoutput, protocol version 1
+ *
+ * Refusals: 26 where a field is cut short or a count or length is negative, 27 where a letter stands that may not, the first of them in
+ * the order of the bytes. Refused, all other words are 0. Any data and any place are answered. */
+
+/* The row that the data hold, judged to its end; what follows it is not read. Answers the refusal (26, 27). Data that begin with B, C or M
+ * are no row: kind NONE, all words 0. COUNT and FROM tell how many columns, descriptions or relations there are and the place of the first
+ * one, to be read by the call that is named.
+ *   RELATION  ID its identifier, BYTE its replica identity, COUNT and FROM its columns (rufflesquash_row_description), NAMESPACE, NAME
+ *   TYPE      ID its identifier, NAMESPACE, NAME
+ *   ORIGIN    ID the position of the commit at the origin, NAME
+ *   INSERT    ID the relation, COUNT and FROM the new tuple (rufflesquash_row_column)
+ *   UPDATE    ID the relation, COUNT and FROM the new tuple; BYTE 'K' where the old tuple has the key alone, 'O' where it has all columns,
+ *             0 where none is sent; OLD_COUNT and OLD_FROM the old tuple
+ *   DELETE    ID the relation, BYTE 'K' or 'O', OLD_COUNT and OLD_FROM the old tuple
+ *   TRUNCATE  BYTE the option bits, COUNT and FROM the relations (rufflesquash_row_identifier) */
+uint64_t rufflesquash_row(const uint8_t *data, size_t data_len, uint64_t row[RUFFLESQUASH_ROW_WORDS]);
+
+/* The column of a tuple at a place. Answers the place of the next column, 0 where it is refused. Words: the refusal (26, 27); the column's
+ * kind; of TEXT and BINARY its value's place in data and length, else 0. From the place that a head names on, so many calls as the head
+ * counts are not refused, each at the place that the last one answered. */
+uint64_t rufflesquash_row_column(const uint8_t *data, size_t data_len, size_t at, uint64_t column[RUFFLESQUASH_TUPLE_WORDS]);
+
+/* The column of a relation at a place, likewise. Words: the refusal (26); its flags (1: it belongs to the key), its name's place in data and
+ * length, its type, its type modifier in two's complement. */
+uint64_t rufflesquash_row_description(const uint8_t *data, size_t data_len, size_t at, uint64_t description[RUFFLESQUASH_DESCRIPTION_WORDS]);
+
+/* The relation of a Truncate at a place, likewise. Words: the refusal (26); its identifier. */
+uint64_t rufflesquash_row_identifier(const uint8_t *data, size_t data_len, size_t at, uint64_t identifier[RUFFLESQUASH_IDENTIFIER_WORDS]);
 
 #ifdef __cplusplus
 }

@@ -8,7 +8,7 @@
 #![allow(dead_code)]
 
 // ---- the number of this list and of the functions; it grows with every change of either
-pub const ABI: u64 = 6;
+pub const ABI: u64 = 7;
 
 // ---- settings: intervals are nanoseconds, a flag is true unless 0
 pub const SETTINGS_WORDS: usize = 7;
@@ -234,6 +234,56 @@ pub const KIND_SERVER: u64 = 4;
 pub const KIND_MESSAGE_TOO_LARGE: u64 = 5;
 pub const KIND_PARSE_LSN: u64 = 6;
 
+// ---- a row's head; words that a row does not have are 0
+pub const ROW_WORDS: usize = 11;
+pub const ROW_KIND: usize = 0;
+pub const ROW_ID: usize = 1;
+pub const ROW_BYTE: usize = 2;
+pub const ROW_COUNT: usize = 3;
+pub const ROW_FROM: usize = 4;
+pub const ROW_OLD_COUNT: usize = 5;
+pub const ROW_OLD_FROM: usize = 6;
+pub const ROW_NAMESPACE_FROM: usize = 7;
+pub const ROW_NAMESPACE_LEN: usize = 8;
+pub const ROW_NAME_FROM: usize = 9;
+pub const ROW_NAME_LEN: usize = 10;
+
+// ---- kinds of rows
+pub const ROW_NONE: u64 = 0;
+pub const ROW_RELATION: u64 = 1;
+pub const ROW_TYPE: u64 = 2;
+pub const ROW_ORIGIN: u64 = 3;
+pub const ROW_INSERT: u64 = 4;
+pub const ROW_UPDATE: u64 = 5;
+pub const ROW_DELETE: u64 = 6;
+pub const ROW_TRUNCATE: u64 = 7;
+
+// ---- a column of a tuple
+pub const TUPLE_WORDS: usize = 4;
+pub const TUPLE_REFUSAL: usize = 0;
+pub const TUPLE_KIND: usize = 1;
+pub const TUPLE_FROM: usize = 2;
+pub const TUPLE_LEN: usize = 3;
+pub const TUPLE_NONE: u64 = 0;
+pub const TUPLE_NULL: u64 = 1;
+pub const TUPLE_UNCHANGED: u64 = 2;
+pub const TUPLE_TEXT: u64 = 3;
+pub const TUPLE_BINARY: u64 = 4;
+
+// ---- a column of a relation
+pub const DESCRIPTION_WORDS: usize = 6;
+pub const DESCRIPTION_REFUSAL: usize = 0;
+pub const DESCRIPTION_FLAGS: usize = 1;
+pub const DESCRIPTION_NAME_FROM: usize = 2;
+pub const DESCRIPTION_NAME_LEN: usize = 3;
+pub const DESCRIPTION_TYPE: usize = 4;
+pub const DESCRIPTION_MODIFIER: usize = 5;
+
+// ---- a relation of a Truncate
+pub const IDENTIFIER_WORDS: usize = 2;
+pub const IDENTIFIER_REFUSAL: usize = 0;
+pub const IDENTIFIER_ID: usize = 1;
+
 /// A text in a list of texts, as the archive has it.
 #[repr(C)]
 pub struct Bytes {
@@ -374,6 +424,14 @@ extern "C" {
     pub fn rufflesquash_refusal_kind(refusal: u64) -> u64;
 
     pub fn rufflesquash_refusal_is_transient(refusal: u64) -> u64;
+
+    pub fn rufflesquash_row(data: *const u8, data_len: usize, row: *mut [u64; ROW_WORDS]) -> u64;
+
+    pub fn rufflesquash_row_column(data: *const u8, data_len: usize, at: usize, column: *mut [u64; TUPLE_WORDS]) -> u64;
+
+    pub fn rufflesquash_row_description(data: *const u8, data_len: usize, at: usize, description: *mut [u64; DESCRIPTION_WORDS]) -> u64;
+
+    pub fn rufflesquash_row_identifier(data: *const u8, data_len: usize, at: usize, identifier: *mut [u64; IDENTIFIER_WORDS]) -> u64;
 }
 
 // ---- safe functions
@@ -698,4 +756,42 @@ pub fn refusal_kind(refusal: u64) -> u64 {
 pub fn refusal_is_transient(refusal: u64) -> bool {
     // SAFETY: takes a number.
     unsafe { rufflesquash_refusal_is_transient(refusal) != 0 }
+}
+
+// ---- rows
+
+/// The refusal's number and the words of a row's head.
+#[inline]
+pub fn row(data: &[u8]) -> (u64, [u64; ROW_WORDS]) {
+    let mut row = [0; ROW_WORDS];
+    // SAFETY: the slice is lent whole, and the array has the length that the function names.
+    let number = unsafe { rufflesquash_row(data.as_ptr(), data.len(), &mut row) };
+    (number, row)
+}
+
+/// The place of the next column, 0 where it is refused, and the words of the column at a place; any place is answered.
+#[inline]
+pub fn row_column(data: &[u8], at: usize) -> (u64, [u64; TUPLE_WORDS]) {
+    let mut column = [0; TUPLE_WORDS];
+    // SAFETY: the slice is lent whole, and the array has the length that the function names.
+    let next = unsafe { rufflesquash_row_column(data.as_ptr(), data.len(), at, &mut column) };
+    (next, column)
+}
+
+/// .. of the description at a place.
+#[inline]
+pub fn row_description(data: &[u8], at: usize) -> (u64, [u64; DESCRIPTION_WORDS]) {
+    let mut description = [0; DESCRIPTION_WORDS];
+    // SAFETY: the slice is lent whole, and the array has the length that the function names.
+    let next = unsafe { rufflesquash_row_description(data.as_ptr(), data.len(), at, &mut description) };
+    (next, description)
+}
+
+/// .. of the identifier at a place.
+#[inline]
+pub fn row_identifier(data: &[u8], at: usize) -> (u64, [u64; IDENTIFIER_WORDS]) {
+    let mut identifier = [0; IDENTIFIER_WORDS];
+    // SAFETY: the slice is lent whole, and the array has the length that the function names.
+    let next = unsafe { rufflesquash_row_identifier(data.as_ptr(), data.len(), at, &mut identifier) };
+    (next, identifier)
 }

@@ -62,11 +62,13 @@ refusals! {
     23 InvalidHighPart "the part of a position before the slash is not 1 to 8 hexadecimal digits",
     24 InvalidLowPart "the part of a position after the slash is not 1 to 8 hexadecimal digits",
     25 InputTooLong "the lent inputs have more than 1,048,576 bytes together",
+    26 FieldCut "a field of a row is cut short, or a count or length in it is negative",
+    27 UnknownLetter "a letter stands in a row where it may not",
     31 NoSuchFile "the file's number is above 3",
 }
 
 impl Refusal {
-    /// The refusal's number, 1 to 25 and 31; 255 for [`Refusal::Unknown`], which no call of the archive that belongs to this crate gives.
+    /// The refusal's number, 1 to 35; 255 for [`Refusal::Unknown`], which no call of the archive that belongs to this crate gives.
     pub fn number(self) -> u8 {
         self as u8
     }
@@ -89,11 +91,13 @@ impl Refusal {
     }
 
     /// What a number says: 0 that nothing was refused, and one that is no refusal's never that.
+    #[inline]
     pub(crate) fn of_word(number: u64) -> Option<Refusal> {
         (number != 0).then(|| Refusal::from_number(number).unwrap_or(Refusal::Unknown))
     }
 
     /// What a call answered.
+    #[inline]
     pub(crate) fn checked(number: u64) -> Result<(), Refusal> {
         match Refusal::of_word(number) {
             None => Ok(()),
@@ -129,10 +133,10 @@ mod tests {
     #[test]
     fn a_number_of_no_refusal_is_no_success() {
         assert_eq!(Refusal::checked(0), Ok(()));
-        for number in (1..=25).chain([31]) {
+        for number in 1..=35 {
             assert_eq!(Refusal::checked(number).map_err(|r| u64::from(r.number())), Err(number));
         }
-        for number in [26, 30, 32, 254, 255, 256, 257, u64::MAX] {
+        for number in [36, 254, 255, 256, 257, u64::MAX] {
             assert_eq!(Refusal::checked(number), Err(Refusal::Unknown), "{number}");
         }
     }

@@ -1,6 +1,7 @@
 //! What a run is given and what it answers.
 
 use crate::ffi;
+use crate::rows::Row;
 use crate::Refusal;
 use std::fmt;
 use std::str::FromStr;
@@ -219,7 +220,7 @@ pub enum Event<'a> {
         /// Its content.
         content: &'a [u8],
     },
-    /// Any other data of the plugin: rows, relations, types, origins.
+    /// Any other data of the plugin: rows, relations, types, origins; [`Event::row`] reads them.
     XLogData {
         /// The position at which the data begin.
         wal_start: Lsn,
@@ -253,9 +254,20 @@ impl<'a> Event<'a> {
             _ => return Err(Refusal::Unknown),
         }))
     }
+
+    /// The row in the data of an [`Event::XLogData`]; none of every other event. Refused (26, 27) where the data are no row of protocol version 1;
+    /// the run goes on.
+    #[inline]
+    pub fn row(&self) -> Result<Option<Row<'a>>, Refusal> {
+        match *self {
+            Event::XLogData { data, .. } => Row::parse(data),
+            _ => Ok(None),
+        }
+    }
 }
 
 // A part that an answer names. It lies in the buffer, as the archive promises; this crate does not rely on that.
+#[inline]
 pub(crate) fn part(payload: &[u8], from: u64, len: u64) -> &[u8] {
     let end = payload.len() as u64;
     let from = from.min(end);

@@ -280,13 +280,13 @@ fn malformed_rows_are_refused() {
 
 #[test]
 fn refusals_have_numbers_and_one_line_each() {
-    for number in 1..=25 {
+    for number in 1..=31 {
         let refusal = Refusal::from_number(number).unwrap();
         assert_eq!(u64::from(refusal.number()), number);
         let line = refusal.to_string();
         assert!(!line.is_empty() && !line.contains('\n'));
     }
-    assert_eq!((Refusal::from_number(0), Refusal::from_number(26)), (None, None));
+    assert_eq!((Refusal::from_number(0), Refusal::from_number(36)), (None, None));
     let error: &dyn std::error::Error = &Refusal::RunEnded;
     assert_eq!(error.to_string(), "the run has ended");
     assert_eq!(Moment(3), Moment(3));

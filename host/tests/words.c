@@ -1098,9 +1098,110 @@ static void null_pointers_elsewhere(void) {
 /* ---- rows of pgoutput */
 
 /* A Relation: 0x10203040, "sp", "rel", identity `f`, columns "k" (flags 1, type 0x17, modifier -1) and "val" (flags 0, type 0x0413, modifier 36). */
+static void row_relations(void) {
+    static const uint8_t data[] = "R\x10\x20\x30\x40sp\0rel\0f\0\2\1k\0\0\0\0\x17\xFF\xFF\xFF\xFF\0val\0\0\0\x04\x13\0\0\0\x24";
+    size_t len = sizeof data - 1;
+    uint64_t row[R(ROW_WORDS)], one[R(DESCRIPTION_WORDS)];
+    SAME(rufflesquash_row(data, len, row), 0);
+    WORDS(row, R(ROW_RELATION), 0x10203040, 'f', 2, 15, 0, 0, 5, 2, 8, 3);
+    SAME(row[R(ROW_KIND)], R(ROW_RELATION));
+    SAME(row[R(ROW_ID)], 0x10203040);
+    SAME(row[R(ROW_BYTE)], 'f');
+    SAME(row[R(ROW_COUNT)], 2);
+    SAME(row[R(ROW_FROM)], 15);
+    BYTES(data + row[R(ROW_NAMESPACE_FROM)], "sp", row[R(ROW_NAMESPACE_LEN)]);
+    BYTES(data + row[R(ROW_NAME_FROM)], "rel", row[R(ROW_NAME_LEN)]);
+    SAME(rufflesquash_row_description(data, len, row[R(ROW_FROM)], one), 26);
+    WORDS(one, 0, 1, 16, 1, 0x17, UINT64_MAX);
+    SAME(rufflesquash_row_description(data, len, 26, one), len);
+    SAME(one[R(DESCRIPTION_REFUSAL)], 0);
+    SAME(one[R(DESCRIPTION_FLAGS)], 0);
+    SAME(one[R(DESCRIPTION_NAME_FROM)], 27);
+    SAME(one[R(DESCRIPTION_NAME_LEN)], 3);
+    SAME(one[R(DESCRIPTION_TYPE)], 0x413);
+    SAME(one[R(DESCRIPTION_MODIFIER)], 36);
+    SAME(rufflesquash_row_description(data, len, len, one), 0);
+    WORDS(one, 26);
+    SAME(rufflesquash_row(data, len - 1, row), 26);
+    WORDS(row, 0);
+}
+
 /* A Type, an Origin, a Truncate. */
+static void row_names(void) {
+    static const uint8_t type[] = "Y\0\0\x40\1ns\0name", origin[] = "O\1\2\3\4\5\6\7\x08orig", truncate[] = "T\0\0\0\2\3\0\0\0\5\xFF\0\0\1";
+    size_t len = sizeof truncate - 1;
+    uint64_t row[R(ROW_WORDS)], one[R(IDENTIFIER_WORDS)];
+    SAME(rufflesquash_row(type, sizeof type, row), 0);
+    WORDS(row, R(ROW_TYPE), 0x4001, 0, 0, 0, 0, 0, 5, 2, 8, 4);
+    SAME(rufflesquash_row(origin, sizeof origin, row), 0);
+    WORDS(row, R(ROW_ORIGIN), 0x0102030405060708, 0, 0, 0, 0, 0, 0, 0, 9, 4);
+    SAME(rufflesquash_row(truncate, len, row), 0);
+    WORDS(row, R(ROW_TRUNCATE), 0, 3, 2, 6);
+    SAME(rufflesquash_row_identifier(truncate, len, row[R(ROW_FROM)], one), 10);
+    SAME(one[R(IDENTIFIER_REFUSAL)], 0);
+    SAME(one[R(IDENTIFIER_ID)], 5);
+    SAME(rufflesquash_row_identifier(truncate, len, 10, one), 14);
+    WORDS(one, 0, 0xFF000001);
+    SAME(rufflesquash_row_identifier(truncate, len, 14, one), 0);
+    WORDS(one, 26);
+}
+
 /* An Insert, Updates with and without an old tuple, a Delete, and every kind of column. */
+static void row_tuples(void) {
+    static const uint8_t insert[] = "I\0\0\0\7N\0\4nut\0\0\0\2abb\0\0\0\1\xFF", update[] = "U\0\0\0\7K\0\1nN\0\2uu", plain[] = "U\0\0\0\7N\0\0",
+                         full[] = "D\0\0\0\7O\0\3nnn";
+    size_t len = sizeof insert - 1;
+    uint64_t row[R(ROW_WORDS)], one[R(TUPLE_WORDS)];
+    SAME(rufflesquash_row(insert, len, row), 0);
+    WORDS(row, R(ROW_INSERT), 7, 0, 4, 8);
+    SAME(rufflesquash_row_column(insert, len, row[R(ROW_FROM)], one), 9);
+    WORDS(one, 0, R(TUPLE_NULL));
+    SAME(rufflesquash_row_column(insert, len, 9, one), 10);
+    WORDS(one, 0, R(TUPLE_UNCHANGED));
+    SAME(rufflesquash_row_column(insert, len, 10, one), 17);
+    SAME(one[R(TUPLE_REFUSAL)], 0);
+    SAME(one[R(TUPLE_KIND)], R(TUPLE_TEXT));
+    SAME(one[R(TUPLE_FROM)], 15);
+    SAME(one[R(TUPLE_LEN)], 2);
+    BYTES(insert + one[R(TUPLE_FROM)], "ab", one[R(TUPLE_LEN)]);
+    SAME(rufflesquash_row_column(insert, len, 17, one), len);
+    WORDS(one, 0, R(TUPLE_BINARY), 22, 1);
+    SAME(rufflesquash_row_column(insert, len, len, one), 0);
+    WORDS(one, 26, R(TUPLE_NONE));
+    SAME(rufflesquash_row_column(insert, len, 0, one), 0);
+    WORDS(one, 27, R(TUPLE_NONE));
+    SAME(rufflesquash_row_column(insert, len, SIZE_MAX, one), 0);
+    WORDS(one, 26);
+    SAME(rufflesquash_row(update, sizeof update - 1, row), 0);
+    WORDS(row, R(ROW_UPDATE), 7, 'K', 2, 12, 1, 8);
+    SAME(rufflesquash_row(plain, sizeof plain - 1, row), 0);
+    WORDS(row, R(ROW_UPDATE), 7, 0, 0, 8);
+    SAME(rufflesquash_row(full, sizeof full - 1, row), 0);
+    WORDS(row, R(ROW_DELETE), 7, 'O', 0, 0, 3, 8);
+    SAME(row[R(ROW_OLD_COUNT)], 3);
+    SAME(row[R(ROW_OLD_FROM)], 8);
+}
+
 /* No row, refusals, and data that are none. */
+static void refused_rows(void) {
+    uint64_t row[R(ROW_WORDS)] = {1}, column[R(TUPLE_WORDS)] = {1}, description[R(DESCRIPTION_WORDS)] = {1}, identifier[R(IDENTIFIER_WORDS)] = {1};
+    SAME(rufflesquash_row((const uint8_t *)"B", 1, row), 0);
+    WORDS(row, R(ROW_NONE));
+    SAME(rufflesquash_row((const uint8_t *)"C", 1, row), 0);
+    SAME(rufflesquash_row((const uint8_t *)"M", 1, row), 0);
+    SAME(rufflesquash_row((const uint8_t *)"S", 1, row), 27);
+    WORDS(row, 0);
+    SAME(rufflesquash_row((const uint8_t *)"I\0\0\0\1", 5, row), 26);
+    SAME(rufflesquash_row((const uint8_t *)"I\0\0\0\1K", 6, row), 27);
+    SAME(rufflesquash_row(NULL, 0, row), 26);
+    SAME(rufflesquash_row_column(NULL, 0, 0, column), 0);
+    WORDS(column, 26);
+    SAME(rufflesquash_row_description(NULL, 0, 7, description), 0);
+    WORDS(description, 26);
+    SAME(rufflesquash_row_identifier(NULL, 0, SIZE_MAX, identifier), 0);
+    WORDS(identifier, 26);
+}
+
 /* ---- which files a transaction touched */
 
 /* Relation 0x10203040 with columns "k", of the key, of type 23, and "value", of type 0x80000001. */
@@ -1139,6 +1240,10 @@ int main(void) {
     kinds();
     null_pointers();
     null_pointers_elsewhere();
+    row_relations();
+    row_names();
+    row_tuples();
+    refused_rows();
     printf("%u words and texts checked from C, %u wrong\n", checks, wrong);
     return wrong != 0;
 }

@@ -1,15 +1,25 @@
 // Kinds of refusals by their numbers, and after which of them a new connection may help. SCOPE 7.4.
 ghost use mathlib.Core.Path.{_≡_};
-ghost use Rattle.answers.specs.Kinds.{kindBy, transientAt};
+ghost use Rattle.answers.specs.Kinds.{isBetween, kindBy, transientAt};
 use words::layout;
 
-// The refusal of a report, of crate `progress`.
-const NO_SUCH_FILE: u64 = 31;
+// Whether a number is one of a range, its first and last included.
+fn is_between(first: u64, last: u64, refusal: u64) -> bool
+    ensures { λ r. ⌜ r ≡ isBetween first last refusal ⌝ }
+{
+    if refusal < first {
+        return false;
+    }
+    refusal <= last
+}
 
 pub fn kind_word(refusal: u64) -> u64
     ensures { λ r. ⌜ r ≡ kindBy refusal ⌝ }
 {
-    if refusal == NO_SUCH_FILE {
+    if is_between(26, 30, refusal) {
+        return layout::KIND_PROTOCOL;
+    }
+    if is_between(31, 35, refusal) {
         return layout::KIND_USAGE;
     }
     if 255 < refusal {

@@ -57,13 +57,13 @@ fn read_whole(s: &mut [u8]) -> bool {
 
 // The length of the line of a record whose input was read, or 0 where its kind is unknown. A line begins with its kind.
 fn line_of(kind: u8, input: &[u8], line: &mut [u8]) -> usize {
-    if kind != b'i' {
-        return 0;
-    }
     let head = [kind];
     wire::store::place(line, 0, &head);
-    let n = row::after_fields(line, input);
-    lines::end(line, n)
+    if kind == b'i' {
+        let n = row::after_fields(line, input);
+        return lines::end(line, n);
+    }
+    0
 }
 
 // The same where the input is still to be read.

@@ -4,6 +4,7 @@
 mod abi;
 mod cells;
 mod client;
+mod row;
 mod server;
 
 ghost use mathlib.Core.Path.{_≡_};

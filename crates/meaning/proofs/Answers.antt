@@ -7,7 +7,17 @@ use Prim.Native.Nat.{ℕ, _+_, _-_, _≤_, min}
 use native.Mathlib.Omega.{arith}
 use lib.ListN.{length}
 use Rattle.wire.specs.Field.{unsigned}
-use Rattle.meaning.specs.Answers.{Next-words, Error-words, Read-words, Fold-words, Query-words, Column-words, Auth-words, Field-words, Kind-words, Transient-words}
+use Rattle.meaning.specs.Answers.{Next-words, Error-words, Read-words, Fold-words, Query-words, Column-words, Auth-words, Field-words, Kind-words, Kinds-agree, Transient-words}
+use Rattle.answers.specs.Kinds.{kindBy}
+use Rattle.progress.specs.declared.files.FileRefusal.{FileRefusal}
+use Rattle.progress.specs.declared.files.FileRefusal.the-variants.{NoSuchFile}
+use Rattle.progress.specs.Files.{fileNumber, fileKind}
+use Rattle.rows.specs.declared.Refusal as Of-rows
+use Rattle.rows.specs.declared.Refusal.the-variants.{FieldCut, UnknownLetter}
+use Rattle.rows.specs.Head as Rows
+use Rattle.hours.specs.declared.Refusal as Of-hours
+use Rattle.hours.specs.declared.Refusal.the-variants.{InvalidWindow, OffsetOutOfRange, MomentOutOfRange}
+use Rattle.hours.specs.Answer as Hours
 
 pub next-words : Next-words
 next-words = (refl, (λ m. refl), refl, refl)
@@ -41,7 +51,22 @@ pub field-words : Field-words
 field-words a b c = refl
 
 pub kind-words : Kind-words
-kind-words = (refl, refl, refl, refl, refl, refl, refl, refl, refl, refl, refl, refl, refl, refl, refl, refl, refl, refl, refl, refl, refl, refl, refl, refl)
+kind-words = (refl, refl, refl, refl, refl, refl, refl, refl, refl, refl, refl, refl, refl, refl, refl, refl, refl, refl, refl, refl, refl, refl, refl, refl, refl, refl, refl, refl, refl, refl, refl, refl)
+
+of-rows : (r : Of-rows.Refusal) → kindBy (Rows.numberOf r) ≡ Rows.kindOf r
+of-rows FieldCut = refl
+of-rows UnknownLetter = refl
+
+of-files : (r : FileRefusal) → kindBy (fileNumber r) ≡ fileKind r
+of-files NoSuchFile = refl
+
+of-hours : (r : Of-hours.Refusal) → kindBy (Hours.numberOf r) ≡ Hours.kindOf r
+of-hours InvalidWindow = refl
+of-hours OffsetOutOfRange = refl
+of-hours MomentOutOfRange = refl
+
+
+pub kinds-agree : Kinds-agree
 
 pub transient-words : Transient-words
 transient-words = (refl, refl, refl, refl, refl, refl, refl)

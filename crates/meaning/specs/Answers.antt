@@ -14,6 +14,12 @@ use Rattle.messages.specs.Auth.{authOf}
 use Rattle.messages.specs.Fields.{fieldsOf, indexed}
 use Rattle.query.specs.Fold as Q
 use Rattle.query.specs.Row.{columnsOf, columnOf}
+use Rattle.progress.specs.declared.files.FileRefusal.{FileRefusal}
+use Rattle.progress.specs.Files.{fileNumber, fileKind}
+use Rattle.rows.specs.declared.Refusal as Of-rows
+use Rattle.rows.specs.Head as Rows
+use Rattle.hours.specs.declared.Refusal as Of-hours
+use Rattle.hours.specs.Answer as Hours
 use Rattle.schedule.specs.NextStep.{atOnce, from, onInput, never}
 use Rattle.words.specs.Words.{flagOf, flagWord}
 use Rattle.answers.specs.Fold.{simpleQueryOf, queryWords, foldWords}
@@ -77,8 +83,15 @@ Kind-words =
     × (kindBy 6 ≡ 3) × (kindBy 7 ≡ 5) × (kindBy 8 ≡ 2) × (kindBy 9 ≡ 2)
     × (kindBy 10 ≡ 3) × (kindBy 13 ≡ 3) × (kindBy 14 ≡ 3) × (kindBy 18 ≡ 3)
     × (kindBy 19 ≡ 4) × (kindBy 20 ≡ 3) × (kindBy 21 ≡ 3)
-    × (kindBy 22 ≡ 6) × (kindBy 23 ≡ 6) × (kindBy 24 ≡ 6) × (kindBy 25 ≡ 1) × (kindBy 26 ≡ 0)
-    × (kindBy 31 ≡ 1) × (kindBy 32 ≡ 0)
+    × (kindBy 22 ≡ 6) × (kindBy 23 ≡ 6) × (kindBy 24 ≡ 6) × (kindBy 25 ≡ 1)
+    × (kindBy 26 ≡ 3) × (kindBy 27 ≡ 3) × (kindBy 28 ≡ 3) × (kindBy 29 ≡ 3) × (kindBy 30 ≡ 3)
+    × (kindBy 31 ≡ 1) × (kindBy 32 ≡ 1) × (kindBy 33 ≡ 1) × (kindBy 34 ≡ 1) × (kindBy 35 ≡ 1) × (kindBy 36 ≡ 0)
+
+-- .. and of the refusals that crates beside `error` have, each has the kind that its own crate gives it
+pub record Kinds-agree : Type 0 where
+  pub of-rows : (r : Of-rows.Refusal) → kindBy (Rows.numberOf r) ≡ Rows.kindOf r
+  pub of-files : (r : FileRefusal) → kindBy (fileNumber r) ≡ fileKind r
+  pub of-hours : (r : Of-hours.Refusal) → kindBy (Hours.numberOf r) ≡ Hours.kindOf r
 
 -- a new connection may help where the input ended in a message
 abbrev pub Transient-words : Type 0

@@ -16,8 +16,11 @@ use Rattle.wire.specs.Int.{intAt}
 use Rattle.wire.specs.Find.{indexOf}
 use Rattle.wire.proofs.Laws.{by-test, impossible}
 use Rattle.wire.proofs.FieldLaws.{beBytes-one}
-use Rattle.rows.specs.Layout.{Layout, Letters, number, integer, name, value, many, both, nothing, letter, no-other, or, Value, Choice, Read, got, after, mapped, numberBy, nameBy, countAt, bytesAt, timesAt, readAt, chooseAt, allBytes, bytesOf, letterOf, underOf, All, Fits, ChoiceFits, Unlike, Proper, ProperLetters, Stands, Written-is-read, Read-is-written}
-use Rattle.rows.proofs.Places.{by-after, by-told, number-some, split, join, none-stands, number-read, number-there, integer-read, integer-there, count-read, count-there, bytes-read, bytes-there, name-read, name-back, times-read, times-there}
+use Rattle.rows.specs.Layout.{Layout, Letters, number, integer, name, value, many, both, nothing, letter, no-other, or, Value, Choice, Read}
+use Rattle.rows.specs.Layout.{got, after, mapped, numberBy, nameBy, countAt, bytesAt, timesAt, readAt, chooseAt, allBytes, bytesOf, letterOf}
+use Rattle.rows.specs.Layout.{underOf, All, Fits, ChoiceFits, Unlike, Proper, ProperLetters, Stands, Written-is-read, Read-is-written}
+use Rattle.rows.proofs.Places.{by-after, by-told, number-some, split, join, none-stands, number-read, number-there, integer-read}
+use Rattle.rows.proofs.Places.{integer-there, count-read, count-there, bytes-read, bytes-there, name-read, name-back, times-read, times-there}
 
 -- a letter that is listed nowhere else is not taken for another
 pub other-letter : (ls : Letters) (c : ℕ) (w : Choice ls) → Unlike c ls → letterOf ls w ≡ c → ⊥
@@ -41,7 +44,8 @@ mutual
   written-is-read name p s i v j f h = name-read s i v j f h
   written-is-read value p s i v j f h =
       let w = split s i (beBytes 4 (length v)) v j h in
-      rw (count-read s 4 i (length v) (i + length (beBytes 4 (length v))) (omega arith) f (w .0)) (bytes-read s (i + length (beBytes 4 (length v))) v j (w .1))
+      rw (count-read s 4 i (length v) (i + length (beBytes 4 (length v))) (omega arith) f (w .0))
+      (bytes-read s (i + length (beBytes 4 (length v))) v j (w .1))
   written-is-read (many n a b) p s i v j f h =
       let w = split s i (beBytes n (length (v .1))) (bytesOf a (v .0) ++ allBytes (λ x. bytesOf b x) (v .1)) j h in
       let k : ℕ = i + length (beBytes n (length (v .1))) in
@@ -49,7 +53,12 @@ mutual
       let m : ℕ = k + length (bytesOf a (v .0)) in
       let c = count-read s n i (length (v .1)) k (p .0) (f .0) (w .0) in
       let d = written-is-read a (p .1) s k (v .0) m (f .1) (u .0) in
-      rw (c, d, times-read s (λ q. readAt b s q) (λ x. bytesOf b x) (λ x. Fits b x) (λ x q r. written-is-read b (p .2) s q x r) (v .1) m j (f .2) (u .1))
+      rw (
+        c,
+        d,
+        times-read s (λ q. readAt b s q) (λ x. bytesOf b x) (λ x. Fits b x) (λ x q r. written-is-read b (p .2) s q x r) (v .1) m j (f .2)
+            (u .1),
+      )
   written-is-read (both a b) p s i v j f h =
       let w = split s i (bytesOf a (v .0)) (bytesOf b (v .1)) j h in
       let k : ℕ = i + length (bytesOf a (v .0)) in
@@ -61,7 +70,8 @@ mutual
       let n = number-read s 1 i (letterOf ls w) (i + 1) (omega arith) b (rw (beBytes-one (letterOf ls w) b) (u .0)) in
       rw (n .0) (choice-is-read ls p s (i + 1) w j f (u .1))
 
-  choice-is-read : (ls : Letters) → ProperLetters ls → (s : List ℕ) (i : ℕ) (w : Choice ls) (j : ℕ) → ChoiceFits ls w → Stands s i (underOf ls w) j → chooseAt ls (letterOf ls w) s i ≡ got w j
+  choice-is-read : (ls : Letters) → ProperLetters ls → (s : List ℕ) (i : ℕ) (w : Choice ls) (j : ℕ) → ChoiceFits ls w → Stands s i (underOf ls w) j
+      → chooseAt ls (letterOf ls w) s i ≡ got w j
   choice-is-read no-other p s i w j f h = absurd w
   choice-is-read (or c a ls) p s i (inl v) j f h = simp (eq-eqb c c refl) (rw (written-is-read a (p .1) s i v j f h))
   choice-is-read (or c a ls) p s i (inr w) j f h =
@@ -92,7 +102,11 @@ mutual
       let d = read-is-written a (p .1) s bs m u q x₁ in
       let t = times-there s (λ r. readAt b s r) (λ w. bytesOf b w) (λ w. Fits b w) (λ r w t. read-is-written b (p .2) s bs r w t) k q vs j x₂ in
       let l : k ≡ length vs = sym (t .0) in
-      rw ev ((rw l at (c .0), d .0, t .1), join s i (beBytes n (length vs)) m (bytesOf a u ++ allBytes (λ w. bytesOf b w) vs) j (rw l at (c .1)) (join s m (bytesOf a u) q (allBytes (λ w. bytesOf b w) vs) j (d .1) (t .2))))))
+      rw ev (
+        (rw l at (c .0), d .0, t .1),
+        join s i (beBytes n (length vs)) m (bytesOf a u ++ allBytes (λ w. bytesOf b w) vs) j (rw l at (c .1))
+            (join s m (bytesOf a u) q (allBytes (λ w. bytesOf b w) vs) j (d .1) (t .2)),
+      ))))
   read-is-written (both a b) p s bs i v j e =
       by-after (readAt a s i) (λ u k. mapped (λ w. (u, w)) (readAt b s k)) v j e (λ u k x y.
       by-told (λ w. (u, w)) (readAt b s k) v j y (λ w x₁ ev.
@@ -110,7 +124,8 @@ mutual
       let o : beBytes 1 c ≡ letterOf ls w ∷ [] = beBytes-one c (t .0) ∙ ap (λ (x : ℕ). x ∷ []) (d .0) in
       (d .1, join s i (letterOf ls w ∷ []) k (underOf ls w) j (rw (o, ← n .1) at (t .1)) (d .2)))
 
-  choice-is-written : (ls : Letters) → ProperLetters ls → (s : List ℕ) → areBytes s ≡ true → (i c : ℕ) (w : Choice ls) (j : ℕ) → chooseAt ls c s i ≡ got w j
+  choice-is-written : (ls : Letters) → ProperLetters ls → (s : List ℕ) → areBytes s ≡ true → (i c : ℕ) (w : Choice ls) (j : ℕ)
+      → chooseAt ls c s i ≡ got w j
       → (c ≡ letterOf ls w) × ChoiceFits ls w × Stands s i (underOf ls w) j
   choice-is-written no-other p s bs i c w j e = impossible cc
   choice-is-written (or d a ls) p s bs i c w j e =

@@ -18,8 +18,11 @@ use Rattle.wire.specs.Find.{indexOf, NoZero}
 use Rattle.wire.proofs.Laws.{length-beBytes}
 use Rattle.wire.proofs.FieldLaws.{field-cut, beBytes-one}
 use Rattle.wire.proofs.FindLaws.{no-zero}
-use Rattle.rows.specs.Layout.{Layout, Letters, number, integer, name, value, many, both, nothing, letter, no-other, or, Value, Choice, Read, got, cut, mapped, countAt, bytesAt, timesAt, readAt, chooseAt, allBytes, bytesOf, letterOf, underOf, All, Fits, ChoiceFits, Proper, ProperLetters, Stands, Cut-is-refused}
-use Rattle.rows.specs.Rows.{Row, relation, type, origin, insert, update, update-from, delete, truncate, rowBytes, rowLayout, rowOf, refused-by, boundaryLetter, isBoundary, saidOf, rowSaid}
+use Rattle.rows.specs.Layout.{Layout, Letters, number, integer, name, value, many, both, nothing, letter, no-other, or, Value, Choice, Read}
+use Rattle.rows.specs.Layout.{got, cut, mapped, countAt, bytesAt, timesAt, readAt, chooseAt, allBytes, bytesOf, letterOf, underOf, All, Fits}
+use Rattle.rows.specs.Layout.{ChoiceFits, Proper, ProperLetters, Stands, Cut-is-refused}
+use Rattle.rows.specs.Rows.{Row, relation, type, origin, insert, update, update-from, delete, truncate, rowBytes, rowLayout, rowOf, refused-by}
+use Rattle.rows.specs.Rows.{boundaryLetter, isBoundary, saidOf, rowSaid}
 use Rattle.rows.specs.RowLayout.{RowFits, Cut-row-is-refused}
 use Rattle.rows.proofs.BothWays.{other-letter, letter-below, written-is-read}
 use Rattle.rows.proofs.Places.{number-read, count-read}
@@ -46,7 +49,8 @@ front (d ∷ x) y (c ∷ a) b e =
     (λ (w : Past x y a b). inr (w .0, (cc), w .2))
     (front x y a b t)
 
-by-front : {X : Type 0} (x y a b : List ℕ) → x ++ y ≡ a ++ b → ((z : List ℕ) → x ++ z ≡ a → 0 < length z → X) → ((z : List ℕ) → x ≡ a ++ z → z ++ y ≡ b → X) → X
+by-front : {X : Type 0} (x y a b : List ℕ) → x ++ y ≡ a ++ b → ((z : List ℕ) → x ++ z ≡ a → 0 < length z → X)
+    → ((z : List ℕ) → x ≡ a ++ z → z ++ y ≡ b → X) → X
 by-front x y a b e f g = ⊎-elim (λ (w : Within x a). f (w .0) (w .1) (w .2)) (λ (w : Past x y a b). g (w .0) (w .1) (w .2)) (front x y a b e)
 
 empty : {X : Type 0} (x y : List ℕ) → x ++ y ≡ [] → 0 < length y → X
@@ -107,7 +111,8 @@ mutual
       (λ z q l. rw (count-cut s i 4 (number-ends s 4 i (length v) x z (omega arith) d q l)))
       (λ z q l.
       let w = stood s i x (beBytes 4 (length v)) z d q in
-      rw (count-read s 4 i (length v) (i + length (beBytes 4 (length v))) (omega arith) f (w .0)) (bytes-end s (i + length (beBytes 4 (length v))) v z y (w .1) l h))
+      rw (count-read s 4 i (length v) (i + length (beBytes 4 (length v))) (omega arith) f (w .0))
+      (bytes-end s (i + length (beBytes 4 (length v))) v z y (w .1) l h))
   cut-is-refused (many n a b) p s i v x y f d e h =
       let k : ℕ = length (v .1) in
       by-front x y (beBytes n k) (bytesOf a (v .0) ++ allBytes (λ w. bytesOf b w) (v .1)) e
@@ -123,7 +128,8 @@ mutual
       rw (
         count-read s n i k j (p .0) (f .0) (w .0),
         written-is-read a (p .1) s j (v .0) m (f .1) (w₁ .0),
-        times-end s (λ q. readAt b s q) (λ w. bytesOf b w) (λ w. Fits b w) (λ u q r. written-is-read b (p .2) s q u r) (λ u q. cut-is-refused b (p .2) s q u)
+        times-end s (λ q. readAt b s q) (λ w. bytesOf b w) (λ w. Fits b w) (λ u q r. written-is-read b (p .2) s q u r)
+            (λ u q. cut-is-refused b (p .2) s q u)
             (v .1) m z₁ y (f .2) (w₁ .1) l₁ h,
       )))
   cut-is-refused (both a b) p s i v x y f d e h =
@@ -144,7 +150,8 @@ mutual
       let n = number-read s 1 i (letterOf ls w) (i + 1) (omega arith) b (rw o (u .0)) in
       rw (n .0) (choice-cut ls p s (i + 1) w z y f (u .1) l h))
 
-  choice-cut : (ls : Letters) → ProperLetters ls → (s : List ℕ) (i : ℕ) (w : Choice ls) (x y : List ℕ) → ChoiceFits ls w → drop i s ≡ x → x ++ y ≡ underOf ls w → 0 < length y
+  choice-cut : (ls : Letters) → ProperLetters ls → (s : List ℕ) (i : ℕ) (w : Choice ls) (x y : List ℕ) → ChoiceFits ls w → drop i s ≡ x
+      → x ++ y ≡ underOf ls w → 0 < length y
       → chooseAt ls (letterOf ls w) s i ≡ cut
   choice-cut no-other p s i w x y f d e h = absurd w
   choice-cut (or c a ls) p s i (inl v) x y f d e h = simp (eq-eqb c c refl) (rw (cut-is-refused a (p .1) s i v x y f d e h))

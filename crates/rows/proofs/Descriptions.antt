@@ -23,10 +23,14 @@ module _ (s : List ℕ) (i : ℕ) where
     rest = both name typedLayout
 
     pub name-cut : cut ≡ mapped {B = Span} (λ v. (i + 1, length v)) (readAt name s (i + 1)) → Reads cut
-    name-cut h = rw (both-got s i (number 1) rest flags (i + 1) (number-got s i 1 flags e), both-refused s (i + 1) name typedLayout 26 (refused-back _ _ 26 h))
+    name-cut h = rw (
+      both-got s i (number 1) rest flags (i + 1) (number-got s i 1 flags e),
+      both-refused s (i + 1) name typedLayout 26 (refused-back _ _ 26 h),
+    )
 
     as-told : (r : Read (Value typedLayout)) (v : List ℕ) (part : Span) (x : Read ToldDescription) → part ≡ (i + 1, length v)
-        → x ≡ mapped (λ w. told-description flags part (w .0) (w .1)) r → mapped (describedAt i) (mapped describedOf (mapped (λ w. (flags, w)) (mapped (λ w. (v, w)) r))) ≡ x
+        → x ≡ mapped (λ w. told-description flags part (w .0) (w .1)) r
+        → mapped (describedAt i) (mapped describedOf (mapped (λ w. (flags, w)) (mapped (λ w. (v, w)) r))) ≡ x
     as-told (got w j) v part x p h = rw (h, p)
     as-told (refused n) v part x p h = rw h
 

@@ -13,7 +13,9 @@ use Rattle.wire.specs.Field.{fieldAt}
 use Rattle.wire.specs.Int.{intAt, isNegative, intBytes, value as intValue}
 use Rattle.wire.specs.Find.{indexOf}
 use Rattle.wire.proofs.Laws.{by-test, impossible, length-beBytes}
-use Rattle.rows.specs.Layout.{Layout, Letters, number, integer, name, value, many, both, nothing, letter, no-other, or, Value, Choice, Read, got, mapped, after, numberBy, nameBy, countAt, bytesAt, timesAt, readAt, chooseAt, allBytes, bytesOf, letterOf, underOf}
+use Rattle.rows.specs.Layout.{Layout, Letters, number, integer, name, value, many, both, nothing, letter, no-other, or, Value, Choice, Read}
+use Rattle.rows.specs.Layout.{got, mapped, after, numberBy, nameBy, countAt, bytesAt, timesAt, readAt, chooseAt, allBytes, bytesOf, letterOf}
+use Rattle.rows.specs.Layout.{underOf}
 use Rattle.rows.specs.Rows.{Cell, cellBytes, columnLayout, tupleLayout, cellOf, cellsOf}
 use Rattle.rows.proofs.Places.{after-got, by-after, by-told, number-some, pick-got, bytes-there, name-there}
 
@@ -26,7 +28,8 @@ count-ends s n i k j e =
     let h : w .1 ≡ j = cc in
     sym h ∙ p .1
 
-name-ends : (s : List ℕ) (i : ℕ) (o : Option ℕ) (v : List ℕ) (j : ℕ) → indexOf 0 (drop i s) ≡ o → nameBy s i o ≡ got v j → j ≡ i + length (v ++ (0 ∷ []))
+name-ends : (s : List ℕ) (i : ℕ) (o : Option ℕ) (v : List ℕ) (j : ℕ) → indexOf 0 (drop i s) ≡ o → nameBy s i o ≡ got v j
+    → j ≡ i + length (v ++ (0 ∷ []))
 name-ends s i none v j d e = impossible cc
 name-ends s i (some n) v j d e =
     let ev : v ≡ at s i n = cc in
@@ -61,7 +64,15 @@ mutual
       by-after (readAt a s m) _ v j y (λ u q x₁ y₁.
       by-told (λ vs. (u, vs)) (timesAt (λ r. readAt b s r) k q) v j y₁ (λ vs x₂ ev.
       let t = times-end (λ r. readAt b s r) (λ w. bytesOf b w) (λ r w p. read-ends b s r w p) k q vs j x₂ in
-      rw ev (omega (arith, count-ends s n i k m x, read-ends a s m u q x₁, t .1, length-beBytes n (length vs), length-append (beBytes n (length vs)) (bytesOf a u ++ allBytes (λ w. bytesOf b w) vs), length-append (bytesOf a u) (allBytes (λ w. bytesOf b w) vs))))))
+      rw ev (omega (
+        arith,
+        count-ends s n i k m x,
+        read-ends a s m u q x₁,
+        t .1,
+        length-beBytes n (length vs),
+        length-append (beBytes n (length vs)) (bytesOf a u ++ allBytes (λ w. bytesOf b w) vs),
+        length-append (bytesOf a u) (allBytes (λ w. bytesOf b w) vs),
+      )))))
   read-ends (both a b) s i v j e =
       by-after (readAt a s i) (λ u k. mapped (λ w. (u, w)) (readAt b s k)) v j e (λ u k x y.
       by-told (λ w. (u, w)) (readAt b s k) v j y (λ w x₁ ev.
@@ -90,15 +101,23 @@ cell-bytes (inr (inr (inl v))) = refl
 cell-bytes (inr (inr (inr (inl v)))) = refl
 cell-bytes (inr (inr (inr (inr e)))) = absurd e
 
-pub all-map : {A B : Type 0} (f : A → List ℕ) (g : B → List ℕ) (h : A → B) → ((v : A) → f v ≡ g (h v)) → (vs : List A) → allBytes f vs ≡ allBytes g (map h vs)
+pub all-map : {A B : Type 0} (f : A → List ℕ) (g : B → List ℕ) (h : A → B) → ((v : A) → f v ≡ g (h v)) → (vs : List A)
+    → allBytes f vs ≡ allBytes g (map h vs)
 unfolding allBytes
 all-map f g h e [] = refl
 all-map f g h e (v ∷ vs) = rw (e v, all-map f g h e vs)
 
 -- a tuple ends after its count and its columns
-pub tuple-ends : (s : List ℕ) (i : ℕ) (v : Value tupleLayout) (j : ℕ) → readAt tupleLayout s i ≡ got v j → j ≡ i + 2 + length (allBytes cellBytes (cellsOf v))
+pub tuple-ends : (s : List ℕ) (i : ℕ) (v : Value tupleLayout) (j : ℕ) → readAt tupleLayout s i ≡ got v j
+    → j ≡ i + 2 + length (allBytes cellBytes (cellsOf v))
 unfolding bytesOf
 tuple-ends s i v j e =
     let w = all-map (λ x. bytesOf columnLayout x) cellBytes cellOf cell-bytes (v .1) in
     let l : length (allBytes (λ x. bytesOf columnLayout x) (v .1)) ≡ length (allBytes cellBytes (cellsOf v)) = ap length w in
-    omega (arith, read-ends tupleLayout s i v j e, l, length-append (beBytes 2 (length (v .1))) (allBytes (λ x. bytesOf columnLayout x) (v .1)), length-beBytes 2 (length (v .1)))
+    omega (
+      arith,
+      read-ends tupleLayout s i v j e,
+      l,
+      length-append (beBytes 2 (length (v .1))) (allBytes (λ x. bytesOf columnLayout x) (v .1)),
+      length-beBytes 2 (length (v .1)),
+    )

@@ -12,7 +12,9 @@ use Rattle.wire.specs.Bytes.{pick}
 use Rattle.wire.specs.Field.{fieldAt}
 use Rattle.wire.proofs.FieldLaws.{field-whole, field-cut, be-one}
 use Rattle.rows.specs.Layout.{Layout, Letters, letter, or, no-other, Value, Read, got, refused, mapped, readAt, chooseAt}
-use Rattle.rows.specs.Rows.{Row, Said, relationLayout, typeLayout, originLayout, insertLayout, updateLayout, deleteLayout, truncateLayout, rowLetters, rowLayout, relationOf, typeOf, originOf, insertOf, updateOf, deleteOf, truncateOf, rowOf, boundaryLetter, isBoundary, saidOf, rowSaid}
+use Rattle.rows.specs.Rows.{Row, Said, relationLayout, typeLayout, originLayout, insertLayout, updateLayout, deleteLayout, truncateLayout}
+use Rattle.rows.specs.Rows.{rowLetters, rowLayout, relationOf, typeOf, originOf, insertOf, updateOf, deleteOf, truncateOf, rowOf}
+use Rattle.rows.specs.Rows.{boundaryLetter, isBoundary, saidOf, rowSaid}
 use Rattle.rows.specs.Head.{headOf, Answer, head, none as no-answer, refusal, answerOf, headTold}
 use Rattle.rows.proofs.Heads.{head-told}
 use Rattle.rows.proofs.Steps.{letter-got, letter-cut, choose-here, choose-next, choose-none}
@@ -63,7 +65,15 @@ module _ (s : List ℕ) (n : length s ≡ 0 → ⊥) (h : false ≡ boundaryLett
 
     module _ (y : b ≡ code "Y" → ⊥) where
       pub origin-row : b ≡ code "O" → {x : Answer} → x ≡ headTold (λ v. headOf (originOf v)) (readAt originLayout s 1) → Says x
-      origin-row e m = m ∙ ((rw (row-read, choose-next s 1 _ _ _ b r, choose-next s 1 _ _ _ b y, choose-here s 1 _ _ _ b e, head-told, head-told, head-told)) ∙ told-row)
+      origin-row e m = m ∙ ((rw (
+        row-read,
+        choose-next s 1 _ _ _ b r,
+        choose-next s 1 _ _ _ b y,
+        choose-here s 1 _ _ _ b e,
+        head-told,
+        head-told,
+        head-told,
+      )) ∙ told-row)
 
       module _ (o : b ≡ code "O" → ⊥) where
         pub insert-row : b ≡ code "I" → {x : Answer} → x ≡ headTold (λ v. headOf (insertOf v)) (readAt insertLayout s 1) → Says x

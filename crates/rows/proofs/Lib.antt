@@ -9,6 +9,7 @@ pub mod Letters
 pub mod Parts
 pub mod Places
 pub mod Readers
+pub mod Refusals
 pub mod Sent
 pub mod Steps
 pub mod Within

@@ -13,7 +13,8 @@ use Rattle.wire.specs.Bytes.{at, beBytes}
 use Rattle.wire.specs.Int.{intBytes}
 use Rattle.wire.proofs.Laws.{length-beBytes}
 use Rattle.rows.specs.Layout.{got, readAt, Stands, allBytes}
-use Rattle.rows.specs.Rows.{Cell, text, binary, Described, described, relation, type, origin, cellBytes, describedBytes, rowBytes, columnLayout, describedLayout, cellOf, describedOf, row, rowSaid}
+use Rattle.rows.specs.Rows.{Cell, text, binary, Described, described, relation, type, origin, cellBytes, describedBytes, rowBytes, columnLayout}
+use Rattle.rows.specs.Rows.{describedLayout, cellOf, describedOf, row, rowSaid}
 use Rattle.rows.specs.Head.{columnAt, descriptionAt}
 use Rattle.rows.specs.RowLayout.{PartLaws}
 use Rattle.rows.proofs.BothWays.{read-is-written}
@@ -37,12 +38,14 @@ module _ (s : List ℕ) (bytes : areBytes s ≡ true) where
   column-there : (i : ℕ) (c : Cell) (j : ℕ) → columnAt s i ≡ got c j → drop i s ≡ cellBytes c ++ drop j s
   column-there i c j e =
       by-told cellOf (readAt columnLayout s i) c j e (λ w x ec.
-      read-is-written columnLayout column-proper s bytes i w j x .1 .whole ∙ ap (λ (l : List ℕ). l ++ drop j s) (cell-bytes w ∙ ap cellBytes (sym ec)))
+      read-is-written columnLayout column-proper s bytes i w j x .1 .whole ∙ ap (λ (l : List ℕ). l ++ drop j s)
+      (cell-bytes w ∙ ap cellBytes (sym ec)))
 
   description-there : (i : ℕ) (d : Described) (j : ℕ) → descriptionAt s i ≡ got d j → drop i s ≡ describedBytes d ++ drop j s
   description-there i d j e =
       by-told describedOf (readAt describedLayout s i) d j e (λ w x ed.
-      read-is-written describedLayout described-proper s bytes i w j x .1 .whole ∙ ap (λ (l : List ℕ). l ++ drop j s) (described-bytes w ∙ ap describedBytes (sym ed)))
+      read-is-written describedLayout described-proper s bytes i w j x .1 .whole ∙ ap (λ (l : List ℕ). l ++ drop j s)
+      (described-bytes w ∙ ap describedBytes (sym ed)))
 
   valued : (letter i : ℕ) (v t : List ℕ) → drop i s ≡ (letter ∷ (beBytes 4 (length v) ++ v)) ++ t → at s (i + 5) (length v) ≡ v
   valued letter i v t e =
@@ -57,13 +60,15 @@ module _ (s : List ℕ) (bytes : areBytes s ≡ true) where
   unfolding cellBytes
   binary-part i v j e = valued (code "b") i v (drop j s) (column-there i (binary v) j e)
 
-  description-part : (i flags : ℕ) (v : List ℕ) (oid : ℕ) (modifier : ℤ) (j : ℕ) → descriptionAt s i ≡ got (described flags v oid modifier) j → at s (i + 1) (length v) ≡ v
+  description-part : (i flags : ℕ) (v : List ℕ) (oid : ℕ) (modifier : ℤ) (j : ℕ) → descriptionAt s i ≡ got (described flags v oid modifier) j
+      → at s (i + 1) (length v) ≡ v
   unfolding describedBytes
   description-part i flags v oid modifier j e =
       part-of s i 1 (beBytes 1 flags) v ((0 ∷ []) ++ ((beBytes 4 oid ++ intBytes 4 modifier) ++ drop j s)) (length-beBytes 1 flags)
       (description-there i (described flags v oid modifier) j e ∙ simp append-assoc)
 
-  two-names : (letter id : ℕ) (space v t : List ℕ) → s ≡ letter ∷ (beBytes 4 id ++ (space ++ (0 ∷ (v ++ t)))) → (at s 5 (length space) ≡ space) × (at s (6 + length space) (length v) ≡ v)
+  two-names : (letter id : ℕ) (space v t : List ℕ) → s ≡ letter ∷ (beBytes 4 id ++ (space ++ (0 ∷ (v ++ t))))
+      → (at s 5 (length space) ≡ space) × (at s (6 + length space) (length v) ≡ v)
   two-names letter id space v t e =
       let a : List ℕ = letter ∷ beBytes 4 id in
       let b : List ℕ = a ++ (space ++ (0 ∷ [])) in
@@ -76,9 +81,11 @@ module _ (s : List ℕ) (bytes : areBytes s ≡ true) where
   unfolding rowBytes
   relation-parts id space v identity cs e =
       let w = read-is-sent s (relation id space v identity cs) bytes e in
-      two-names (code "R") id space v ((0 ∷ []) ++ ((beBytes 1 identity ++ (beBytes 2 (length cs) ++ allBytes describedBytes cs)) ++ w .1)) (w .2 ∙ simp append-assoc)
+      two-names (code "R") id space v ((0 ∷ []) ++ ((beBytes 1 identity ++ (beBytes 2 (length cs) ++ allBytes describedBytes cs)) ++ w .1))
+      (w .2 ∙ simp append-assoc)
 
-  type-parts : (id : ℕ) (space v : List ℕ) → rowSaid s ≡ row (type id space v) → (at s 5 (length space) ≡ space) × (at s (6 + length space) (length v) ≡ v)
+  type-parts : (id : ℕ) (space v : List ℕ) → rowSaid s ≡ row (type id space v)
+      → (at s 5 (length space) ≡ space) × (at s (6 + length space) (length v) ≡ v)
   unfolding rowBytes
   type-parts id space v e =
       let w = read-is-sent s (type id space v) bytes e in

@@ -23,12 +23,14 @@ use Rattle.rows.specs.Layout.{Read, got, refused, cut, after, mapped, nu
 
 -- ---- what a reading that went on says of each of its fields
 
-pub after-got : {A B : Type 0} (r : Read A) (go : A → ℕ → Read B) (w : B) (k : ℕ) → after r go ≡ got w k → (v : A) × (j : ℕ) × (r ≡ got v j) × (go v j ≡ got w k)
+pub after-got : {A B : Type 0} (r : Read A) (go : A → ℕ → Read B) (w : B) (k : ℕ) → after r go ≡ got w k
+    → (v : A) × (j : ℕ) × (r ≡ got v j) × (go v j ≡ got w k)
 after-got (got v j) go w k e = (v, j, refl, e)
 after-got (refused n) go w k e = impossible cc
 
 -- .. with what follows from it
-pub by-after : {A B X : Type 0} (r : Read A) (go : A → ℕ → Read B) (w : B) (k : ℕ) → after r go ≡ got w k → ((v : A) (j : ℕ) → r ≡ got v j → go v j ≡ got w k → X) → X
+pub by-after : {A B X : Type 0} (r : Read A) (go : A → ℕ → Read B) (w : B) (k : ℕ) → after r go ≡ got w k
+    → ((v : A) (j : ℕ) → r ≡ got v j → go v j ≡ got w k → X) → X
 by-after r go w k e f = let a = after-got r go w k e in f (a .0) (a .1) (a .2) (a .3)
 
 -- .. and of the values that were told
@@ -54,7 +56,8 @@ pick-got false x v j e = (refl, e)
 module _ (s : List ℕ) where
   pub split : (i : ℕ) (x y : List ℕ) (k : ℕ) → Stands s i (x ++ y) k → Stands s i x (i + length x) × Stands s (i + length x) y k
   split i x y k h =
-      let d : drop (i + length x) s ≡ y ++ drop k s = sym (drop-drop (length x) i s) ∙ rw (h .whole, append-assoc) (drop-append-seam x (y ++ drop k s)) in (
+      let d : drop (i + length x) s ≡ y ++ drop k s = sym (drop-drop (length x) i s) ∙ rw (h .whole, append-assoc)
+      (drop-append-seam x (y ++ drop k s)) in (
         record { whole = h .whole ∙ (append-assoc x y (drop k s) ∙ ap (λ (l : List ℕ). x ++ l) (sym d)); ends = refl },
         record { whole = d; ends = omega (arith, h .ends, length-append x y) },
       )
@@ -136,7 +139,8 @@ module _ (s : List ℕ) where
       let p : i + length v + 1 ≡ j = omega (arith, h .ends, length-append v (0 ∷ [])) in
       rw f (rw (t, p))
 
-  pub name-there : (i n : ℕ) → indexOf 0 (drop i s) ≡ some n → (length (at s i n) ≡ n) × NoZero (at s i n) × Stands s i (at s i n ++ (0 ∷ [])) (i + n + 1)
+  pub name-there : (i n : ℕ) → indexOf 0 (drop i s) ≡ some n
+      → (length (at s i n) ≡ n) × NoZero (at s i n) × Stands s i (at s i n ++ (0 ∷ [])) (i + n + 1)
   name-there i n e =
       let w = found-at (drop i s) n e in
       let b : n < length (drop i s) = found-below 0 (drop i s) n e in
@@ -145,7 +149,8 @@ module _ (s : List ℕ) where
       let d : drop i s ≡ (at s i n ++ (0 ∷ [])) ++ drop (i + n + 1) s = rw (append-assoc, ← p, ← drop-drop (n + 1) i s) (w .1) in
       (l, w .0, record { whole = d; ends = omega (arith, l, length-append (at s i n) (0 ∷ [])) })
 
-  pub name-back : (i : ℕ) (o : Option ℕ) (v : List ℕ) (j : ℕ) → indexOf 0 (drop i s) ≡ o → nameBy s i o ≡ got v j → NoZero v × Stands s i (v ++ (0 ∷ [])) j
+  pub name-back : (i : ℕ) (o : Option ℕ) (v : List ℕ) (j : ℕ) → indexOf 0 (drop i s) ≡ o → nameBy s i o ≡ got v j
+      → NoZero v × Stands s i (v ++ (0 ∷ [])) j
   name-back i none v j d e = impossible cc
   name-back i (some n) v j d e =
       let w = name-there i n d in
@@ -156,7 +161,8 @@ module _ (s : List ℕ) where
   -- ---- so many times the same
 
   module _ {A : Type 0} (f : ℕ → Read A) (g : A → List ℕ) (P : A → Type 0) where
-    pub times-read : ((v : A) (i j : ℕ) → P v → Stands s i (g v) j → f i ≡ got v j) → (vs : List A) (i j : ℕ) → All P vs → Stands s i (allBytes g vs) j
+    pub times-read : ((v : A) (i j : ℕ) → P v → Stands s i (g v) j → f i ≡ got v j) → (vs : List A) (i j : ℕ) → All P vs
+        → Stands s i (allBytes g vs) j
         → timesAt f (length vs) i ≡ got vs j
     unfolding timesAt allBytes
     times-read one [] i j a h = ap (λ (k : ℕ). got [] k) (omega (arith, h .ends))
@@ -164,7 +170,8 @@ module _ (s : List ℕ) where
         let w = split i (g v) (allBytes g vs) j h in
         rw (one v i (i + length (g v)) (a .0) (w .0), times-read one vs (i + length (g v)) j (a .1) (w .1))
 
-    pub times-there : ((i : ℕ) (v : A) (j : ℕ) → f i ≡ got v j → P v × Stands s i (g v) j) → (n i : ℕ) (vs : List A) (j : ℕ) → timesAt f n i ≡ got vs j
+    pub times-there : ((i : ℕ) (v : A) (j : ℕ) → f i ≡ got v j → P v × Stands s i (g v) j) → (n i : ℕ) (vs : List A) (j : ℕ)
+        → timesAt f n i ≡ got vs j
         → (length vs ≡ n) × All P vs × Stands s i (allBytes g vs) j
     unfolding timesAt allBytes
     times-there one zero i vs j e =

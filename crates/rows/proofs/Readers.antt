@@ -13,18 +13,22 @@ use lib.Pow.{areBytes}
 use Rattle.wire.specs.Bytes.{beBytes}
 use Rattle.wire.proofs.Laws.{length-beBytes}
 use Rattle.rows.specs.Layout.{number, Value, Read, got, mapped, readAt, allBytes, bytesOf, All, Fits, Stands}
-use Rattle.rows.specs.Rows.{Cell, null, unchanged, text, binary, Described, described, Row, relation, type, origin, insert, update, update-from, delete, truncate, cellBytes, tupleBytes, describedBytes, rowBytes, whichLetter, columnLayout, describedLayout, cellOf, describedOf, row, rowSaid}
+use Rattle.rows.specs.Rows.{Cell, null, unchanged, text, binary, Described, described, Row, relation, type, origin, insert, update, update-from}
+use Rattle.rows.specs.Rows.{delete, truncate, cellBytes, tupleBytes, describedBytes, rowBytes, whichLetter, columnLayout, describedLayout}
+use Rattle.rows.specs.Rows.{cellOf, describedOf, row, rowSaid}
 use Rattle.rows.specs.Head.{columnAt, descriptionAt, identifierAt}
 use Rattle.rows.specs.RowLayout.{CellFits, DescribedFits, RowFits, InTurn, ColumnsFrom, ReadersOf, Readers-answer}
 use Rattle.rows.proofs.BothWays.{written-is-read}
 use Rattle.rows.proofs.Ends.{cell-bytes}
 use Rattle.rows.proofs.Places.{split}
-use Rattle.rows.proofs.Sent.{column-proper, described-proper, described-bytes, cellValue, cell-back, cell-fits, describedValue, described-back, described-fits, read-is-sent}
+use Rattle.rows.proofs.Sent.{column-proper, described-proper, described-bytes, cellValue, cell-back, cell-fits, describedValue, described-back}
+use Rattle.rows.proofs.Sent.{described-fits, read-is-sent}
 
 -- ---- one after the other
 
 -- each reader answers where its value stands
-in-a-row : {A : Type 0} (s : List ℕ) (f : ℕ → Read A) (g : A → List ℕ) (P : A → Type 0) → ((v : A) (i j : ℕ) → P v → Stands s i (g v) j → f i ≡ got v j)
+in-a-row : {A : Type 0} (s : List ℕ) (f : ℕ → Read A) (g : A → List ℕ) (P : A → Type 0)
+    → ((v : A) (i j : ℕ) → P v → Stands s i (g v) j → f i ≡ got v j)
     → (vs : List A) (i j : ℕ) → All P vs → Stands s i (allBytes g vs) j → InTurn f i vs j
 unfolding allBytes
 in-a-row s f g P one [] i j a h = omega (arith, h .ends)
@@ -41,7 +45,8 @@ module _ (s : List ℕ) where
 
   description-there : (d : Described) (i j : ℕ) → DescribedFits d → Stands s i (describedBytes d) j → descriptionAt s i ≡ got d j
   description-there d i j f h =
-      let b : bytesOf describedLayout (describedValue d) ≡ describedBytes d = described-bytes (describedValue d) ∙ ap describedBytes (described-back d) in
+      let b : bytesOf describedLayout (describedValue d) ≡ describedBytes d = described-bytes (describedValue d) ∙ ap describedBytes
+      (described-back d) in
       let r = written-is-read describedLayout described-proper s i (describedValue d) j (described-fits d f) (rw b h) in
       rw r (ap (λ (x : Described). got x j) (described-back d))
 
@@ -53,18 +58,21 @@ module _ (s : List ℕ) where
 amid : (s front x rest : List ℕ) (i : ℕ) → s ≡ front ++ (x ++ rest) → length front ≡ i → Stands s i x (i + length x) × (i + length x ≤ length s)
 amid s front x rest i e l =
     let d : drop i s ≡ x ++ rest = rw (← l, e) (drop-append-seam front (x ++ rest)) in
-    let n : length s ≡ length front + (length x + length rest) = rw e (length-append front (x ++ rest) ∙ ap (λ (k : ℕ). length front + k) (length-append x rest)) in
+    let n : length s ≡ length front + (length x + length rest) = rw e
+    (length-append front (x ++ rest) ∙ ap (λ (k : ℕ). length front + k) (length-append x rest)) in
     let k : i + length x ≡ length (front ++ x) = omega (arith, length-append front x) in
     let t : drop (i + length x) s ≡ rest = rw (k, e, ← append-assoc front x rest) (drop-append-seam (front ++ x) rest) in
     (record { whole = rw t d; ends = refl }, omega arith)
 
-columns-there : (s front : List ℕ) (cs : List Cell) (rest : List ℕ) (i : ℕ) → s ≡ front ++ (allBytes cellBytes cs ++ rest) → length front ≡ i → All CellFits cs → ColumnsFrom s i cs
+columns-there : (s front : List ℕ) (cs : List Cell) (rest : List ℕ) (i : ℕ) → s ≡ front ++ (allBytes cellBytes cs ++ rest) → length front ≡ i
+    → All CellFits cs → ColumnsFrom s i cs
 columns-there s front cs rest i e l f =
     let w = amid s front (allBytes cellBytes cs) rest i e l in
     (in-a-row s (columnAt s) cellBytes CellFits (column-there s) cs i (i + length (allBytes cellBytes cs)) f (w .0), w .1)
 
 -- the bytes of a row that has a tuple: letter, relation, letter, count, columns
-tuple-after : (a b id n : ℕ) (x rest : List ℕ) → (a ∷ (beBytes 4 id ++ (b ∷ (beBytes 2 n ++ x)))) ++ rest ≡ (a ∷ (beBytes 4 id ++ (b ∷ beBytes 2 n))) ++ (x ++ rest)
+tuple-after : (a b id n : ℕ) (x rest : List ℕ) → (a ∷ (beBytes 4 id ++ (b ∷ (beBytes 2 n ++ x)))) ++ rest ≡ (a ∷ (beBytes 4 id ++ (b ∷ beBytes 2 n)))
+    ++ (x ++ rest)
 tuple-after a b id n x rest = simp append-assoc
 
 tuple-front : (a b id n : ℕ) → length (a ∷ (beBytes 4 id ++ (b ∷ beBytes 2 n))) ≡ 8
@@ -75,9 +83,11 @@ module _ (s surplus : List ℕ) where
   unfolding tupleBytes
   one-tuple a b id cs e f =
       let n : ℕ = length cs in
-      columns-there s (a ∷ (beBytes 4 id ++ (b ∷ beBytes 2 n))) cs surplus 8 (e ∙ tuple-after a b id n (allBytes cellBytes cs) surplus) (tuple-front a b id n) f
+      columns-there s (a ∷ (beBytes 4 id ++ (b ∷ beBytes 2 n))) cs surplus 8 (e ∙ tuple-after a b id n (allBytes cellBytes cs) surplus)
+      (tuple-front a b id n) f
 
-  two-tuples : (a b c id : ℕ) (old new : List Cell) → s ≡ (a ∷ (beBytes 4 id ++ (b ∷ (tupleBytes old ++ (c ∷ tupleBytes new))))) ++ surplus → All CellFits old → All CellFits new
+  two-tuples : (a b c id : ℕ) (old new : List Cell) → s ≡ (a ∷ (beBytes 4 id ++ (b ∷ (tupleBytes old ++ (c ∷ tupleBytes new))))) ++ surplus
+      → All CellFits old → All CellFits new
       → ColumnsFrom s 8 old × ColumnsFrom s (11 + length (allBytes cellBytes old)) new
   unfolding tupleBytes
   two-tuples a b c id old new e f g =
@@ -116,8 +126,11 @@ module _ (s surplus : List ℕ) where
         length-beBytes 2 n,
       )
       in
-      let w = amid s front x surplus (10 + length space + length v) p l in
-      (in-a-row s (descriptionAt s) describedBytes DescribedFits (description-there s) cs (10 + length space + length v) (10 + length space + length v + length x) (f .5) (w .0), w .1)
+      let w = amid s front x surplus (10 + length space + length v) p l in (
+        in-a-row s (descriptionAt s) describedBytes DescribedFits (description-there s) cs (10 + length space + length v)
+            (10 + length space + length v + length x) (f .5) (w .0),
+        w .1,
+      )
   readers (type id space v) f e = tt
   readers (origin position v) f e = tt
   readers (insert id new) f e = one-tuple (code "I") (code "N") id new e (f .1 .1)

@@ -11,8 +11,12 @@ use lib.Seq.{drop-append-seam}
 use lib.Pow.{areBytes}
 use Rattle.wire.specs.Bytes.{pick, beBytes}
 use Rattle.wire.proofs.Laws.{impossible}
-use Rattle.rows.specs.Layout.{Layout, Letters, number, integer, name, value, many, both, nothing, letter, no-other, or, Value, Read, got, refused, readAt, allBytes, bytesOf, All, Fits, Proper, Stands}
-use Rattle.rows.specs.Rows.{Cell, null, unchanged, text, binary, Described, described, Row, relation, type, origin, insert, update, update-from, delete, truncate, cellBytes, tupleBytes, describedBytes, rowBytes, columnLayout, tupleLayout, describedLayout, newLayout, updateLayout, deleteLayout, rowLayout, cellOf, cellsOf, describedOf, newOf, rowOf, Said, row, no-row, refused-by, isBoundary, saidOf, rowSaid}
+use Rattle.rows.specs.Layout.{Layout, Letters, number, integer, name, value, many, both, nothing, letter, no-other, or, Value, Read, got}
+use Rattle.rows.specs.Layout.{refused, readAt, allBytes, bytesOf, All, Fits, Proper, Stands}
+use Rattle.rows.specs.Rows.{Cell, null, unchanged, text, binary, Described, described, Row, relation, type, origin, insert, update, update-from}
+use Rattle.rows.specs.Rows.{delete, truncate, cellBytes, tupleBytes, describedBytes, rowBytes, columnLayout, tupleLayout, describedLayout}
+use Rattle.rows.specs.Rows.{newLayout, updateLayout, deleteLayout, rowLayout, cellOf, cellsOf, describedOf, newOf, rowOf, Said, row, no-row}
+use Rattle.rows.specs.Rows.{refused-by, isBoundary, saidOf, rowSaid}
 use Rattle.rows.specs.RowLayout.{CellFits, TupleFits, DescribedFits, RowFits, Sent-is-read, Read-is-sent}
 use Rattle.rows.specs.declared.Which.{Which}
 use Rattle.rows.specs.declared.Which.the-variants.{Key, Old}
@@ -81,7 +85,8 @@ row-proper = (
   ),
 )
   where
-    update-proper : Proper (letter (or (code "K") (both tupleLayout newLayout) (or (code "O") (both tupleLayout newLayout) (or (code "N") tupleLayout no-other))))
+    update-proper : Proper (letter (or (code "K") (both tupleLayout newLayout)
+        (or (code "O") (both tupleLayout newLayout) (or (code "N") tupleLayout no-other))))
     update-proper = (
       omega arith,
       (tuple-proper, new-proper),
@@ -114,7 +119,10 @@ new-bytes (inr e) = absurd e
 
 row-bytes : (v : Value rowLayout) → bytesOf rowLayout v ≡ rowBytes (rowOf v)
 unfolding bytesOf rowBytes
-row-bytes (inl v) = rw (length-map (v .1 .1 .1 .1 .1) describedOf, all-map (λ x. bytesOf describedLayout x) describedBytes describedOf described-bytes (v .1 .1 .1 .1 .1))
+row-bytes (inl v) = rw (
+  length-map (v .1 .1 .1 .1 .1) describedOf,
+  all-map (λ x. bytesOf describedLayout x) describedBytes describedOf described-bytes (v .1 .1 .1 .1 .1),
+)
 row-bytes (inr (inl v)) = refl
 row-bytes (inr (inr (inl v))) = refl
 row-bytes (inr (inr (inr (inl (id, v))))) = ap (λ (l : List ℕ). code "I" ∷ (beBytes 4 id ++ l)) (new-bytes v)
@@ -230,8 +238,23 @@ new-fitted (inr e) f = absurd e
 
 pub row-fits : (r : Row) → RowFits r → Fits rowLayout (rowValue r)
 unfolding Fits
-row-fits (relation id space v identity cs) f =
-    (f .0, (f .1, (f .2, (f .3, (rw (length-map cs describedValue) (f .4), tt, all-fit DescribedFits (λ x. Fits describedLayout x) describedValue described-fits cs (f .5))))))
+row-fits (relation id space v identity cs) f = (
+  f .0,
+  (
+    f .1,
+    (
+      f .2,
+      (
+        f .3,
+        (
+          rw (length-map cs describedValue) (f .4),
+          tt,
+          all-fit DescribedFits (λ x. Fits describedLayout x) describedValue described-fits cs (f .5),
+        ),
+      ),
+    ),
+  ),
+)
 row-fits (type id space v) f = (f .0, (f .1, f .2))
 row-fits (origin position v) f = (f .0, f .1)
 row-fits (insert id new) f = (f .0, tuple-fits new (f .1))
@@ -295,7 +318,8 @@ picked : (b : Bool) (x : Said) (r : Row) → pick b no-row x ≡ row r → x ≡
 picked true x r e = impossible cc
 picked false x r e = e
 
-said-row : {X : Type 0} (q : Read (Value rowLayout)) (r : Row) → saidOf rowOf q ≡ row r → ((v : Value rowLayout) (j : ℕ) → q ≡ got v j → rowOf v ≡ r → X) → X
+said-row : {X : Type 0} (q : Read (Value rowLayout)) (r : Row) → saidOf rowOf q ≡ row r
+    → ((v : Value rowLayout) (j : ℕ) → q ≡ got v j → rowOf v ≡ r → X) → X
 said-row (got v j) r e go = go v j refl cc
 said-row (refused n) r e go = impossible cc
 

@@ -3,20 +3,27 @@ use mathlib.Core.Path.{_≡_, refl, sym, ap, _∙_}
 use mathlib.Core.List.{List, [], _∷_}
 use mathlib.Core.Logic.{inl, inr}
 use mathlib.Core.Option.{Option, some, none}
-use Prim.Native.Nat.{ℕ, suc, _+_, _-_, _<_, _≤_}
+use Prim.Native.Nat.{ℕ, suc, _+_, _-_, _<_, _≤_, min}
 use native.Mathlib.Omega.{arith}
 use lib.ListN.{length, drop, length-take, length-drop}
-use lib.Dec.{eqb}
+use lib.Dec.{eqb, ltb}
 use lib.IntN.{ℤ}
-use borrow.Author.Tests.{le-leb, lt-leb, le-ltb, lt-ltb, eq-eqb, ne-eqb}
+use borrow.Author.Tests.{le-leb, lt-leb, le-ltb, lt-ltb, ltb-true, ltb-false, eq-eqb, ne-eqb}
 use Rattle.wire.specs.Bytes.{at}
 use Rattle.wire.specs.Field.{fieldAt}
 use Rattle.wire.specs.Find.{indexOf}
 use Rattle.wire.proofs.FindLaws.{found-below}
-use Rattle.wire.proofs.Laws.{impossible}
+use Rattle.wire.proofs.Laws.{by-test, impossible}
 use Rattle.wire.specs.Int.{half, intAt}
 use Rattle.rows.proofs.Places.{name-there, told-got}
-use Rattle.rows.specs.Layout.{Layout, Letters, number, integer, name, value, many, both, nothing, letter, no-other, or, Value, Choice, Read, got, refused, cut, wrong, after, mapped, numberBy, countAt, bytesAt, timesAt, readAt, chooseAt}
+use Rattle.rows.specs.Layout.{Layout, Letters, number, integer, name, value, many, both, nothing, letter, no-other, or, Value, Choice, Read}
+use Rattle.rows.specs.Layout.{got, refused, cut, wrong, after, mapped, numberBy, countAt, bytesAt, timesAt, readAt, chooseAt}
+
+left-short : (a k : ℕ) → k < half 4 → min a 2147483647 < k → a < k
+left-short a k h l = omega (arith, h, l)
+
+least-both : (a k : ℕ) → k ≤ min a 2147483647 → (k ≤ a) × (k < half 4)
+least-both a k h = (omega (arith, h), omega (arith, h))
 
 module _ (s : List ℕ) (i : ℕ) where
   pub number-got : (n v : ℕ) → fieldAt n s i ≡ some v → readAt (number n) s i ≡ got v (i + n)
@@ -43,7 +50,8 @@ module _ (s : List ℕ) (i : ℕ) where
   unfolding readAt
   both-refused a b n e = rw e
 
-  pub pair-got : (a b : Layout) (v : Value a) (w : Value b) (j k : ℕ) → readAt a s i ≡ got v j → readAt b s j ≡ got w k → readAt (both a b) s i ≡ got (v, w) k
+  pub pair-got : (a b : Layout) (v : Value a) (w : Value b) (j k : ℕ) → readAt a s i ≡ got v j → readAt b s j ≡ got w k
+      → readAt (both a b) s i ≡ got (v, w) k
   unfolding readAt
   pair-got a b v w j k e f = rw (e, f)
 
@@ -96,6 +104,18 @@ module _ (s : List ℕ) (i : ℕ) where
   value-whole k e h l =
       let n : length (at s (i + 4) k) ≡ k = simp (length-take, length-drop) (omega arith) in
       rw (count-got 4 k e h) (simp (le-ltb _ _ l) (rw n))
+
+  -- the same by one comparison, with the smaller of what is left and the longest length
+  pub value-over : (k m : ℕ) → fieldAt 4 s i ≡ some k → m ≡ min (length s - (i + 4)) 2147483647 → m < k → Valued cut
+  value-over k m e q h =
+      by-test (ltb k (half 4))
+      (λ t. value-short k e (ltb-true k (half 4) t) (left-short (length s - (i + 4)) k (ltb-true k (half 4) t) (rw (← q) h)))
+      (λ t. value-negative k e (ltb-false k (half 4) t))
+
+  pub value-fits : (k m : ℕ) → fieldAt 4 s i ≡ some k → m ≡ min (length s - (i + 4)) 2147483647 → k ≤ m → Valued (got (i + 4, k) (i + 4 + k))
+  value-fits k m e q h =
+      let b = least-both (length s - (i + 4)) k (rw (← q) h) in
+      value-whole k e (b .1) (b .0)
 
   pub many-none : (n : ℕ) (a b : Layout) (m : ℕ) → countAt n s i ≡ refused m → readAt (many n a b) s i ≡ refused m
   unfolding readAt
@@ -154,7 +174,8 @@ got-back f r w j e = told-got f r w j (sym e)
 abbrev pub ended : {A : Type 0} → Read A → Read Unit
 ended r = mapped (λ v. tt) r
 
-pub ended-told : {A B C : Type 0} (f : B → C) (g : A → B) (r : Read A) (x : Read C) (e : Read Unit) → x ≡ mapped f (mapped g r) → e ≡ ended x → e ≡ ended r
+pub ended-told : {A B C : Type 0} (f : B → C) (g : A → B) (r : Read A) (x : Read C) (e : Read Unit) → x ≡ mapped f (mapped g r) → e ≡ ended x
+    → e ≡ ended r
 ended-told f g (got v j) x e p q = q ∙ rw p
 ended-told f g (refused n) x e p q = q ∙ rw p
 

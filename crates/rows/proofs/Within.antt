@@ -17,8 +17,10 @@ use Rattle.wire.specs.Find.{indexOf}
 use Rattle.wire.proofs.Laws.{by-test, impossible, length-beBytes}
 use Rattle.wire.proofs.FieldLaws.{field-within, int-within}
 use Rattle.wire.proofs.FindLaws.{found-below}
-use Rattle.rows.specs.Layout.{Layout, Letters, number, integer, name, value, many, both, nothing, letter, no-other, or, Value, Choice, Read, got, mapped, after, numberBy, nameBy, countAt, bytesAt, timesAt, readAt, chooseAt, bytesOf}
-use Rattle.rows.specs.Rows.{Cell, Described, described, cellBytes, describedBytes, columnLetters, columnLayout, describedLayout, cellOf, describedOf}
+use Rattle.rows.specs.Layout.{Layout, Letters, number, integer, name, value, many, both, nothing, letter, no-other, or, Value, Choice, Read}
+use Rattle.rows.specs.Layout.{got, mapped, after, numberBy, nameBy, countAt, bytesAt, timesAt, readAt, chooseAt, bytesOf}
+use Rattle.rows.specs.Rows.{Cell, Described, described, cellBytes, describedBytes, columnLetters, columnLayout, describedLayout, cellOf}
+use Rattle.rows.specs.Rows.{describedOf}
 use Rattle.rows.specs.Head.{columnAt, descriptionAt, identifierAt}
 use Rattle.rows.specs.RowLayout.{ReaderLaws}
 use Rattle.rows.proofs.Ends.{read-ends, cell-bytes}
@@ -49,7 +51,8 @@ module _ (s : List ℕ) where
       let ej : j ≡ i + n + 1 = cc in
       omega (arith, found-below 0 (drop i s) n d, length-drop i s)
 
-  times-within : {A : Type 0} (f : ℕ → Read A) → ((i : ℕ) (v : A) (j : ℕ) → f i ≡ got v j → i ≤ length s → j ≤ length s) → (n i : ℕ) (vs : List A) (j : ℕ) → timesAt f n i ≡ got vs j → i ≤ length s → j ≤ length s
+  times-within : {A : Type 0} (f : ℕ → Read A) → ((i : ℕ) (v : A) (j : ℕ) → f i ≡ got v j → i ≤ length s → j ≤ length s)
+      → (n i : ℕ) (vs : List A) (j : ℕ) → timesAt f n i ≡ got vs j → i ≤ length s → j ≤ length s
   unfolding timesAt
   times-within f one zero i vs j e l = let ej : i ≡ j = cc in omega arith
   times-within f one (suc n) i vs j e l =
@@ -113,7 +116,12 @@ module _ (s : List ℕ) where
       let b : length (bytesOf describedLayout v) ≡ length (describedBytes d) = ap length (described-bytes v ∙ ap describedBytes (sym ev)) in
       let n = read-ends describedLayout s i v j x in (
         omega (arith, b, n),
-        omega (arith, n, length-append (beBytes 1 (v .0)) ((v .1 .0 ++ (0 ∷ [])) ++ (beBytes 4 (v .1 .1 .0) ++ intBytes 4 (v .1 .1 .1))), length-beBytes 1 (v .0)),
+        omega (
+          arith,
+          n,
+          length-append (beBytes 1 (v .0)) ((v .1 .0 ++ (0 ∷ [])) ++ (beBytes 4 (v .1 .1 .0) ++ intBytes 4 (v .1 .1 .1))),
+          length-beBytes 1 (v .0),
+        ),
         read-within describedLayout i v j x (number-starts 1 (both name (both (number 4) integer)) i v j x),
       ))
 

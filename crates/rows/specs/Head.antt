@@ -6,7 +6,9 @@ use Prim.Native.Nat.{ℕ, _+_}
 use lib.ListN.{length}
 use lib.IntN.{ℤ}
 use Rattle.rows.specs.Layout.{Layout, number, integer, both, Value, Read, got, refused, cut, mapped, readAt, allBytes}
-use Rattle.rows.specs.Rows.{Cell, null, unchanged, text, binary, Described, described, Row, relation, type, origin, insert, update, update-from, delete, truncate, cellBytes, columnLayout, describedLayout, cellOf, describedOf, Said, row, no-row, refused-by, rowSaid}
+use Rattle.rows.specs.Rows.{Cell, null, unchanged, text, binary, Described, described, Row, relation, type, origin, insert, update, update-from}
+use Rattle.rows.specs.Rows.{delete, truncate, cellBytes, columnLayout, describedLayout, cellOf, describedOf, Said, row, no-row, refused-by}
+use Rattle.rows.specs.Rows.{rowSaid}
 use Rattle.rows.specs.declared.Refusal.{Refusal}
 use Rattle.rows.specs.declared.Refusal.the-variants.{FieldCut, UnknownLetter}
 use Rattle.rows.specs.declared.Which.{Which}
@@ -24,7 +26,7 @@ use Rattle.rows.specs.declared.Counted.{Counted}
 
 -- ---- refusals
 
--- the number of each: 02, wish 1
+-- the number of each: SCOPE 3.13, 7.1
 abbrev pub numberOf : Refusal → ℕ
 numberOf FieldCut = 26
 numberOf UnknownLetter = 27

@@ -1,11 +1,12 @@
--- What data say, byte by byte: the smallest data of each refusal, and of each message what is read. 02, wish 1.
+-- What data say, byte by byte: the smallest data of each refusal, and of each message what is read. SCOPE 3.13.
 use mathlib.Core.Path.{_≡_}
 use mathlib.Core.List.{List, [], _∷_, _++_}
 use Prim.Native.Nat.{ℕ}
 use Prim.Native.Char.{code}
 use lib.IntN.{negsuc}
 use Rattle.rows.specs.Layout.{got, refused}
-use Rattle.rows.specs.Rows.{null, unchanged, text, binary, described, relation, type, origin, insert, update, update-from, delete, truncate, row, no-row, refused-by, rowSaid}
+use Rattle.rows.specs.Rows.{null, unchanged, text, binary, described, relation, type, origin, insert, update, update-from, delete, truncate}
+use Rattle.rows.specs.Rows.{row, no-row, refused-by, rowSaid}
 use Rattle.rows.specs.Head.{head, relation-head, update-from-head, truncate-head, answerOf, columnAt, identifierAt}
 use Rattle.rows.specs.declared.Which.the-variants.{Key, Old}
 

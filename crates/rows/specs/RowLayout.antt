@@ -1,5 +1,5 @@
 -- Rows both ways: what is sent is read as what it says, whatever follows, and what is read was sent so; and what the readers of one column, one
--- description and one identifier answer from the places that a head names. Data are bytes. 02, wish 1.
+-- description and one identifier answer from the places that a head names. Data are bytes. SCOPE 3.13.
 use mathlib.Core.Path.{_≡_}
 use mathlib.Core.Bool.{true}
 use mathlib.Core.List.{List, [], _∷_, _++_}
@@ -11,7 +11,8 @@ use lib.Pow.{areBytes}
 use Rattle.wire.specs.Bytes.{at, beBytes}
 use Rattle.wire.specs.Find.{NoZero}
 use Rattle.rows.specs.Layout.{Read, got, All, allBytes}
-use Rattle.rows.specs.Rows.{Cell, null, unchanged, text, binary, Described, described, Row, relation, type, origin, insert, update, update-from, delete, truncate, cellBytes, describedBytes, rowBytes, row, refused-by, rowSaid}
+use Rattle.rows.specs.Rows.{Cell, null, unchanged, text, binary, Described, described, Row, relation, type, origin, insert, update, update-from}
+use Rattle.rows.specs.Rows.{delete, truncate, cellBytes, describedBytes, rowBytes, row, refused-by, rowSaid}
 use Rattle.rows.specs.Head.{columnAt, descriptionAt, identifierAt}
 
 -- ---- rows that can be sent: numbers of their widths, names without a zero byte, counts and lengths that are not negative

@@ -1,5 +1,5 @@
 -- The messages that carry rows: PostgreSQL documentation, "Logical Replication Message Formats" (Origin, Relation, Type, Insert, Update, Delete,
--- Truncate, TupleData), protocol version 1, where no message has a transaction's identifier in front. 02, wish 1.
+-- Truncate, TupleData), protocol version 1, where no message has a transaction's identifier in front. SCOPE 3.13.
 -- Each stands here twice: as the bytes that are sent, and as a layout that is read. That the two agree is proved.
 use mathlib.Core.Bool.{Bool, true, false}
 use mathlib.Core.List.{List, [], _∷_, _++_, map}
@@ -12,7 +12,8 @@ use lib.IntN.{ℤ}
 use lib.Dec.{eqb}
 use Rattle.wire.specs.Bytes.{pick, beBytes}
 use Rattle.wire.specs.Int.{intBytes}
-use Rattle.rows.specs.Layout.{Layout, Letters, number, integer, name, value, many, both, nothing, letter, or, no-other, Value, Read, got, refused, readAt, allBytes}
+use Rattle.rows.specs.Layout.{Layout, Letters, number, integer, name, value, many, both, nothing, letter, or, no-other, Value, Read, got}
+use Rattle.rows.specs.Layout.{refused, readAt, allBytes}
 use Rattle.rows.specs.declared.Which.{Which}
 use Rattle.rows.specs.declared.Which.the-variants.{Key, Old}
 

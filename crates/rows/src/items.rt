@@ -3,7 +3,8 @@ ghost use mathlib.Core.Path.{_≡_};
 ghost use Prim.Native.Nat.{_+_};
 ghost use lib.ListN.{length};
 ghost use Rattle.rows.specs.Layout.{name, value, readAt, mapped};
-ghost use Rattle.rows.specs.Head.{spanOf, told-text, told-binary, told-description, typedLayout, nameBy, bytesBy, cellAt, columnAt, columnBy, describedAt, descriptionAt, descriptionBy, identifierAt, identifierBy};
+ghost use Rattle.rows.specs.Head.{spanOf, told-text, told-binary, told-description, typedLayout, nameBy, bytesBy, cellAt, columnAt, columnBy};
+ghost use Rattle.rows.specs.Head.{describedAt, descriptionAt, descriptionBy, identifierAt, identifierBy};
 use crate::Bytes;
 use crate::Column;
 use crate::Description;
@@ -11,7 +12,6 @@ use crate::Identifier;
 use crate::Name;
 use crate::Part;
 use crate::Refusal;
-use wire::field::FIRST_NEGATIVE_32;
 use wire::field::I32Field;
 use wire::field::U8Field;
 use wire::field::U32Field;
@@ -28,19 +28,19 @@ pub(crate) fn name_at(bytes: &[u8], at: usize) -> Name
     Name::At(part, at + len + 1)
 }
 
-// A value's length and its bytes.
-fn bytes_at(bytes: &[u8], at: usize) -> Bytes
+// The longest value: a length from 2^31 on is negative.
+const LONGEST: usize = 2147483647;
+
+// A value's length and its bytes. The length is compared once and whole, so that its four bytes are loaded at once.
+pub(crate) fn bytes_at(bytes: &[u8], at: usize) -> Bytes
     ensures { λ r. ⌜ bytesBy r ≡ mapped (λ v. (at + 4, length v)) (readAt value (now (bytes .entry)) at) ⌝ }
 {
     let U32Field::Value(len) = wire::field::read_u32(bytes, at) else {
         return Bytes::Cut;
     };
-    if FIRST_NEGATIVE_32 <= len {
-        return Bytes::Cut;
-    }
     let from = at + 4;
     let n = len as usize;
-    if bytes.len() - from < n {
+    if wire::store::least(bytes.len() - from, LONGEST) < n {
         return Bytes::Cut;
     }
     let part = Part { from, len: n };

@@ -1,8 +1,10 @@
 // The messages, each by its fields after its letter, which stands at place 0.
 ghost use mathlib.Core.Path.{_≡_};
 ghost use Rattle.rows.specs.Layout.{readAt};
-ghost use Rattle.rows.specs.Rows.{relationLayout, typeLayout, originLayout, insertLayout, updateLayout, deleteLayout, truncateLayout, oldNewLayout, relationOf, typeOf, originOf, insertOf, updateOf, deleteOf, truncateOf, oldNewOf};
-ghost use Rattle.rows.specs.Head.{spanOf, tupleOf, headTold, headOf, answerBy, countedBy, endBy, relation-head, insert-head, update-head, update-from-head, delete-head, truncate-head};
+ghost use Rattle.rows.specs.Rows.{relationLayout, typeLayout, originLayout, insertLayout, updateLayout, deleteLayout, truncateLayout};
+ghost use Rattle.rows.specs.Rows.{oldNewLayout, relationOf, typeOf, originOf, insertOf, updateOf, deleteOf, truncateOf, oldNewOf};
+ghost use Rattle.rows.specs.Head.{spanOf, tupleOf, headTold, headOf, answerBy, countedBy, endBy, relation-head, insert-head, update-head};
+ghost use Rattle.rows.specs.Head.{update-from-head, delete-head, truncate-head};
 use crate::Counted;
 use crate::End;
 use crate::Item;

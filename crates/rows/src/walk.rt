@@ -3,9 +3,9 @@ ghost use mathlib.Core.Path.{_≡_};
 ghost use Prim.Native.Nat.{_+_};
 ghost use lib.ListN.{length};
 ghost use Rattle.rows.specs.Layout.{many, nothing, readAt, timesAt, mapped};
-ghost use Rattle.rows.specs.Rows.{newLayout, newOf};
-ghost use Rattle.rows.specs.Head.{columnBy, descriptionBy, identifierBy, layoutOf, tupleOf, endBy, countedBy};
-use crate::Column;
+ghost use Rattle.rows.specs.Rows.{columnLayout, newLayout, newOf};
+ghost use Rattle.rows.specs.Head.{bytesBy, descriptionBy, identifierBy, layoutOf, tupleOf, endBy, countedBy};
+use crate::Bytes;
 use crate::Counted;
 use crate::Description;
 use crate::End;
@@ -18,17 +18,37 @@ use wire::field::FIRST_NEGATIVE_16;
 use wire::field::U8Field;
 use wire::field::U16Field;
 
-// The place after a column.
-fn after_column(c: Column) -> End
-    ensures { λ r. ⌜ endBy r ≡ mapped (λ v. tt) (columnBy c) ⌝ }
+// The place after a value.
+fn after_bytes(b: Bytes) -> End
+    ensures { λ r. ⌜ endBy r ≡ mapped (λ v. tt) (bytesBy b) ⌝ }
 {
-    match c {
-        Column::Null(next) => End::At(next),
-        Column::Unchanged(next) => End::At(next),
-        Column::Text(_, next) => End::At(next),
-        Column::Binary(_, next) => End::At(next),
-        Column::Refused(r) => End::Refused(r),
+    match b {
+        Bytes::At(_, next) => End::At(next),
+        Bytes::Cut => End::Refused(Refusal::FieldCut),
     }
+}
+
+// The place after a column. It is passed without telling what it is: of a row's time most goes here.
+fn after_column(bytes: &[u8], at: usize) -> End
+    ensures { λ r. ⌜ endBy r ≡ mapped (λ v. tt) (readAt columnLayout (now (bytes .entry)) at) ⌝ }
+{
+    let U8Field::Value(letter) = wire::field::read_u8(bytes, at) else {
+        return End::Refused(Refusal::FieldCut);
+    };
+    let from = at + 1;
+    if letter == b'n' {
+        return End::At(from);
+    }
+    if letter == b'u' {
+        return End::At(from);
+    }
+    if letter == b't' {
+        return after_bytes(items::bytes_at(bytes, from));
+    }
+    if letter == b'b' {
+        return after_bytes(items::bytes_at(bytes, from));
+    }
+    End::Refused(Refusal::UnknownLetter)
 }
 
 // The place after a description.
@@ -62,7 +82,7 @@ fn after_one(bytes: &[u8], at: usize, kind: Item) -> End
     ensures { λ r. ⌜ endBy r ≡ mapped (λ v. tt) (readAt (layoutOf kind) (now (bytes .entry)) at) ⌝ }
 {
     match kind {
-        Item::Column => after_column(items::column_at(bytes, at)),
+        Item::Column => after_column(bytes, at),
         Item::Description => after_description(items::description_at(bytes, at)),
         Item::Identifier => after_identifier(items::identifier_at(bytes, at)),
     }

@@ -8,7 +8,8 @@ use Rattle.changes.proofs.run.Statement.{statement}
 use Rattle.changes.proofs.run.Tie as tie
 
 abbrev Inv-loop : tie.InvT-loop
-Inv-loop head₀ input₀ line₀ records₀ head input line records = (length head ≡ length head₀) × (length input ≡ length input₀) × (length line ≡ length line₀)
+Inv-loop head₀ input₀ line₀ records₀ head input line records = (length head ≡ length head₀) × (length input ≡ length input₀) ×
+    (length line ≡ length line₀)
 
 abbrev μ-loop : tie.MeasureT-loop
 μ-loop head₀ input₀ line₀ records₀ head input line records = records

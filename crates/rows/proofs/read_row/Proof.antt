@@ -1,6 +1,7 @@
 -- By the first letter: what the message says is what the data say.
 use mathlib.Core.Path.{sym, _∙_}
-use Rattle.rows.proofs.Letters.{no-data, boundary, relation-row, type-row, origin-row, insert-row, update-row, delete-row, truncate-row, other-letter}
+use Rattle.rows.proofs.Letters.{no-data, boundary, relation-row, type-row, origin-row, insert-row, update-row, delete-row, truncate-row}
+use Rattle.rows.proofs.Letters.{other-letter}
 use borrow.Author.Needs.{needs}
 use Rattle.rows.proofs.read_row.Statement.{statement}
 use Rattle.rows.proofs.read_row.Tie as tie

@@ -5,7 +5,7 @@ use Prim.Native.Nat.{_+_, _≤_}
 use lib.ListN.{length}
 use Rattle.wire.specs.Field.{fieldAt, u32Of}
 use Rattle.wire.proofs.FieldLaws.{told as said, field-within}
-use Rattle.rows.proofs.Steps.{value-cut, value-negative, value-short, value-whole}
+use Rattle.rows.proofs.Steps.{value-cut, value-over, value-fits}
 use native.Mathlib.Omega.{arith}
 use borrow.Author.Needs.{needs}
 use Rattle.rows.proofs.items.bytes_at.Statement.{statement}
@@ -25,34 +25,28 @@ returns c =
     let a = c .before .before .before .before .args in
     sym (value-cut (a .bytes .now) (a .at) (said u32Of (c .before .before .read-u32 .ensures) (c .enum-told .given .1)))
 
+add-from : tie.Need-add-from
+add-from c = omega (arith, within c)
+
+sub-least : tie.Need-sub-least
+sub-least c = omega (arith, within c)
+
 returns-2 : tie.Need-returns-2
 returns-2 c =
-    let k = c .before in
+    let k = c .before .before in
     let a = start k .args in
-    sym (value-negative (a .bytes .now) (a .at) (k .before .len .given .0 .0) (length-read k) (c .if1 .taken))
+    sym (value-over (a .bytes .now) (a .at) (k .before .len .given .0 .0) _ (length-read k) (c .before .least .ensures) (c .if1 .taken))
 
-add-from : tie.Need-add-from
-add-from c = omega (arith, within (c .before))
-
-sub-if2 : tie.Need-sub-if2
-sub-if2 c = omega (arith, within (c .before))
+add-t8 : tie.Need-add-t8
+add-t8 c = omega (arith, within (c .before .before), c .before .least .ensures, c .if1 .left)
 
 returns-3 : tie.Need-returns-3
 returns-3 c =
     let k = c .before .before in
     let a = start k .args in
-    sym (value-short (a .bytes .now) (a .at) (k .before .len .given .0 .0) (length-read k) (c .before .if1 .left) (c .if2 .taken))
-
-add-t9 : tie.Need-add-t9
-add-t9 c = omega (arith, within (c .before .before))
-
-returns-4 : tie.Need-returns-4
-returns-4 c =
-    let k = c .before .before in
-    let a = start k .args in
-    sym (value-whole (a .bytes .now) (a .at) (k .before .len .given .0 .0) (length-read k) (c .before .if1 .left) (c .if2 .left))
+    sym (value-fits (a .bytes .now) (a .at) (k .before .len .given .0 .0) _ (length-read k) (c .before .least .ensures) (c .if1 .left))
 
 pub bytes-at-spec : {M : Type 1} → statement M
 bytes-at-spec =
     tie.close
-    (tie.spec (search needs) (search needs) (search needs) returns returns-2 add-from (search needs) sub-if2 returns-3 add-t9 returns-4)
+    (tie.spec (search needs) (search needs) (search needs) returns add-from (search needs) sub-least (search needs) returns-2 add-t8 returns-3)

@@ -41,21 +41,24 @@ returns-4 : tie.Need-returns-4
 returns-4 c =
     let k = c .before .before .before .before .before in
     let a = start k .args in
-    sym (column-text (a .bytes .now) (a .at) _ (letter-read k) (c .before .before .before .before .if1 .left) (c .before .before .before .if2 .left) (c .before .before .if3 .taken)
+    sym (column-text (a .bytes .now) (a .at) _ (letter-read k) (c .before .before .before .before .if1 .left) (c .before .before .before .if2 .left)
+    (c .before .before .if3 .taken)
     (c .before .bytes-at .ensures) (c .text-of .ensures))
 
 returns-5 : tie.Need-returns-5
 returns-5 c =
     let k = c .before .before .before .before .before .before in
     let a = start k .args in
-    sym (column-binary (a .bytes .now) (a .at) _ (letter-read k) (c .before .before .before .before .before .if1 .left) (c .before .before .before .before .if2 .left)
+    sym (column-binary (a .bytes .now) (a .at) _ (letter-read k) (c .before .before .before .before .before .if1 .left)
+    (c .before .before .before .before .if2 .left)
     (c .before .before .before .if3 .left) (c .before .before .if4 .taken) (c .before .bytes-at2 .ensures) (c .binary-of .ensures))
 
 returns-6 : tie.Need-returns-6
 returns-6 c =
     let k = c .before .before .before .before in
     let a = start k .args in
-    sym (column-wrong (a .bytes .now) (a .at) _ (letter-read k) (c .before .before .before .if1 .left) (c .before .before .if2 .left) (c .before .if3 .left) (c .if4 .left))
+    sym (column-wrong (a .bytes .now) (a .at) _ (letter-read k) (c .before .before .before .if1 .left) (c .before .before .if2 .left)
+    (c .before .if3 .left) (c .if4 .left))
 
 pub column-at-spec : {M : Type 1} → statement M
 column-at-spec =

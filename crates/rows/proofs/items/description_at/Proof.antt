@@ -37,7 +37,8 @@ returns-3 : tie.Need-returns-3
 returns-3 c =
     let k = c .before .before .before .before .before in
     let a = start k .args in
-    sym (described-typed (a .bytes .now) (a .at) _ (flags-read k) (rw (c .before .before .name .given .1) at (c .before .before .before .before .name-at .ensures)) (c .typed .ensures))
+    sym (described-typed (a .bytes .now) (a .at) _ (flags-read k)
+    (rw (c .before .before .name .given .1) at (c .before .before .before .before .name-at .ensures)) (c .typed .ensures))
 
 pub description-at-spec : {M : Type 1} → statement M
 description-at-spec =

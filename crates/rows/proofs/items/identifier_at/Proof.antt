@@ -19,7 +19,8 @@ add-t6 c = omega (arith, field-within 4 _ _ _ (said u32Of (c .before .before .be
 returns-2 : tie.Need-returns-2
 returns-2 c =
     let a = c .before .before .before .before .before .args in
-    sym (number-got (a .bytes .now) (a .at) 4 (c .before .id .given .0 .0) (said u32Of (c .before .before .before .read-u32 .ensures) (c .before .id .given .1)))
+    sym (number-got (a .bytes .now) (a .at) 4 (c .before .id .given .0 .0)
+    (said u32Of (c .before .before .before .read-u32 .ensures) (c .before .id .given .1)))
 
 pub identifier-at-spec : {M : Type 1} → statement M
 identifier-at-spec = tie.close (tie.spec (search needs) (search needs) (search needs) returns add-t6 returns-2)

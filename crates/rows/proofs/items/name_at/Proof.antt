@@ -11,7 +11,8 @@ use borrow.Author.Needs.{needs}
 use Rattle.rows.proofs.items.name_at.Statement.{statement}
 use Rattle.rows.proofs.items.name_at.Tie as tie
 
-zero-found : (c : tie.After-known-told) → let a = c .before .before .before .before .before .args in indexOf 0 (drop (a .at) (a .bytes .now)) ≡ some (c .before .len .given .0 .0)
+zero-found : (c : tie.After-known-told) → let a = c .before .before .before .before .before .args in indexOf 0 (drop (a .at) (a .bytes .now)) ≡ some
+    (c .before .len .given .0 .0)
 zero-found c =
     let a = c .before .before .before .before .before .args in
     rw (skipped-none (a .bytes .now) (a .at)) at (said foundOf (c .before .before .before .zero-after .ensures) (c .before .len .given .1))

@@ -21,7 +21,8 @@ start c = c .before .before .before .before .before
 type-read : (c : tie.After-known-told) → let a = start c .args in fieldAt 4 (a .bytes .now) (a .at) ≡ some (c .before .oid .given .0 .0)
 type-read c = said u32Of (c .before .before .before .read-u32 .ensures) (c .before .oid .given .1)
 
-type-got : (c : tie.After-known-told) → let a = start c .args in readAt (number 4) (a .bytes .now) (a .at) ≡ got (c .before .oid .given .0 .0) (a .at + 4)
+type-got : (c : tie.After-known-told) → let a = start c .args in readAt (number 4) (a .bytes .now) (a .at) ≡ got (c .before .oid .given .0 .0)
+    (a .at + 4)
 type-got c = let a = start c .args in number-got (a .bytes .now) (a .at) 4 _ (type-read c)
 
 returns : tie.Need-returns
@@ -56,4 +57,5 @@ returns-3 c =
 pub typed-spec : {M : Type 1} → statement M
 typed-spec =
     tie.close
-    (tie.spec (search needs) (search needs) (search needs) returns add-read-i32 (search needs) (search needs) (search needs) returns-2 add-t10 returns-3)
+    (tie.spec (search needs) (search needs) (search needs) returns add-read-i32 (search needs) (search needs) (search needs) returns-2 add-t10
+    returns-3)

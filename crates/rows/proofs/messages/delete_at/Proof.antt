@@ -31,19 +31,22 @@ returns-2 : tie.Need-returns-2
 returns-2 c =
     let k = c .before .before .before in
     let a = start k .args in
-    letter-missing (a .bytes .now) _ (relation-read k) _ (λ v. headOf (deleteOf v)) (said u8Of (c .before .before .read-u8 .ensures) (c .enum-told2 .given .1))
+    letter-missing (a .bytes .now) _ (relation-read k) _ (λ v. headOf (deleteOf v))
+    (said u8Of (c .before .before .read-u8 .ensures) (c .enum-told2 .given .1))
 
 returns-3 : tie.Need-returns-3
 returns-3 c =
     let k = c .before .before .before in
     let r = relation-before k in
-    delete-key (start r .args .bytes .now) _ (relation-read r) _ (letter-read k) (c .before .counted-at .ensures) (c .before .before .if1 .taken) (c .deleted .ensures)
+    delete-key (start r .args .bytes .now) _ (relation-read r) _ (letter-read k) (c .before .counted-at .ensures) (c .before .before .if1 .taken)
+    (c .deleted .ensures)
 
 returns-4 : tie.Need-returns-4
 returns-4 c =
     let k = c .before .before .before .before in
     let r = relation-before k in
-    delete-old (start r .args .bytes .now) _ (relation-read r) _ (letter-read k) (c .before .counted-at2 .ensures) (c .before .before .before .if1 .left) (c .before .before .if2 .taken) (c .deleted2 .ensures)
+    delete-old (start r .args .bytes .now) _ (relation-read r) _ (letter-read k) (c .before .counted-at2 .ensures)
+    (c .before .before .before .if1 .left) (c .before .before .if2 .taken) (c .deleted2 .ensures)
 
 returns-5 : tie.Need-returns-5
 returns-5 c =
@@ -54,4 +57,5 @@ returns-5 c =
 pub delete-at-spec : {M : Type 1} → statement M
 delete-at-spec =
     tie.close
-    (tie.spec (search needs) (search needs) (search needs) returns (search needs) (search needs) (search needs) returns-2 (search needs) (search needs) returns-3 (search needs) (search needs) returns-4 returns-5)
+    (tie.spec (search needs) (search needs) (search needs) returns (search needs) (search needs) (search needs) returns-2 (search needs)
+    (search needs) returns-3 (search needs) (search needs) returns-4 returns-5)

@@ -26,7 +26,8 @@ returns-2 : tie.Need-returns-2
 returns-2 c =
     let k = c .before .before .before in
     let a = start k .args in
-    last-missing (a .bytes .now) 8 _ (position-read k) (λ v. headOf (originOf v)) (rw (c .enum-told2 .given .1) at (c .before .before .name-at .ensures))
+    last-missing (a .bytes .now) 8 _ (position-read k) (λ v. headOf (originOf v))
+    (rw (c .enum-told2 .given .1) at (c .before .before .name-at .ensures))
 
 returns-3 : tie.Need-returns-3
 returns-3 c =

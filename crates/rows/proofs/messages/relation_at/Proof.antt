@@ -35,15 +35,19 @@ returns-3 : tie.Need-returns-3
 returns-3 c =
     let k = c .before .before .before .before .before .before .before in
     let a = start k .args in
-    second-missing (a .bytes .now) _ (id-read k) (rw (c .before .before .before .before .namespace .given .1) at (c .before .before .before .before .before .before .name-at .ensures))
-    (both (number 1) (many 2 nothing describedLayout)) (λ v. headOf (relationOf v)) (rw (c .enum-told3 .given .1) at (c .before .before .name-at2 .ensures))
+    second-missing (a .bytes .now) _ (id-read k) (rw (c .before .before .before .before .namespace .given .1) at
+    (c .before .before .before .before .before .before .name-at .ensures))
+    (both (number 1) (many 2 nothing describedLayout)) (λ v. headOf (relationOf v))
+    (rw (c .enum-told3 .given .1) at (c .before .before .name-at2 .ensures))
 
 returns-4 : tie.Need-returns-4
 returns-4 c =
     let k = c .before .before .before .before .before .before .before .before .before .before .before in
     let a = start k .args in
-    identity-missing (a .bytes .now) _ (id-read k) (rw (c .before .before .before .before .before .before .before .before .namespace .given .1) at (c .before .before .before .before .before .before .before .before .before .before .name-at .ensures))
-    (rw (c .before .before .before .before .name .given .1) at (c .before .before .before .before .before .before .name-at2 .ensures)) (said u8Of (c .before .before .read-u8 .ensures) (c .enum-told4 .given .1))
+    identity-missing (a .bytes .now) _ (id-read k) (rw (c .before .before .before .before .before .before .before .before .namespace .given .1) at
+    (c .before .before .before .before .before .before .before .before .before .before .name-at .ensures))
+    (rw (c .before .before .before .before .name .given .1) at (c .before .before .before .before .before .before .name-at2 .ensures))
+    (said u8Of (c .before .before .read-u8 .ensures) (c .enum-told4 .given .1))
 
 add-counted-at : tie.Need-add-counted-at
 add-counted-at c = omega (arith, field-within 1 _ _ _ (said u8Of (c .before .before .before .read-u8 .ensures) (c .before .identity .given .1)))
@@ -52,12 +56,17 @@ returns-5 : tie.Need-returns-5
 returns-5 c =
     let k = c .before .before .before .before .before .before .before .before .before .before .before .before .before .before in
     let a = start k .args in
-    relation-whole (a .bytes .now) _ (id-read k) (rw (c .before .before .before .before .before .before .before .before .before .before .before .namespace .given .1) at (c .before .before .before .before .before .before .before .before .before .before .before .before .before .name-at .ensures))
-    (rw (c .before .before .before .before .before .before .before .name .given .1) at (c .before .before .before .before .before .before .before .before .before .name-at2 .ensures)) _ (said u8Of (c .before .before .before .before .before .read-u8 .ensures) (c .before .before .before .identity .given .1))
+    relation-whole (a .bytes .now) _ (id-read k) (rw (c .before .before .before .before .before .before .before .before .before .before .before
+    .namespace .given .1) at (c .before .before .before .before .before .before .before .before .before .before .before .before .before .name-at
+    .ensures))
+    (rw (c .before .before .before .before .before .before .before .name .given .1) at
+    (c .before .before .before .before .before .before .before .before .before .name-at2 .ensures)) _
+    (said u8Of (c .before .before .before .before .before .read-u8 .ensures) (c .before .before .before .identity .given .1))
     (c .before .counted-at .ensures) (c .related .ensures)
 
 pub relation-at-spec : {M : Type 1} → statement M
 relation-at-spec =
     tie.close
-    (tie.spec (search needs) (search needs) (search needs) returns (search needs) (search needs) (search needs) returns-2 (search needs) (search needs) (search needs) returns-3
+    (tie.spec (search needs) (search needs) (search needs) returns (search needs) (search needs) (search needs) returns-2 (search needs)
+    (search needs) (search needs) returns-3
     (search needs) (search needs) (search needs) returns-4 add-counted-at (search needs) (search needs) returns-5)

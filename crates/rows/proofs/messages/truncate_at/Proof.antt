@@ -27,15 +27,18 @@ returns-2 c =
 returns-3 : tie.Need-returns-3
 returns-3 c =
     let k = c .before .before .before .before in
-    options-missing (start k .args .bytes .now) _ (count-read k) (c .before .before .before .if1 .left) (said u8Of (c .before .before .read-u8 .ensures) (c .enum-told2 .given .1))
+    options-missing (start k .args .bytes .now) _ (count-read k) (c .before .before .before .if1 .left)
+    (said u8Of (c .before .before .read-u8 .ensures) (c .enum-told2 .given .1))
 
 returns-4 : tie.Need-returns-4
 returns-4 c =
     let k = c .before .before .before .before .before .before .before in
-    truncate-whole (start k .args .bytes .now) _ (count-read k) (c .before .before .before .before .before .before .if1 .left) _ (said u8Of (c .before .before .before .before .before .read-u8 .ensures) (c .before .before .before .options .given .1))
+    truncate-whole (start k .args .bytes .now) _ (count-read k) (c .before .before .before .before .before .before .if1 .left) _
+    (said u8Of (c .before .before .before .before .before .read-u8 .ensures) (c .before .before .before .options .given .1))
     (c .before .after-all .ensures) (c .truncated .ensures)
 
 pub truncate-at-spec : {M : Type 1} → statement M
 truncate-at-spec =
     tie.close
-    (tie.spec (search needs) (search needs) (search needs) returns returns-2 (search needs) (search needs) (search needs) returns-3 (search needs) (search needs) (search needs) returns-4)
+    (tie.spec (search needs) (search needs) (search needs) returns returns-2 (search needs) (search needs) (search needs) returns-3 (search needs)
+    (search needs) (search needs) returns-4)

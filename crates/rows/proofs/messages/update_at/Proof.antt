@@ -31,7 +31,8 @@ returns-2 : tie.Need-returns-2
 returns-2 c =
     let k = c .before .before .before in
     let a = start k .args in
-    letter-missing (a .bytes .now) _ (relation-read k) _ (λ v. headOf (updateOf v)) (said u8Of (c .before .before .read-u8 .ensures) (c .enum-told2 .given .1))
+    letter-missing (a .bytes .now) _ (relation-read k) _ (λ v. headOf (updateOf v))
+    (said u8Of (c .before .before .read-u8 .ensures) (c .enum-told2 .given .1))
 
 returns-3 : tie.Need-returns-3
 returns-3 c =
@@ -43,23 +44,27 @@ returns-4 : tie.Need-returns-4
 returns-4 c =
     let k = c .before .before .before in
     let r = relation-before k in
-    update-old (start r .args .bytes .now) _ (relation-read r) _ (letter-read k) (c .before .before .if1 .left) (c .before .if2 .taken) (c .updated-from2 .ensures)
+    update-old (start r .args .bytes .now) _ (relation-read r) _ (letter-read k) (c .before .before .if1 .left) (c .before .if2 .taken)
+    (c .updated-from2 .ensures)
 
 returns-5 : tie.Need-returns-5
 returns-5 c =
     let k = c .before .before .before .before .before in
     let r = relation-before k in
-    update-new (start r .args .bytes .now) _ (relation-read r) _ (letter-read k) (c .before .before .before .before .if1 .left) (c .before .before .before .if2 .left) (c .before .before .if3 .taken)
+    update-new (start r .args .bytes .now) _ (relation-read r) _ (letter-read k) (c .before .before .before .before .if1 .left)
+    (c .before .before .before .if2 .left) (c .before .before .if3 .taken)
     (c .before .counted-at .ensures) (c .updated .ensures)
 
 returns-6 : tie.Need-returns-6
 returns-6 c =
     let k = c .before .before .before in
     let r = relation-before k in
-    update-wrong (start r .args .bytes .now) _ (relation-read r) _ (letter-read k) (c .before .before .if1 .left) (c .before .if2 .left) (c .if3 .left)
+    update-wrong (start r .args .bytes .now) _ (relation-read r) _ (letter-read k) (c .before .before .if1 .left) (c .before .if2 .left)
+    (c .if3 .left)
 
 pub update-at-spec : {M : Type 1} → statement M
 update-at-spec =
     tie.close
-    (tie.spec (search needs) (search needs) (search needs) returns (search needs) (search needs) (search needs) returns-2 (search needs) returns-3 (search needs) returns-4
+    (tie.spec (search needs) (search needs) (search needs) returns (search needs) (search needs) (search needs) returns-2 (search needs) returns-3
+    (search needs) returns-4
     (search needs) (search needs) returns-5 returns-6)

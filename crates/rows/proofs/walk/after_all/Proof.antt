@@ -36,8 +36,11 @@ loop-again c =
     let o = c .before .before .before in
     let l = o .before .before in
     let a = l .before .before .args in
-    let e = rw (c .before .e .given .1) at (o .after-one .ensures) in
-    (omega arith, l .loop .inv .1 ∙ walk-next (λ q. readAt (layoutOf (a .kind)) (a .bytes .now) q) (a .n) (l .loop .k) (l .loop .at) _ (omega arith) e)
+    let e = rw (c .before .e .given .1) at (o .after-one .ensures) in (
+      omega arith,
+      l .loop .inv .1 ∙ walk-next (λ q. readAt (layoutOf (a .kind)) (a .bytes .now) q) (a .n) (l .loop .k) (l .loop .at) _ (omega arith)
+          e,
+    )
 
 returns-2 : tie.Need-returns-2 Inv-loop μ-loop
 returns-2 c =

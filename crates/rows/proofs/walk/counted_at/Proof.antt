@@ -34,7 +34,8 @@ returns-3 : tie.Need-returns-3
 returns-3 c =
     let k = c .before .before .before in
     let a = start k .args in
-    counted-whole (a .bytes .now) (a .at) (layoutOf (a .kind)) _ (count-read k) (c .before .before .if1 .left) (c .before .after-all .ensures) (c .counted-to .ensures)
+    counted-whole (a .bytes .now) (a .at) (layoutOf (a .kind)) _ (count-read k) (c .before .before .if1 .left) (c .before .after-all .ensures)
+    (c .counted-to .ensures)
 
 pub counted-at-spec : {M : Type 1} → statement M
 counted-at-spec =
