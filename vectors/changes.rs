@@ -5,6 +5,7 @@
 
 #[allow(dead_code)]
 mod shared;
+mod touched;
 
 use shared::{display, Draw};
 use std::fmt::Write as _;
@@ -414,6 +415,10 @@ fn main() {
     streams(&mut v);
     mixed(&mut v);
     println!("i: {} rows, {} no row, {} with 26, {} with 27", v.rows, v.none, v.refused[0], v.refused[1]);
+    let j = touched::records();
+    println!("j: {} lists, {} events, {} with 31", j.records, j.events, j.refused);
+    v.input.extend(&j.input);
+    v.lines.push_str(&j.lines);
     // malformed: no such kind
     v.input.extend([b'?', 0, 0, 0, 0, 0, 0, 0, 0, 0]);
     v.lines.push_str("BAD\n");

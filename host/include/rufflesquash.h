@@ -25,7 +25,7 @@ extern "C" {
 #endif
 
 /* The number of this list and of the functions; it grows with every change of either. */
-#define RUFFLESQUASH_ABI 7
+#define RUFFLESQUASH_ABI 8
 
 /* Settings: intervals are nanoseconds, a flag is true unless 0. */
 #define RUFFLESQUASH_SETTINGS_WORDS 7
@@ -476,6 +476,20 @@ uint64_t rufflesquash_row_description(const uint8_t *data, size_t data_len, size
 
 /* The relation of a Truncate at a place, likewise. Words: the refusal (26); its identifier. */
 uint64_t rufflesquash_row_identifier(const uint8_t *data, size_t data_len, size_t at, uint64_t identifier[RUFFLESQUASH_IDENTIFIER_WORDS]);
+
+/* ---- which of the four files a transaction touched */
+
+/* Takes the answer of a step and the payload buffer that was lent to it, for every step in order. A BEGIN clears all bits; an XLOG_DATA that is an
+ * Insert, Update, Delete or Truncate sets the bit of the file of every relation that it names; all else leaves them, so that at a COMMIT they are its
+ * transaction's. Bit n of touched stands for file n; set it to 0 at first and hand it in as the last call left it. Bits above the four are not read,
+ * and are 0 afterwards.
+ * The list: identifiers of relations and their files, 0 to 3, in two arrays of which the shorter length holds. A relation outside it touches no file,
+ * of a repeated one the first entry holds, entries past the sixty-fourth are not read. A row that is cut short, or that has a letter which the
+ * protocol does not list, touches nothing. Answers the refusal: 31 where one of the first 64 entries has a file above 3, whatever the event is, and
+ * then touched is as it was. */
+uint64_t rufflesquash_touched(const uint32_t *identifiers, size_t identifiers_len, const uint64_t *files, size_t files_len,
+                              const uint64_t answer[RUFFLESQUASH_ANSWER_WORDS], const uint8_t *payload, size_t payload_len,
+                              uint64_t *touched);
 
 #ifdef __cplusplus
 }

@@ -8,7 +8,7 @@
 #![allow(dead_code)]
 
 // ---- the number of this list and of the functions; it grows with every change of either
-pub const ABI: u64 = 7;
+pub const ABI: u64 = 8;
 
 // ---- settings: intervals are nanoseconds, a flag is true unless 0
 pub const SETTINGS_WORDS: usize = 7;
@@ -432,6 +432,17 @@ extern "C" {
     pub fn rufflesquash_row_description(data: *const u8, data_len: usize, at: usize, description: *mut [u64; DESCRIPTION_WORDS]) -> u64;
 
     pub fn rufflesquash_row_identifier(data: *const u8, data_len: usize, at: usize, identifier: *mut [u64; IDENTIFIER_WORDS]) -> u64;
+
+    pub fn rufflesquash_touched(
+        identifiers: *const u32,
+        identifiers_len: usize,
+        files: *const u64,
+        files_len: usize,
+        answer: *const [u64; ANSWER_WORDS],
+        payload: *const u8,
+        payload_len: usize,
+        touched: *mut u64,
+    ) -> u64;
 }
 
 // ---- safe functions
@@ -794,4 +805,15 @@ pub fn row_identifier(data: &[u8], at: usize) -> (u64, [u64; IDENTIFIER_WORDS]) 
     // SAFETY: the slice is lent whole, and the array has the length that the function names.
     let next = unsafe { rufflesquash_row_identifier(data.as_ptr(), data.len(), at, &mut identifier) };
     (next, identifier)
+}
+
+// ---- the files that a transaction touched
+
+/// The refusal's number; the bits change unless it is refused.
+pub fn touched(identifiers: &[u32], files: &[u64], answer: &[u64; ANSWER_WORDS], payload: &[u8], bits: &mut u64) -> u64 {
+    // SAFETY: every slice is lent whole, the array has the length that the function names, and nothing overlaps the bits.
+    unsafe {
+        let (at, len) = (payload.as_ptr(), payload.len());
+        rufflesquash_touched(identifiers.as_ptr(), identifiers.len(), files.as_ptr(), files.len(), answer, at, len, bits)
+    }
 }

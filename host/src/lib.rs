@@ -43,6 +43,7 @@ mod refusal;
 pub mod rows;
 mod run;
 mod startup;
+mod touched;
 mod types;
 
 pub use archive::{check_archive, WrongArchive};
@@ -51,6 +52,7 @@ pub use messages::{write_copy_done, write_query, write_startup, write_status, wr
 pub use refusal::{Kind, Refusal};
 pub use run::Run;
 pub use startup::{error_field, AuthRequest, Column, DataRow, ErrorField, Message, MessageReader, Query, QueryAnswer, Read};
+pub use touched::{Files, Touched};
 pub use types::{Event, Input, LastStatus, Lsn, Metrics, Moment, NextStep, Queue, Settings, State, Step};
 
 /// The shortest output that a step takes, in bytes.

@@ -41,11 +41,13 @@ fn let_in(client: &mut TcpStream) -> String {
     client.write_all(&message(b'Z', b"I")).unwrap();
     let (tag, mut query) = receive(client, false);
     assert_eq!(tag, b'Q');
-    // The first connection asks which publications there are.
-    if query.starts_with(b"SELECT pubname") {
-        client.write_all(&message(b'D', &row(&[Some(b"P")]))).unwrap();
-        client.write_all(&message(b'Z', b"I")).unwrap();
-        query = receive(client, false).1;
+    // The first connection asks which publications there are, and which tables they have.
+    for (asked, answer) in [(&b"SELECT pubname"[..], &b"P"[..]), (b"SELECT DISTINCT c.oid", b"77 a.b")] {
+        if query.starts_with(asked) {
+            client.write_all(&message(b'D', &row(&[Some(answer)]))).unwrap();
+            client.write_all(&message(b'Z', b"I")).unwrap();
+            query = receive(client, false).1;
+        }
     }
     client.write_all(&message(b'W', &[0; 3])).unwrap();
     String::from_utf8(query).unwrap()
@@ -108,6 +110,73 @@ fn a_cut_and_the_last_confirmation() {
     let rest = ["begin", "data", "commit", "keepalive", "begin", "data", "commit", "stopped"];
     assert_eq!(kinds, [&cut[..], &rest[..]].concat());
     assert_eq!(output.status.code(), Some(0));
+}
+
+// A transaction that inserts a row of no columns.
+fn insert_into(at: u64, relation: u8) -> Vec<u8> {
+    let mut bytes = xlog_data(at, at, 0, &begin(at, 0, 1));
+    bytes.extend(xlog_data(at, at, 0, &[b'I', 0, 0, 0, relation, b'N', 0, 0]));
+    bytes.extend(xlog_data(at, at, 0, &commit(at, at + 8, 0)));
+    bytes
+}
+
+#[test]
+fn a_commit_tells_its_files_also_after_a_cut() {
+    for table in ["a.b=2", "77=2"] {
+        let (port, server) = serve(|listener| {
+            let (mut client, _) = listener.accept().unwrap();
+            let_in(&mut client);
+            client.write_all(&insert_into(0x100, 77)).unwrap();
+            // Cut after the row: the transaction comes again whole, and this time it is another one.
+            let cut = insert_into(0x200, 77);
+            client.write_all(&cut[..cut.len() - 3]).unwrap();
+            drop(client);
+            let (mut client, _) = listener.accept().unwrap();
+            let_in(&mut client);
+            client.write_all(&insert_into(0x200, 78)).unwrap();
+            client.write_all(&insert_into(0x300, 77)).unwrap();
+            statuses(&mut client)
+        });
+        let output = follow(port, &["--json", "--file", table, "--endpos", "0/308"]);
+        assert_eq!(server.join().unwrap().last(), Some(&0x308));
+        let text = String::from_utf8(output.stdout).unwrap();
+        let commits = text.lines().filter(|line| line.contains(r#""event":"commit""#));
+        let files: Vec<&str> = commits.map(|line| line.split_once(r#""files":"#).unwrap().1).collect();
+        assert_eq!((files, output.status.code()), (vec!["[2]}", "[]}", "[2]}"], Some(0)));
+    }
+}
+
+#[test]
+fn a_list_of_files_that_is_wrong_is_told_before_anything_is_followed() {
+    for (tables, status, part) in [
+        (&["a.b=4"][..], 2, "a number from 0 to 3"),
+        (&["a.c=1"], 1, "--file a.c=1: no publication that is followed"),
+        (&["78=1"], 1, "--file 78=1: no publication that is followed"),
+        (&["a.b=1", "77=1"], 1, "--file 77=1: a.b (OID 77) has its file already"),
+    ] {
+        let (port, server) = serve(move |listener| {
+            if status == 1 {
+                let (mut client, _) = listener.accept().unwrap();
+                receive(&mut client, true);
+                client.write_all(&message(b'R', &[0; 4])).unwrap();
+                for answer in [&b""[..], b"P", b"77 a.b"] {
+                    if !answer.is_empty() {
+                        receive(&mut client, false);
+                        client.write_all(&message(b'D', &row(&[Some(answer)]))).unwrap();
+                    }
+                    client.write_all(&message(b'Z', b"I")).unwrap();
+                }
+                // Nothing more is asked for: no slot is made.
+                assert_eq!(client.read(&mut [0]).unwrap_or(0), 0);
+            }
+        });
+        let arguments: Vec<&str> = tables.iter().flat_map(|table| ["--file", table]).chain(["--create-slot"]).collect();
+        let output = follow(port, &arguments);
+        let line = String::from_utf8(output.stderr).unwrap();
+        assert_eq!((output.status.code(), line.lines().count()), (Some(status), 1), "{line}");
+        assert!(line.contains(part), "{line}");
+        server.join().unwrap();
+    }
 }
 
 // A transaction and the server's CopyDone on one connection; the positions that the client confirms before its own.

@@ -1204,6 +1204,50 @@ static void refused_rows(void) {
 
 /* ---- which files a transaction touched */
 
+static uint64_t touched_by(uint64_t kind, uint64_t from, uint64_t len, uint64_t *bits) {
+    static const uint32_t identifiers[] = {7, 8, 7};
+    static const uint64_t files[] = {2, 0, 1};
+    /* an Insert into relation 7, a Truncate of relations 7 and 8 */
+    static const uint8_t bytes[] = "I\0\0\0\7N\0\1nT\0\0\0\2\0\0\0\0\7\0\0\0\10";
+    const uint64_t words[R(ANSWER_WORDS)] = {
+        [R(ANSWER_REFUSAL)] = 5, [R(ANSWER_EVENT)] = kind, [R(ANSWER_EVENT_4)] = from, [R(ANSWER_EVENT_5)] = len};
+    return rufflesquash_touched(identifiers, LEN(identifiers), files, LEN(files), words, bytes, sizeof bytes - 1, bits);
+}
+
+static void touched(void) {
+    uint64_t bits = 0;
+    SAME(touched_by(R(EVENT_XLOG_DATA), 0, 9, &bits), 0);
+    SAME(bits, 4);
+    SAME(touched_by(R(EVENT_COMMIT), 0, 9, &bits), 0);
+    SAME(bits, 4);
+    SAME(touched_by(R(EVENT_XLOG_DATA), 9, 14, &bits), 0);
+    SAME(bits, 5);
+    SAME(touched_by(R(EVENT_BEGIN), 0, 9, &bits), 0);
+    SAME(bits, 0);
+    /* a row that is cut, and a Truncate whose length goes past the payload buffer */
+    SAME(touched_by(R(EVENT_XLOG_DATA), 0, 8, &bits), 0);
+    SAME(bits, 0);
+    SAME(touched_by(R(EVENT_XLOG_DATA), 9, UINT64_MAX, &bits), 0);
+    SAME(bits, 5);
+    SAME(touched_by(R(EVENT_XLOG_DATA), UINT64_MAX, UINT64_MAX, &bits), 0);
+    SAME(bits, 5);
+    /* no other kind clears or is read, and bits above the four are not kept */
+    bits = UINT64_MAX - 2;
+    SAME(touched_by(R(EVENT_MESSAGE), 0, 9, &bits), 0);
+    SAME(bits, 13);
+    /* a file above 3 leaves the word as it was; of two arrays the shorter length holds */
+    const uint32_t ids[] = {1, 2};
+    const uint64_t bad[] = {3, 4};
+    const uint64_t begin[R(ANSWER_WORDS)] = {[R(ANSWER_EVENT)] = R(EVENT_BEGIN)};
+    bits = 0xF5;
+    SAME(rufflesquash_touched(ids, 2, bad, 2, begin, NULL, 0, &bits), 31);
+    SAME(bits, 0xF5);
+    SAME(rufflesquash_touched(ids, 1, bad, 2, begin, NULL, 0, &bits), 0);
+    SAME(bits, 0);
+    bits = 3;
+    SAME(rufflesquash_touched(NULL, 0, NULL, 0, answer, NULL, 0, &bits), 0);
+}
+
 /* Relation 0x10203040 with columns "k", of the key, of type 23, and "value", of type 0x80000001. */
 int main(void) {
     SAME(rufflesquash_abi(), R(ABI));
@@ -1238,6 +1282,7 @@ int main(void) {
     rows();
     requests_and_errors();
     kinds();
+    touched();
     null_pointers();
     null_pointers_elsewhere();
     row_relations();

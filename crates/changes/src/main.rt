@@ -1,5 +1,6 @@
 // Reads records from standard input to its end and prints the line of each: rows, and what follows from them.
 mod row;
+mod touched_files;
 mod words;
 
 ghost use mathlib.Core.Path.{_≡_};
@@ -55,6 +56,14 @@ fn read_whole(s: &mut [u8]) -> bool {
     got == s.len()
 }
 
+// The line's end; a place of 0 is that of a malformed record.
+fn ended(line: &mut [u8], at: usize) -> usize {
+    if at == 0 {
+        return 0;
+    }
+    lines::end(line, at)
+}
+
 // The length of the line of a record whose input was read, or 0 where its kind is unknown. A line begins with its kind.
 fn line_of(kind: u8, input: &[u8], line: &mut [u8]) -> usize {
     let head = [kind];
@@ -62,6 +71,10 @@ fn line_of(kind: u8, input: &[u8], line: &mut [u8]) -> usize {
     if kind == b'i' {
         let n = row::after_fields(line, input);
         return lines::end(line, n);
+    }
+    if kind == b'j' {
+        let m = touched_files::after_events(line, input);
+        return ended(line, m);
     }
     0
 }

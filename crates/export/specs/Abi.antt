@@ -3,4 +3,4 @@
 use Prim.Native.Nat.{ℕ}
 
 abbrev pub abi : ℕ
-abi = 7
+abi = 8

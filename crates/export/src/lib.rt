@@ -6,6 +6,7 @@ mod cells;
 mod client;
 mod row;
 mod server;
+mod touched_files;
 
 ghost use mathlib.Core.Path.{_≡_};
 ghost use lib.ListN.{length};

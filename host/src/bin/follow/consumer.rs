@@ -1,7 +1,7 @@
 //! The consumer: a thread that prints the events of a bounded queue and tells up to where it is done.
 use crate::ffi;
 use crate::print::Item;
-use rufflesquash::{Lsn, Queue};
+use rufflesquash::{Event, Lsn, Queue, Touched};
 use std::fs::File;
 use std::io::{self, BufWriter, Write};
 use std::sync::atomic::{AtomicBool, AtomicU64, Ordering::SeqCst};
@@ -32,6 +32,8 @@ pub struct Outbox {
     shared: Arc<Shared>,
     events: u64,
     bytes: u64,
+    // Which files the open transaction has touched, where tables have files.
+    touched: Option<Touched>,
 }
 
 impl Outbox {
@@ -49,7 +51,19 @@ impl Outbox {
             done: Lsn(0),
         };
         let thread = std::thread::spawn(move || printer.run(receiver));
-        Outbox { sender: Some(sender), thread: Some(thread), shared, events: 0, bytes: 0 }
+        Outbox { sender: Some(sender), thread: Some(thread), shared, events: 0, bytes: 0, touched: None }
+    }
+
+    /// From here on each commit tells which files it touched.
+    pub fn tell_files(&mut self, touched: Touched) {
+        self.touched = Some(touched);
+    }
+
+    /// Hands an event on. None where it is of a kind that cannot be printed.
+    pub fn take(&mut self, event: Event) -> Option<()> {
+        let files = self.touched.as_mut().map(|touched| touched.event(&event));
+        self.hand_on(Item::of(event, files)?);
+        Some(())
     }
 
     /// The queue as a step is to find it.
@@ -66,7 +80,7 @@ impl Outbox {
         }
     }
 
-    /// Hands an event on; there is room, as `queue` said before. A consumer that has failed takes none.
+    /// Hands an item on; there is room, as `queue` said before. A consumer that has failed takes none.
     pub fn hand_on(&mut self, item: Item) {
         let size = item.size() as u64;
         if let Some(sender) = &self.sender {

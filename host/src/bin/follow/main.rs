@@ -16,7 +16,7 @@ use failure::{tell, Failure, FAILED, USAGE};
 use ffi::Waiter;
 use link::Link;
 use options::{Options, Wanted};
-use rufflesquash::{Lsn, Run, Settings};
+use rufflesquash::{Lsn, Run, Settings, Touched};
 use session::{Clock, End, Session, Totals};
 use startup::Talk;
 use std::io::{self, Write};
@@ -105,7 +105,7 @@ fn connect_again(options: &Options, waiter: &Waiter, outbox: &mut Outbox, totals
     let (mut pause, mut confirmed) = (FIRST_PAUSE, Lsn(0));
     let mut first = true;
     loop {
-        let connected = connect(options, waiter, &mut first);
+        let connected = connect(options, waiter, outbox, &mut first);
         let result = connected.and_then(|talk| one_stream(options, talk, &mut payload, clock, outbox, totals));
         let failure = match result {
             Ok(End::Server) if !options.no_loop => Failure::cut("the server ended the stream"),
@@ -140,10 +140,14 @@ fn settings(options: &Options) -> Settings {
     }
 }
 
-fn connect<'a>(options: &Options, waiter: &'a Waiter, first: &mut bool) -> Result<Talk<'a>, Failure> {
+fn connect<'a>(options: &Options, waiter: &'a Waiter, outbox: &mut Outbox, first: &mut bool) -> Result<Talk<'a>, Failure> {
     let mut talk = Talk::start(Link::connect(options, waiter)?, options)?;
     if *first {
         talk.check_publications(options)?;
+        if !options.files.is_empty() {
+            let touched = Touched::new(&talk.files(options)?).map_err(|refusal| Failure::refused(refusal, options.max_message_size))?;
+            outbox.tell_files(touched);
+        }
         if options.create_slot {
             talk.create_slot(options)?;
         }

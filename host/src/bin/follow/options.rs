@@ -1,7 +1,8 @@
 //! The options, named as pg_recvlogical names them.
 use crate::failure::{Failure, USAGE};
-use rufflesquash::Lsn;
+use rufflesquash::{Lsn, Run};
 use std::env;
+use std::fmt;
 use std::path::Path;
 use std::time::Duration;
 
@@ -21,6 +22,8 @@ What to follow:
       --publication NAME       publication; may be given several times
       --create-slot            create the slot before following it
       --if-not-exists          with --create-slot: no error where the slot is there already
+      --file TABLE=FILE        the file, 0 to 3, that a table belongs to: each commit then tells which files it touched;
+                               TABLE is schema.table or the table's OID; may be given up to 64 times
   -I, --startpos LSN           begin at this position where the slot stands before it
   -E, --endpos LSN             end after the event that reaches this position
 How:
@@ -57,6 +60,7 @@ pub struct Options {
     pub publications: Vec<String>,
     pub create_slot: bool,
     pub if_not_exists: bool,
+    pub files: Vec<FileOf>,
     pub startpos: Lsn,
     pub endpos: Option<Lsn>,
     pub status_interval: Duration,
@@ -65,6 +69,23 @@ pub struct Options {
     pub no_loop: bool,
     pub verbose: bool,
 }
+
+/// A table, as the user names it, and its file.
+#[derive(Clone, Debug, PartialEq)]
+pub struct FileOf {
+    /// An OID, or a schema and a table with a dot between them.
+    pub table: String,
+    pub file: u64,
+}
+
+impl fmt::Display for FileOf {
+    fn fmt(&self, f: &mut fmt::Formatter<'_>) -> fmt::Result {
+        write!(f, "--file {}={}", self.table, self.file)
+    }
+}
+
+/// How many tables can be given a file.
+const MOST_FILES: usize = 64;
 
 /// What is to be done.
 #[derive(Debug, PartialEq)]
@@ -93,6 +114,7 @@ impl Options {
             publications: Vec::new(),
             create_slot: false,
             if_not_exists: false,
+            files: Vec::new(),
             startpos: Lsn(0),
             endpos: None,
             status_interval: Duration::from_secs(10),
@@ -127,6 +149,7 @@ impl Options {
             "--username" | "-U" => self.username = value()?,
             "--slot" | "-S" => self.slot = value()?,
             "--publication" => self.publications.push(value()?),
+            "--file" => self.files.push(file_of(name, &value()?)?),
             "--startpos" | "-I" => self.startpos = position(name, &value()?)?,
             "--endpos" | "-E" => self.endpos = Some(position(name, &value()?)?),
             "--status-interval" | "-s" => self.status_interval = seconds(name, &value()?)?,
@@ -147,6 +170,9 @@ impl Options {
         }
         if self.publications.is_empty() {
             return Err(usage("name a publication with --publication".into()));
+        }
+        if self.files.len() > MOST_FILES {
+            return Err(usage(format!("{} tables have a --file; at most {MOST_FILES} can", self.files.len())));
         }
         if self.if_not_exists && !self.create_slot {
             return Err(usage("--if-not-exists needs --create-slot".into()));
@@ -186,6 +212,20 @@ fn port(name: &str, text: &str) -> Result<u16, Failure> {
     match text.parse() {
         Ok(port) if port > 0 => Ok(port),
         _ => Err(usage(format!("{name} {text}: a port is a number from 1 to 65535"))),
+    }
+}
+
+// What stands before the last equals sign is the table, as the catalog spells it.
+fn file_of(name: &str, text: &str) -> Result<FileOf, Failure> {
+    let wrong = |what: &str| usage(format!("{name} {text}: {what}, as in --file public.greetings=0"));
+    let (table, file) = text.rsplit_once('=').ok_or_else(|| wrong("give a table and its file"))?;
+    let is_oid = table.parse::<u32>().is_ok() && table.bytes().all(|b| b.is_ascii_digit());
+    if !is_oid && !table.contains('.') {
+        return Err(wrong("a table is an OID or schema.table"));
+    }
+    match file.parse() {
+        Ok(number) if number < Run::FILES && file.len() == 1 => Ok(FileOf { table: table.to_string(), file: number }),
+        _ => Err(wrong("a file is a number from 0 to 3")),
     }
 }
 
@@ -274,6 +314,15 @@ mod tests {
     }
 
     #[test]
+    fn files_of_tables() {
+        let of = |table: &str, file| FileOf { table: table.to_string(), file };
+        assert_eq!(options("-U me -S s --publication p --file 16384=0 --file=a=b.c=3").files, [of("16384", 0), of("a=b.c", 3)]);
+        let list = |n: usize| "-U me -S s --publication p".to_string() + &" --file a.b=1".repeat(n);
+        assert_eq!(options(&list(64)).files.len(), 64);
+        assert!(line(&list(65)).unwrap_err().line.contains("at most 64"));
+    }
+
+    #[test]
     fn bad_options_get_one_line() {
         for (text, part) in [
             ("-U me --publication p", "--slot"),
@@ -285,6 +334,12 @@ mod tests {
             ("-S s --startpos 100000000/0", "16/B374D848"),
             ("-S s --startpos +1/2", "before the slash is not 1 to 8"),
             ("-S s --endpos 0/123456789", "after the slash is not 1 to 8"),
+            ("-S s --file public.t=4", "a file is a number from 0 to 3"),
+            ("-S s --file public.t=-1", "a file is a number from 0 to 3"),
+            ("-S s --file public.t", "a table and its file"),
+            ("-S s --file t=1", "schema.table"),
+            ("-S s --file 4294967296=1", "schema.table"),
+            ("-S s --file +1=1", "schema.table"),
             ("-S s -s 0", "0.001"),
             ("-S s --max-message-size x", "1024"),
             ("--slot", "needs a value"),

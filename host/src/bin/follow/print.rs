@@ -1,5 +1,5 @@
 //! An event as a line, for people or as JSON.
-use rufflesquash::{Event, Lsn};
+use rufflesquash::{Event, Files, Lsn};
 use std::fmt::Write;
 
 /// An event with its own bytes, and what the host itself adds to the list.
@@ -19,6 +19,8 @@ pub enum Item {
         lsn: Lsn,
         end_lsn: Lsn,
         time: i64,
+        /// Which files the transaction touched, where tables have files.
+        files: Option<Files>,
     },
     Message {
         transactional: bool,
@@ -39,11 +41,11 @@ pub enum Item {
 
 impl Item {
     /// None for an event of a kind that is not known here: it cannot be printed, so nothing from it on may be confirmed.
-    pub fn of(event: Event) -> Option<Item> {
+    pub fn of(event: Event, files: Option<Files>) -> Option<Item> {
         Some(match event {
             Event::KeepAlive { wal_end, server_time_micros: time, reply_requested: reply } => Item::KeepAlive { wal_end, time, reply },
             Event::Begin { final_lsn, commit_time_micros: time, xid } => Item::Begin { final_lsn, time, xid },
-            Event::Commit { lsn, end_lsn, commit_time_micros: time } => Item::Commit { lsn, end_lsn, time },
+            Event::Commit { lsn, end_lsn, commit_time_micros: time } => Item::Commit { lsn, end_lsn, time, files },
             Event::StoppedAt { reached } => Item::StoppedAt(reached),
             Event::Message { transactional, lsn, prefix, content } => {
                 Item::Message { transactional, lsn, prefix: prefix.to_vec(), content: content.to_vec() }
@@ -71,8 +73,9 @@ impl Item {
                 format!("keepalive {wal_end} at {}", date(*time))
             }
             Item::Begin { final_lsn, time, xid } => format!("begin {xid} final {final_lsn} at {}", date(*time)),
-            Item::Commit { lsn, end_lsn, time } => {
-                format!("commit {lsn} end {end_lsn} at {}", date(*time))
+            Item::Commit { lsn, end_lsn, time, files } => {
+                let files = files.map_or(String::new(), |files| format!(" files {}", listed(files, "-")));
+                format!("commit {lsn} end {end_lsn} at {}{files}", date(*time))
             }
             Item::Message { transactional, lsn, prefix, content } => {
                 let kind = if *transactional { "transactional" } else { "immediate" };
@@ -96,7 +99,10 @@ impl Item {
         let (event, fields) = match self {
             Item::KeepAlive { wal_end, time, reply } => ("keepalive", format!(r#""wal_end":"{wal_end}","time":"{}","reply":{reply}"#, date(*time))),
             Item::Begin { final_lsn, time, xid } => ("begin", format!(r#""final_lsn":"{final_lsn}","time":"{}","xid":{xid}"#, date(*time))),
-            Item::Commit { lsn, end_lsn, time } => ("commit", format!(r#""lsn":"{lsn}","end_lsn":"{end_lsn}","time":"{}""#, date(*time))),
+            Item::Commit { lsn, end_lsn, time, files } => {
+                let files = files.map_or(String::new(), |files| format!(r#","files":[{}]"#, listed(files, "")));
+                ("commit", format!(r#""lsn":"{lsn}","end_lsn":"{end_lsn}","time":"{}"{files}"#, date(*time)))
+            }
             Item::Message { transactional, lsn, prefix, content } => {
                 let (Quoted { text, marks }, content) = (Quoted::of(prefix), hex(content));
                 ("message", format!(r#""transactional":{transactional},"lsn":"{lsn}","prefix":{text},"marks":{marks},"content":"{content}""#))
@@ -109,6 +115,16 @@ impl Item {
             Item::Resumed(from) => ("resumed", format!(r#""from":"{from}""#)),
         };
         format!(r#"{{"event":"{event}",{fields}}}"#)
+    }
+}
+
+// The numbers of files with commas between, or what stands for none.
+fn listed(files: Files, none: &str) -> String {
+    let numbers: Vec<String> = files.iter().map(|file| file.to_string()).collect();
+    if numbers.is_empty() {
+        none.to_string()
+    } else {
+        numbers.join(",")
     }
 }
 
@@ -193,6 +209,7 @@ fn date(micros: i64) -> String {
 #[cfg(test)]
 mod tests {
     use super::*;
+    use rufflesquash::Touched;
 
     #[test]
     fn dates() {
@@ -206,10 +223,10 @@ mod tests {
 
     #[test]
     fn lines() {
-        let commit = Item::of(Event::Commit { lsn: Lsn(16), end_lsn: Lsn(1 << 32), commit_time_micros: 0 }).unwrap();
+        let commit = Item::of(Event::Commit { lsn: Lsn(16), end_lsn: Lsn(1 << 32), commit_time_micros: 0 }, None).unwrap();
         assert_eq!(commit.text(), "commit 0/10 end 1/0 at 2000-01-01T00:00:00.000000Z");
         assert_eq!(commit.json(), r#"{"event":"commit","lsn":"0/10","end_lsn":"1/0","time":"2000-01-01T00:00:00.000000Z"}"#);
-        let message = Item::of(Event::Message { transactional: true, lsn: Lsn(1), prefix: b"a\"\n\x01\xff", content: b"\x00\xfe" }).unwrap();
+        let message = Item::of(Event::Message { transactional: true, lsn: Lsn(1), prefix: b"a\"\n\x01\xff", content: b"\x00\xfe" }, None).unwrap();
         assert_eq!(
             message.json(),
             "{\"event\":\"message\",\"transactional\":true,\"lsn\":\"0/1\",\"prefix\":\"a\\\"\\n\\u0001\u{fffd}\",\"marks\":1,\"content\":\"00fe\"}"
@@ -217,9 +234,22 @@ mod tests {
         // The content is shown on this line alone.
         assert_eq!(message.text(), "message 0/1 transactional \"a\\\"\\n\\u0001\u{fffd}\" \"\\u0000\u{fffd}\" marks 2");
         // U+FFFD of the text's own is no mark.
-        let own = Item::of(Event::Message { transactional: false, lsn: Lsn(1), prefix: "\u{fffd}".as_bytes(), content: b"" }).unwrap();
+        let own = Item::of(Event::Message { transactional: false, lsn: Lsn(1), prefix: "\u{fffd}".as_bytes(), content: b"" }, None).unwrap();
         assert_eq!(own.text(), "message 0/1 immediate \"\u{fffd}\" \"\"");
         assert!(own.json().contains("\"marks\":0"));
+    }
+
+    #[test]
+    fn files_of_a_commit() {
+        let mut touched = Touched::new(&[(7, 3), (8, 1)]).unwrap();
+        let commit = Event::Commit { lsn: Lsn(16), end_lsn: Lsn(32), commit_time_micros: 0 };
+        let insert = |data| Event::XLogData { wal_start: Lsn(0), wal_end: Lsn(0), server_time_micros: 0, data };
+        let none = Item::of(commit, Some(touched.files())).unwrap();
+        touched.event(&insert(b"I\0\0\0\x07N\0\0"));
+        let both = Item::of(commit, Some(touched.event(&insert(b"I\0\0\0\x08N\0\0")))).unwrap();
+        assert_eq!(none.text(), "commit 0/10 end 0/20 at 2000-01-01T00:00:00.000000Z files -");
+        assert_eq!(both.text(), "commit 0/10 end 0/20 at 2000-01-01T00:00:00.000000Z files 1,3");
+        assert!(none.json().ends_with(r#"00Z","files":[]}"#) && both.json().ends_with(r#"00Z","files":[1,3]}"#));
     }
 
     #[test]

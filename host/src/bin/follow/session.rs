@@ -3,7 +3,6 @@ use crate::consumer::Outbox;
 use crate::failure::{tell, Failure, FAILED};
 use crate::ffi;
 use crate::link::Link;
-use crate::print::Item;
 use crate::startup::Talk;
 use rufflesquash::{Event, Input, Lsn, Moment, NextStep, Refusal, Run, Settings, State, PAGE, STEP_OUTPUT};
 use std::io::{self, Write};
@@ -148,8 +147,7 @@ impl<'a> Session<'a> {
             self.end = End::Wanted;
         }
         if let Some(event) = step.event {
-            let item = Item::of(event).ok_or_else(|| Failure::new(FAILED, "the library hands on an event that follow cannot print"))?;
-            outbox.hand_on(item);
+            outbox.take(event).ok_or_else(|| Failure::new(FAILED, "the library hands on an event that follow cannot print"))?;
         }
         match refusal {
             None => Ok(written),

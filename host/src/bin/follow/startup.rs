@@ -110,6 +110,43 @@ impl<'a> Talk<'a> {
             }
         }
     }
+
+    /// The relation identifiers of the tables that have a file. Each must be one that is followed, since no other could ever touch its file.
+    pub fn files(&mut self, options: &Options) -> Result<Vec<(u32, u64)>, Failure> {
+        let names: Vec<String> = options.publications.iter().map(|name| literal(name)).collect();
+        let rows = self.query(&format!("{PUBLISHED} ({})", names.join(", ")))?.map_err(|error| Failure::server(&error))?;
+        let tables: Vec<(u32, &str)> = rows.iter().filter_map(|row| published(row)).collect();
+        let mut list: Vec<(u32, u64)> = Vec::new();
+        for given in &options.files {
+            let same = |(id, name): &&(u32, &str)| given.table == *name || given.table == id.to_string();
+            let wrong = match *tables.iter().filter(same).collect::<Vec<_>>() {
+                [(id, name)] if list.iter().any(|(other, _)| id == other) => format!("{name} (OID {id}) has its file already"),
+                [(id, _)] => {
+                    list.push((*id, given.file));
+                    continue;
+                }
+                [] => "no publication that is followed has such a table; give schema.table as the catalog spells it, or an OID".to_string(),
+                [..] => "several tables are spelled so; give the table's OID".to_string(),
+            };
+            return Err(Failure::new(FAILED, format!("{given}: {wrong}")));
+        }
+        Ok(list)
+    }
+}
+
+/// The tables of publications: an OID, a space, a schema, a dot and a table in one column.
+const PUBLISHED: &str = "SELECT DISTINCT c.oid || ' ' || n.nspname || '.' || c.relname FROM pg_catalog.pg_publication_tables t \
+    JOIN pg_catalog.pg_namespace n ON n.nspname = t.schemaname JOIN pg_catalog.pg_class c ON c.relnamespace = n.oid AND c.relname = t.tablename \
+    WHERE t.pubname IN";
+
+fn published(row: &[u8]) -> Option<(u32, &str)> {
+    let (id, name) = std::str::from_utf8(row).ok()?.split_once(' ')?;
+    Some((id.parse().ok()?, name))
+}
+
+// A text as SQL takes it.
+fn literal(text: &str) -> String {
+    format!("E'{}'", text.replace('\\', "\\\\").replace('\'', "''"))
 }
 
 // A refusal of the first bytes: another connection may help where they only ended.

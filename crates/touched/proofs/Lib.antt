@@ -1,0 +1,6 @@
+pub mod BitLaws
+pub mod Cases
+pub mod EntryLaws
+pub mod Laws
+pub mod Walk
+pub mod WalkLaws

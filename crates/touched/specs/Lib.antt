@@ -1,0 +1,6 @@
+pub mod Bits
+pub mod Code
+pub mod ListLaws
+pub mod Touched
+pub mod TouchedCases
+pub mod Walk
