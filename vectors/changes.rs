@@ -3,6 +3,7 @@
 //!
 //! Use: changes STDIN-FILE STDOUT-FILE
 
+mod relations;
 #[allow(dead_code)]
 mod shared;
 mod touched;
@@ -419,6 +420,7 @@ fn main() {
     println!("j: {} lists, {} events, {} with 31", j.records, j.events, j.refused);
     v.input.extend(&j.input);
     v.lines.push_str(&j.lines);
+    relations::make(&mut v);
     // malformed: no such kind
     v.input.extend([b'?', 0, 0, 0, 0, 0, 0, 0, 0, 0]);
     v.lines.push_str("BAD\n");

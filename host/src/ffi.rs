@@ -8,7 +8,7 @@
 #![allow(dead_code)]
 
 // ---- the number of this list and of the functions; it grows with every change of either
-pub const ABI: u64 = 8;
+pub const ABI: u64 = 9;
 
 // ---- settings: intervals are nanoseconds, a flag is true unless 0
 pub const SETTINGS_WORDS: usize = 7;
@@ -284,6 +284,20 @@ pub const IDENTIFIER_WORDS: usize = 2;
 pub const IDENTIFIER_REFUSAL: usize = 0;
 pub const IDENTIFIER_ID: usize = 1;
 
+// ---- the lent memory of a relation cache: at most so many relations, their columns, the bytes of the columns' names, and how many bytes in all
+pub const CACHE_RELATIONS: usize = 64;
+pub const CACHE_COLUMNS: usize = 2048;
+pub const CACHE_NAMES: usize = 129024;
+pub const CACHE_BYTES: usize = 141640;
+
+// ---- a column of a held relation: whether there is one, its name's place among the names and its length, whether it is of the key, its type
+pub const CACHE_COLUMN_WORDS: usize = 5;
+pub const CACHE_COLUMN_GIVEN: usize = 0;
+pub const CACHE_COLUMN_NAME_FROM: usize = 1;
+pub const CACHE_COLUMN_NAME_LEN: usize = 2;
+pub const CACHE_COLUMN_KEY: usize = 3;
+pub const CACHE_COLUMN_TYPE: usize = 4;
+
 /// A text in a list of texts, as the archive has it.
 #[repr(C)]
 pub struct Bytes {
@@ -432,6 +446,49 @@ extern "C" {
     pub fn rufflesquash_row_description(data: *const u8, data_len: usize, at: usize, description: *mut [u64; DESCRIPTION_WORDS]) -> u64;
 
     pub fn rufflesquash_row_identifier(data: *const u8, data_len: usize, at: usize, identifier: *mut [u64; IDENTIFIER_WORDS]) -> u64;
+
+    pub fn rufflesquash_cache_clear(
+        held: *mut u64,
+        ids: *mut [u32; CACHE_RELATIONS],
+        counts: *mut [u8; CACHE_RELATIONS],
+        types: *mut [u32; CACHE_COLUMNS],
+        flags: *mut [u8; CACHE_COLUMNS],
+        lens: *mut [u8; CACHE_COLUMNS],
+        names: *mut [u8; CACHE_NAMES],
+    );
+
+    pub fn rufflesquash_cache_message(
+        held: *mut u64,
+        ids: *mut [u32; CACHE_RELATIONS],
+        counts: *mut [u8; CACHE_RELATIONS],
+        types: *mut [u32; CACHE_COLUMNS],
+        flags: *mut [u8; CACHE_COLUMNS],
+        lens: *mut [u8; CACHE_COLUMNS],
+        names: *mut [u8; CACHE_NAMES],
+        data: *const u8,
+        data_len: usize,
+        row: *mut [u64; ROW_WORDS],
+    ) -> u64;
+
+    pub fn rufflesquash_cache_count(
+        held: u64,
+        ids: *const [u32; CACHE_RELATIONS],
+        counts: *const [u8; CACHE_RELATIONS],
+        id: u32,
+        columns: *mut u64,
+    ) -> u64;
+
+    pub fn rufflesquash_cache_column(
+        held: u64,
+        ids: *const [u32; CACHE_RELATIONS],
+        counts: *const [u8; CACHE_RELATIONS],
+        types: *const [u32; CACHE_COLUMNS],
+        flags: *const [u8; CACHE_COLUMNS],
+        lens: *const [u8; CACHE_COLUMNS],
+        id: u32,
+        index: usize,
+        column: *mut [u64; CACHE_COLUMN_WORDS],
+    );
 
     pub fn rufflesquash_touched(
         identifiers: *const u32,
@@ -816,4 +873,63 @@ pub fn touched(identifiers: &[u32], files: &[u64], answer: &[u64; ANSWER_WORDS],
         let (at, len) = (payload.as_ptr(), payload.len());
         rufflesquash_touched(identifiers.as_ptr(), identifiers.len(), files.as_ptr(), files.len(), answer, at, len, bits)
     }
+}
+
+/// The memory of a relation cache; any content of it is some cache.
+pub struct CacheMemory {
+    pub held: u64,
+    pub ids: [u32; CACHE_RELATIONS],
+    pub counts: [u8; CACHE_RELATIONS],
+    pub types: [u32; CACHE_COLUMNS],
+    pub flags: [u8; CACHE_COLUMNS],
+    pub lens: [u8; CACHE_COLUMNS],
+    pub names: [u8; CACHE_NAMES],
+}
+
+impl CacheMemory {
+    /// An empty cache, whose memory is zero.
+    pub fn boxed() -> Box<CacheMemory> {
+        Box::new(CacheMemory {
+            held: 0,
+            ids: [0; CACHE_RELATIONS],
+            counts: [0; CACHE_RELATIONS],
+            types: [0; CACHE_COLUMNS],
+            flags: [0; CACHE_COLUMNS],
+            lens: [0; CACHE_COLUMNS],
+            names: [0; CACHE_NAMES],
+        })
+    }
+}
+
+pub fn cache_clear(m: &mut CacheMemory) {
+    // SAFETY: arrays have the lengths that the function names, and exclusive references do not overlap.
+    unsafe { rufflesquash_cache_clear(&mut m.held, &mut m.ids, &mut m.counts, &mut m.types, &mut m.flags, &mut m.lens, &mut m.names) };
+}
+
+/// The refusal's number and the words of a row's head.
+pub fn cache_message(m: &mut CacheMemory, data: &[u8]) -> (u64, [u64; ROW_WORDS]) {
+    let mut row = [0; ROW_WORDS];
+    let (ids, counts, types) = (&mut m.ids, &mut m.counts, &mut m.types);
+    // SAFETY: the slice is lent whole, arrays have the lengths that the function names, and exclusive references do not overlap.
+    let number = unsafe {
+        let (at, len) = (data.as_ptr(), data.len());
+        rufflesquash_cache_message(&mut m.held, ids, counts, types, &mut m.flags, &mut m.lens, &mut m.names, at, len, &mut row)
+    };
+    (number, row)
+}
+
+/// How many columns a relation has, where it is held.
+pub fn cache_count(m: &CacheMemory, id: u32) -> Option<u64> {
+    let mut columns = 0;
+    // SAFETY: arrays have the lengths that the function names.
+    let held = unsafe { rufflesquash_cache_count(m.held, &m.ids, &m.counts, id, &mut columns) };
+    (held != 0).then_some(columns)
+}
+
+/// The words of a column of a relation; any identifier and index are answered.
+pub fn cache_column(m: &CacheMemory, id: u32, index: usize) -> [u64; CACHE_COLUMN_WORDS] {
+    let mut column = [0; CACHE_COLUMN_WORDS];
+    // SAFETY: arrays have the lengths that the function names.
+    unsafe { rufflesquash_cache_column(m.held, &m.ids, &m.counts, &m.types, &m.flags, &m.lens, id, index, &mut column) };
+    column
 }

@@ -40,6 +40,7 @@ mod cell;
 mod ffi;
 mod messages;
 mod refusal;
+pub mod relations;
 pub mod rows;
 mod run;
 mod startup;

@@ -64,6 +64,9 @@ refusals! {
     25 InputTooLong "the lent inputs have more than 1,048,576 bytes together",
     26 FieldCut "a field of a row is cut short, or a count or length in it is negative",
     27 UnknownLetter "a letter stands in a row where it may not",
+    28 CacheFull "64 other relations are held",
+    29 RelationTooLarge "a relation has more than 32 columns, or a column's name more than 63 bytes",
+    30 RowUnmatched "a row's relation is not held, or has another number of columns",
     31 NoSuchFile "the file's number is above 3",
 }
 

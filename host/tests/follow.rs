@@ -77,8 +77,12 @@ fn serve<T: Send + 'static>(server: impl FnOnce(TcpListener) -> T + Send + 'stat
 }
 
 fn transaction(at: u64, xid: u32) -> Vec<u8> {
+    transaction_of(at, xid, &[b"Insert"])
+}
+
+fn transaction_of(at: u64, xid: u32, data: &[&[u8]]) -> Vec<u8> {
     let mut bytes = xlog_data(at, at, 0, &begin(at, 0, xid));
-    bytes.extend(xlog_data(at, at, 0, b"Insert"));
+    data.iter().for_each(|data| bytes.extend(xlog_data(at, at, 0, data)));
     bytes.extend(xlog_data(at, at, 0, &commit(at, at + 8, 0)));
     bytes
 }
@@ -114,10 +118,7 @@ fn a_cut_and_the_last_confirmation() {
 
 // A transaction that inserts a row of no columns.
 fn insert_into(at: u64, relation: u8) -> Vec<u8> {
-    let mut bytes = xlog_data(at, at, 0, &begin(at, 0, 1));
-    bytes.extend(xlog_data(at, at, 0, &[b'I', 0, 0, 0, relation, b'N', 0, 0]));
-    bytes.extend(xlog_data(at, at, 0, &commit(at, at + 8, 0)));
-    bytes
+    transaction_of(at, 1, &[&[b'I', 0, 0, 0, relation, b'N', 0, 0]])
 }
 
 #[test]
@@ -144,6 +145,33 @@ fn a_commit_tells_its_files_also_after_a_cut() {
         let files: Vec<&str> = commits.map(|line| line.split_once(r#""files":"#).unwrap().1).collect();
         assert_eq!((files, output.status.code()), (vec!["[2]}", "[]}", "[2]}"], Some(0)));
     }
+}
+
+// A relation's description, and a row of it.
+const RELATION: &[u8] = b"R\0\0\0\x4Ds\0t\0d\0\x01\x01id\0\0\0\0\x17\xFF\xFF\xFF\xFF";
+const ROW: &[u8] = b"I\0\0\0\x4DN\0\x01t\0\0\0\x017";
+
+#[test]
+fn rows_have_names_from_their_own_connection() {
+    let (port, server) = serve(|listener| {
+        let (mut client, _) = listener.accept().unwrap();
+        let_in(&mut client);
+        client.write_all(&transaction_of(0x100, 1, &[ROW, RELATION, ROW])).unwrap();
+        drop(client);
+        let (mut client, _) = listener.accept().unwrap();
+        let_in(&mut client);
+        client.write_all(&transaction_of(0x200, 2, &[ROW, b"I\0", RELATION, ROW])).unwrap();
+        statuses(&mut client)
+    });
+    let output = follow(port, &["--json", "--endpos", "0/208"]);
+    assert_eq!((server.join().unwrap().last(), output.status.code()), (Some(&0x208), Some(0)));
+    let text = String::from_utf8(output.stdout).unwrap();
+    let said = |line: &str| line.split_once("\"time\":\"2000-01-01T00:00:00.000000Z\",").unwrap().1.to_string();
+    let rows: Vec<String> = text.lines().filter(|line| line.contains("\"kind\":\"insert\"")).map(said).collect();
+    let data = r#""data":"490000004d4e0001740000000137"}"#;
+    let by_place = format!(r#""relation":77,"refusal":30,"columns":[{{"value":"7"}}],{data}"#);
+    let named = format!(r#""relation":77,"schema":"s","table":"t","columns":[{{"name":"id","typeoid":23,"key":true,"value":"7"}}],{data}"#);
+    assert_eq!(rows, [by_place.as_str(), &named, &by_place, r#""refusal":26,"data":"4900"}"#, &named]);
 }
 
 #[test]

@@ -1248,7 +1248,65 @@ static void touched(void) {
     SAME(rufflesquash_touched(NULL, 0, NULL, 0, answer, NULL, 0, &bits), 0);
 }
 
+/* ---- a relation cache */
+
+static struct {
+    uint64_t held;
+    uint32_t ids[R(CACHE_RELATIONS)];
+    uint8_t counts[R(CACHE_RELATIONS)];
+    uint32_t types[R(CACHE_COLUMNS)];
+    uint8_t flags[R(CACHE_COLUMNS)];
+    uint8_t lens[R(CACHE_COLUMNS)];
+    uint8_t names[R(CACHE_NAMES)];
+} cache;
+
+static uint64_t cache_message(const uint8_t *data, size_t len, uint64_t row[R(ROW_WORDS)]) {
+    return rufflesquash_cache_message(&cache.held, cache.ids, cache.counts, cache.types, cache.flags, cache.lens, cache.names, data, len, row);
+}
+
+static void cache_column(uint32_t id, size_t index, uint64_t column[R(CACHE_COLUMN_WORDS)]) {
+    rufflesquash_cache_column(cache.held, cache.ids, cache.counts, cache.types, cache.flags, cache.lens, id, index, column);
+}
+
 /* Relation 0x10203040 with columns "k", of the key, of type 23, and "value", of type 0x80000001. */
+static void caches(void) {
+    static const uint8_t relation[] = "R\x10\x20\x30\x40sp\0rel\0f\0\2\1k\0\0\0\0\x17\xFF\xFF\xFF\xFF\xFEvalue\0\x80\0\0\1\0\0\0\0";
+    static const uint8_t insert[] = "I\x10\x20\x30\x40N\0\2nu";
+    uint64_t row[R(ROW_WORDS)], column[R(CACHE_COLUMN_WORDS)], columns = 1;
+    SAME(sizeof cache, R(CACHE_BYTES));
+    memset(&cache, 0xA5, sizeof cache);
+    cache_column(7, 0, column);
+    WORDS(column, 0);
+    SAME(cache_message(insert, sizeof insert - 1, row), 30);
+    rufflesquash_cache_clear(&cache.held, cache.ids, cache.counts, cache.types, cache.flags, cache.lens, cache.names);
+    const uint8_t *bytes = (const uint8_t *)&cache;
+    size_t zeros = 0;
+    while (zeros < sizeof cache && bytes[zeros] == 0)
+        zeros++;
+    SAME(zeros, sizeof cache);
+    SAME(cache_message(insert, sizeof insert - 1, row), 30);
+    WORDS(row, 0);
+    SAME(cache_message(relation, sizeof relation - 1, row), 0);
+    WORDS(row, R(ROW_RELATION), 0x10203040, 'f', 2, 15, 0, 0, 5, 2, 8, 3);
+    SAME(rufflesquash_cache_count(cache.held, cache.ids, cache.counts, 0x10203040, &columns), 1);
+    SAME(columns, 2);
+    cache_column(0x10203040, 0, column);
+    WORDS(column, 1, 0, 1, 1, 23);
+    SAME(column[R(CACHE_COLUMN_GIVEN)], 1);
+    SAME(column[R(CACHE_COLUMN_KEY)], 1);
+    cache_column(0x10203040, 1, column);
+    WORDS(column, 1, 63, 5, 0, 0x80000001);
+    SAME(column[R(CACHE_COLUMN_TYPE)], 0x80000001);
+    BYTES(cache.names + column[R(CACHE_COLUMN_NAME_FROM)], "value", column[R(CACHE_COLUMN_NAME_LEN)]);
+    cache_column(0x10203040, 2, column);
+    WORDS(column, 0);
+    SAME(cache_message(insert, sizeof insert - 1, row), 0);
+    WORDS(row, R(ROW_INSERT), 0x10203040, 0, 2, 8);
+    SAME(cache_message(insert, sizeof insert - 2, row), 26);
+    SAME(rufflesquash_cache_count(cache.held, cache.ids, cache.counts, 7, &columns), 0);
+    SAME(columns, 0);
+}
+
 int main(void) {
     SAME(rufflesquash_abi(), R(ABI));
     opening();
@@ -1289,6 +1347,7 @@ int main(void) {
     row_names();
     row_tuples();
     refused_rows();
+    caches();
     printf("%u words and texts checked from C, %u wrong\n", checks, wrong);
     return wrong != 0;
 }

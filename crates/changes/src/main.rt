@@ -1,4 +1,5 @@
 // Reads records from standard input to its end and prints the line of each: rows, and what follows from them.
+mod cache;
 mod row;
 mod touched_files;
 mod words;
@@ -75,6 +76,9 @@ fn line_of(kind: u8, input: &[u8], line: &mut [u8]) -> usize {
     if kind == b'j' {
         let m = touched_files::after_events(line, input);
         return ended(line, m);
+    }
+    if kind == b'h' {
+        return cache::line_of(line, input);
     }
     0
 }

@@ -4,6 +4,7 @@
 mod abi;
 mod cells;
 mod client;
+mod relations;
 mod row;
 mod server;
 mod touched_files;

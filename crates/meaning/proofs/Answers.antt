@@ -18,6 +18,9 @@ use Rattle.rows.specs.Head as Rows
 use Rattle.hours.specs.declared.Refusal as Of-hours
 use Rattle.hours.specs.declared.Refusal.the-variants.{InvalidWindow, OffsetOutOfRange, MomentOutOfRange}
 use Rattle.hours.specs.Answer as Hours
+use Rattle.relation_cache.specs.declared.Refusal as Of-cache
+use Rattle.relation_cache.specs.declared.Refusal.the-variants.{CacheFull, TooLarge, Unmatched}
+use Rattle.relation_cache.specs.Answers as Cache
 
 pub next-words : Next-words
 next-words = (refl, (λ m. refl), refl, refl)
@@ -65,8 +68,13 @@ of-hours InvalidWindow = refl
 of-hours OffsetOutOfRange = refl
 of-hours MomentOutOfRange = refl
 
+of-cache : (r : Of-cache.Refusal) → kindBy (Cache.numberOf r) ≡ Cache.kindOf r
+of-cache CacheFull = refl
+of-cache TooLarge = refl
+of-cache Unmatched = refl
 
 pub kinds-agree : Kinds-agree
+kinds-agree = record { of-rows = of-rows; of-files = of-files; of-hours = of-hours; of-cache = of-cache }
 
 pub transient-words : Transient-words
 transient-words = (refl, refl, refl, refl, refl, refl, refl)

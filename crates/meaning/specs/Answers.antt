@@ -20,6 +20,8 @@ use Rattle.rows.specs.declared.Refusal as Of-rows
 use Rattle.rows.specs.Head as Rows
 use Rattle.hours.specs.declared.Refusal as Of-hours
 use Rattle.hours.specs.Answer as Hours
+use Rattle.relation_cache.specs.declared.Refusal as Of-cache
+use Rattle.relation_cache.specs.Answers as Cache
 use Rattle.schedule.specs.NextStep.{atOnce, from, onInput, never}
 use Rattle.words.specs.Words.{flagOf, flagWord}
 use Rattle.answers.specs.Fold.{simpleQueryOf, queryWords, foldWords}
@@ -92,6 +94,7 @@ pub record Kinds-agree : Type 0 where
   pub of-rows : (r : Of-rows.Refusal) → kindBy (Rows.numberOf r) ≡ Rows.kindOf r
   pub of-files : (r : FileRefusal) → kindBy (fileNumber r) ≡ fileKind r
   pub of-hours : (r : Of-hours.Refusal) → kindBy (Hours.numberOf r) ≡ Hours.kindOf r
+  pub of-cache : (r : Of-cache.Refusal) → kindBy (Cache.numberOf r) ≡ Cache.kindOf r
 
 -- a new connection may help where the input ended in a message
 abbrev pub Transient-words : Type 0

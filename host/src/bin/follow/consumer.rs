@@ -1,6 +1,7 @@
 //! The consumer: a thread that prints the events of a bounded queue and tells up to where it is done.
 use crate::ffi;
 use crate::print::Item;
+use crate::rows::Relations;
 use rufflesquash::{Event, Lsn, Queue, Touched};
 use std::fs::File;
 use std::io::{self, BufWriter, Write};
@@ -44,6 +45,7 @@ impl Outbox {
         let printer = Printer {
             out: BufWriter::with_capacity(65_536, out),
             json,
+            relations: Relations::new(),
             shared: shared.clone(),
             events: 0,
             bytes: 0,
@@ -120,6 +122,7 @@ impl Outbox {
 struct Printer {
     out: BufWriter<File>,
     json: bool,
+    relations: Relations,
     shared: Arc<Shared>,
     events: u64,
     bytes: u64,
@@ -159,7 +162,11 @@ impl Printer {
     }
 
     fn print(&mut self, item: &Item) -> io::Result<()> {
-        let line = if self.json { item.json() } else { item.text() };
+        if let Item::Resumed(_) = item {
+            // The server describes each relation anew.
+            self.relations = Relations::new();
+        }
+        let line = if self.json { item.json(&mut self.relations) } else { item.text(&mut self.relations) };
         self.out.write_all(line.as_bytes())?;
         self.out.write_all(b"\n")?;
         match item {

@@ -5,9 +5,11 @@
 mod consumer;
 mod failure;
 mod ffi;
+mod json;
 mod link;
 mod options;
 mod print;
+mod rows;
 mod session;
 mod startup;
 

@@ -1,6 +1,7 @@
 //! An event as a line, for people or as JSON.
+use crate::json::{hex, Quoted};
+use crate::rows::Relations;
 use rufflesquash::{Event, Files, Lsn};
-use std::fmt::Write;
 
 /// An event with its own bytes, and what the host itself adds to the list.
 #[derive(Clone, Debug, PartialEq)]
@@ -66,8 +67,8 @@ impl Item {
         }
     }
 
-    /// A line for people.
-    pub fn text(&self) -> String {
+    /// A line for people; what data describe is kept.
+    pub fn text(&self, relations: &mut Relations) -> String {
         match self {
             Item::KeepAlive { wal_end, time, .. } => {
                 format!("keepalive {wal_end} at {}", date(*time))
@@ -86,16 +87,14 @@ impl Item {
                 };
                 format!("message {lsn} {kind} {} {}{marks}", prefix.text, content.text)
             }
-            Item::Data { start, data, .. } => {
-                format!("data {start} {} {} bytes", kind(data), data.len())
-            }
+            Item::Data { start, data, .. } => format!("data {start} {} {}", kind(data), relations.change(data).text()),
             Item::StoppedAt(reached) => format!("stopped at {reached}"),
             Item::Resumed(from) => format!("resumed from {from}"),
         }
     }
 
-    /// A line that is a JSON object; bytes stand as hexadecimal text, positions as PostgreSQL shows them.
-    pub fn json(&self) -> String {
+    /// A line that is a JSON object; bytes stand as hexadecimal text, positions as PostgreSQL shows them. What data describe is kept.
+    pub fn json(&self, relations: &mut Relations) -> String {
         let (event, fields) = match self {
             Item::KeepAlive { wal_end, time, reply } => ("keepalive", format!(r#""wal_end":"{wal_end}","time":"{}","reply":{reply}"#, date(*time))),
             Item::Begin { final_lsn, time, xid } => ("begin", format!(r#""final_lsn":"{final_lsn}","time":"{}","xid":{xid}"#, date(*time))),
@@ -107,10 +106,14 @@ impl Item {
                 let (Quoted { text, marks }, content) = (Quoted::of(prefix), hex(content));
                 ("message", format!(r#""transactional":{transactional},"lsn":"{lsn}","prefix":{text},"marks":{marks},"content":"{content}""#))
             }
-            Item::Data { start, end, time, data } => (
-                "data",
-                format!(r#""kind":"{}","wal_start":"{start}","wal_end":"{end}","time":"{}","data":"{}""#, kind(data), date(*time), hex(data)),
-            ),
+            Item::Data { start, end, time, data } => {
+                let mut row = relations.change(data).json();
+                if !row.is_empty() {
+                    row.push(',');
+                }
+                let (kind, time, data) = (kind(data), date(*time), hex(data));
+                ("data", format!(r#""kind":"{kind}","wal_start":"{start}","wal_end":"{end}","time":"{time}",{row}"data":"{data}""#))
+            }
             Item::StoppedAt(reached) => ("stopped", format!(r#""reached":"{reached}""#)),
             Item::Resumed(from) => ("resumed", format!(r#""from":"{from}""#)),
         };
@@ -139,48 +142,6 @@ fn kind(data: &[u8]) -> &'static str {
         Some(b'D') => "delete",
         Some(b'T') => "truncate",
         _ => "other",
-    }
-}
-
-fn hex(bytes: &[u8]) -> String {
-    const DIGITS: &[u8; 16] = b"0123456789abcdef";
-    let mut text = String::with_capacity(bytes.len() * 2);
-    for b in bytes {
-        text.push(DIGITS[usize::from(b >> 4)] as char);
-        text.push(DIGITS[usize::from(b & 15)] as char);
-    }
-    text
-}
-
-// The lossy text of bytes as a JSON string, and its marks.
-struct Quoted {
-    text: String,
-    marks: usize,
-}
-
-impl Quoted {
-    fn of(bytes: &[u8]) -> Quoted {
-        let (lossy, marks) = lossy(bytes);
-        let mut text = String::from("\"");
-        for c in lossy.chars() {
-            match c {
-                '"' => text.push_str("\\\""),
-                '\\' => text.push_str("\\\\"),
-                '\n' => text.push_str("\\n"),
-                c if c < ' ' || c == '\x7f' => write!(text, "\\u{:04x}", c as u32).expect("a string takes all"),
-                c => text.push(c),
-            }
-        }
-        Quoted { text: text + "\"", marks }
-    }
-}
-
-// The proved writer takes a megabyte; of a longer text the standard library makes the same.
-fn lossy(bytes: &[u8]) -> (String, usize) {
-    let mut text = vec![0; bytes.len() * 3];
-    match rufflesquash::lossy(bytes, &mut text) {
-        Ok(shown) => (String::from_utf8_lossy(&text[..shown.bytes]).into_owned(), shown.marks),
-        Err(_) => (String::from_utf8_lossy(bytes).into_owned(), bytes.utf8_chunks().filter(|chunk| !chunk.invalid().is_empty()).count()),
     }
 }
 
@@ -224,19 +185,19 @@ mod tests {
     #[test]
     fn lines() {
         let commit = Item::of(Event::Commit { lsn: Lsn(16), end_lsn: Lsn(1 << 32), commit_time_micros: 0 }, None).unwrap();
-        assert_eq!(commit.text(), "commit 0/10 end 1/0 at 2000-01-01T00:00:00.000000Z");
-        assert_eq!(commit.json(), r#"{"event":"commit","lsn":"0/10","end_lsn":"1/0","time":"2000-01-01T00:00:00.000000Z"}"#);
+        assert_eq!(commit.text(&mut Relations::new()), "commit 0/10 end 1/0 at 2000-01-01T00:00:00.000000Z");
+        assert_eq!(commit.json(&mut Relations::new()), r#"{"event":"commit","lsn":"0/10","end_lsn":"1/0","time":"2000-01-01T00:00:00.000000Z"}"#);
         let message = Item::of(Event::Message { transactional: true, lsn: Lsn(1), prefix: b"a\"\n\x01\xff", content: b"\x00\xfe" }, None).unwrap();
         assert_eq!(
-            message.json(),
+            message.json(&mut Relations::new()),
             "{\"event\":\"message\",\"transactional\":true,\"lsn\":\"0/1\",\"prefix\":\"a\\\"\\n\\u0001\u{fffd}\",\"marks\":1,\"content\":\"00fe\"}"
         );
         // The content is shown on this line alone.
-        assert_eq!(message.text(), "message 0/1 transactional \"a\\\"\\n\\u0001\u{fffd}\" \"\\u0000\u{fffd}\" marks 2");
+        assert_eq!(message.text(&mut Relations::new()), "message 0/1 transactional \"a\\\"\\n\\u0001\u{fffd}\" \"\\u0000\u{fffd}\" marks 2");
         // U+FFFD of the text's own is no mark.
         let own = Item::of(Event::Message { transactional: false, lsn: Lsn(1), prefix: "\u{fffd}".as_bytes(), content: b"" }, None).unwrap();
-        assert_eq!(own.text(), "message 0/1 immediate \"\u{fffd}\" \"\"");
-        assert!(own.json().contains("\"marks\":0"));
+        assert_eq!(own.text(&mut Relations::new()), "message 0/1 immediate \"\u{fffd}\" \"\"");
+        assert!(own.json(&mut Relations::new()).contains("\"marks\":0"));
     }
 
     #[test]
@@ -247,16 +208,10 @@ mod tests {
         let none = Item::of(commit, Some(touched.files())).unwrap();
         touched.event(&insert(b"I\0\0\0\x07N\0\0"));
         let both = Item::of(commit, Some(touched.event(&insert(b"I\0\0\0\x08N\0\0")))).unwrap();
-        assert_eq!(none.text(), "commit 0/10 end 0/20 at 2000-01-01T00:00:00.000000Z files -");
-        assert_eq!(both.text(), "commit 0/10 end 0/20 at 2000-01-01T00:00:00.000000Z files 1,3");
-        assert!(none.json().ends_with(r#"00Z","files":[]}"#) && both.json().ends_with(r#"00Z","files":[1,3]}"#));
-    }
-
-    #[test]
-    fn marks_of_a_text_above_a_megabyte() {
-        for n in [1_048_576, 1_048_577] {
-            let (text, marks) = lossy(&[&vec![b'a'; n - 2][..], b"\xFF\xC2"].concat());
-            assert_eq!((text.len(), marks), (n + 4, 2));
-        }
+        assert_eq!(none.text(&mut Relations::new()), "commit 0/10 end 0/20 at 2000-01-01T00:00:00.000000Z files -");
+        assert_eq!(both.text(&mut Relations::new()), "commit 0/10 end 0/20 at 2000-01-01T00:00:00.000000Z files 1,3");
+        assert!(
+            none.json(&mut Relations::new()).ends_with(r#"00Z","files":[]}"#) && both.json(&mut Relations::new()).ends_with(r#"00Z","files":[1,3]}"#)
+        );
     }
 }

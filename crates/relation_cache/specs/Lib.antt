@@ -1,0 +1,5 @@
+pub mod Answers
+pub mod Cache
+pub mod CacheCases
+pub mod Laws
+pub mod Memory

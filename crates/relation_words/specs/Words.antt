@@ -1,0 +1,28 @@
+-- What a relation cache answers, as words. SCOPE 9.10. The places have names in src/layout.rt, which host/src/ffi.rs and rufflesquash.h repeat.
+use Prim.Native.Nat.{ℕ}
+use mathlib.Core.Bool.{Bool, true, false}
+use mathlib.Core.List.{List, [], _∷_}
+use mathlib.Core.Option.{Option, some, none}
+use Rattle.rows.specs.Rows.{rowSaid}
+use Rattle.row_words.specs.Words.{rowReply}
+use Rattle.relation_cache.specs.Memory.{Memory, messageOf}
+use Rattle.relation_cache.specs.Answers.{Told}
+
+-- 1 for yes
+abbrev pub flagWord : Bool → ℕ
+flagWord true = 1
+flagWord false = 0
+
+-- whether a relation is held, and how many columns it has, 0 where it is not
+abbrev pub countReply : Option ℕ → ℕ × ℕ
+countReply none = (0, 0)
+countReply (some n) = (1, n)
+
+-- whether there is such a column; where its name stands and how long it is; whether it is of the key; its type
+abbrev pub columnWords : Option Told → List ℕ
+columnWords none = 0 ∷ 0 ∷ 0 ∷ 0 ∷ 0 ∷ []
+columnWords (some t) = 1 ∷ t .0 .0 ∷ t .0 .1 ∷ flagWord (t .1) ∷ t .2 ∷ []
+
+-- what a call answers to data: the refusal's number, 0 for none, and the words of the row's head; and the memory after it
+abbrev pub messageCall : Memory → List ℕ → (ℕ × List ℕ) × Memory
+messageCall m s = (rowReply (messageOf m (rowSaid s) .0), messageOf m (rowSaid s) .1)

@@ -1,0 +1,3 @@
+-- On another connection: nothing is held at first.
+SELECT catalog();
+INSERT INTO t70 DEFAULT VALUES; INSERT INTO t2 DEFAULT VALUES; INSERT INTO t5 DEFAULT VALUES; UPDATE t2 SET id = -id; INSERT INTO late DEFAULT VALUES;
