@@ -4,6 +4,7 @@
 //!
 //! Use: leaves STDIN-FILE STDOUT-FILE
 
+mod hours;
 mod messages;
 mod position;
 mod protocol;
@@ -513,7 +514,7 @@ fn name_lists(v: &mut Vectors, draw: &mut Draw) {
 
 /// Every refusal that a kind's line can begin with is reached, and each that a reader alone can answer. 25 is the program `too_long`'s.
 fn refusals_reached(lines: &str) {
-    let readers = [("p", 22..=24), ("a", 21..=21), ("c", 10..=13), ("b", 14..=18), ("r", 20..=20)];
+    let readers = [("p", 22..=24), ("a", 21..=21), ("c", 10..=13), ("b", 14..=18), ("r", 20..=20), ("v", 32..=34)];
     let writers = ["d", "l", "u", "e", "o", "q", "y", "t", "z", "x", "s"].map(|kind| (kind, 4..=4));
     for (kind, numbers) in readers.into_iter().chain(writers) {
         for n in numbers.chain([0]) {
@@ -558,6 +559,7 @@ fn main() {
     auths(&mut v, &mut draw);
     name_lists(&mut v, &mut draw);
     messages::all(&mut v, &mut draw);
+    hours::all(&mut v, &mut draw);
     recorded(&mut v);
     // an unknown kind ends the program
     v.input.extend([b'?', 0, 0, 0, 0, 0, 0, 0, 0, 0]);

@@ -25,7 +25,7 @@ extern "C" {
 #endif
 
 /* The number of this list and of the functions; it grows with every change of either. */
-#define RUFFLESQUASH_ABI 9
+#define RUFFLESQUASH_ABI 10
 
 /* Settings: intervals are nanoseconds, a flag is true unless 0. */
 #define RUFFLESQUASH_SETTINGS_WORDS 7
@@ -251,6 +251,15 @@ extern "C" {
 #define RUFFLESQUASH_KIND_MESSAGE_TOO_LARGE 5
 #define RUFFLESQUASH_KIND_PARSE_LSN 6
 
+/* Opening hours: windows, Monday first. */
+#define RUFFLESQUASH_HOURS_DAYS 7
+
+/* Whether the hall is open (1 or 0), whether that ever changes (1 or 0), and at which moment, in two's complement. */
+#define RUFFLESQUASH_HOURS_WORDS 3
+#define RUFFLESQUASH_HOURS_OPEN 0
+#define RUFFLESQUASH_HOURS_CHANGES 1
+#define RUFFLESQUASH_HOURS_MOMENT 2
+
 /* A row's head. Words that a row does not have are 0. */
 #define RUFFLESQUASH_ROW_WORDS 11
 #define RUFFLESQUASH_ROW_KIND 0
@@ -461,6 +470,16 @@ uint64_t rufflesquash_refusal_kind(uint64_t refusal);
 
 /* 1 where a new connection may help after this refusal, else 0. */
 uint64_t rufflesquash_refusal_is_transient(uint64_t refusal);
+
+/* ---- opening hours */
+
+/* Whether a venue's hall is open at a moment, and the first later moment at which that changes. For each weekday, Monday first, the minutes from 0 to
+ * 1440 at which its window opens and closes: the opening minute is open, the closing minute shut, equal minutes mean shut all day. The offset is the
+ * minutes, -840 to 840, by which the venue's clock is ahead of UTC. Moments are microseconds from 2000-01-01 00:00 UTC, a Saturday, at most 2^62 from
+ * it; the moment of the change may lie past that. A window to 1440 and one from 0 on the next day meet without a change. Hours that never change have
+ * 0 in CHANGES and in MOMENT. Answers the refusal (32, 33, 34, in this order); refused, the answer is all 0. */
+uint64_t rufflesquash_hours(const uint64_t opens[RUFFLESQUASH_HOURS_DAYS], const uint64_t closes[RUFFLESQUASH_HOURS_DAYS], int64_t offset,
+                            int64_t moment, uint64_t answer[RUFFLESQUASH_HOURS_WORDS]);
 
 /* ---- the rows in the data of an event (kind XLOG_DATA), or in any data of pgoutput, protocol version 1
  *

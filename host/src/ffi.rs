@@ -8,7 +8,7 @@
 #![allow(dead_code)]
 
 // ---- the number of this list and of the functions; it grows with every change of either
-pub const ABI: u64 = 9;
+pub const ABI: u64 = 10;
 
 // ---- settings: intervals are nanoseconds, a flag is true unless 0
 pub const SETTINGS_WORDS: usize = 7;
@@ -234,6 +234,15 @@ pub const KIND_SERVER: u64 = 4;
 pub const KIND_MESSAGE_TOO_LARGE: u64 = 5;
 pub const KIND_PARSE_LSN: u64 = 6;
 
+// ---- opening hours: windows, Monday first
+pub const HOURS_DAYS: usize = 7;
+
+// ---- whether the hall is open (1 or 0), whether that ever changes (1 or 0), and at which moment, in two's complement
+pub const HOURS_WORDS: usize = 3;
+pub const HOURS_OPEN: usize = 0;
+pub const HOURS_CHANGES: usize = 1;
+pub const HOURS_MOMENT: usize = 2;
+
 // ---- a row's head; words that a row does not have are 0
 pub const ROW_WORDS: usize = 11;
 pub const ROW_KIND: usize = 0;
@@ -438,6 +447,14 @@ extern "C" {
     pub fn rufflesquash_refusal_kind(refusal: u64) -> u64;
 
     pub fn rufflesquash_refusal_is_transient(refusal: u64) -> u64;
+
+    pub fn rufflesquash_hours(
+        opens: *const [u64; HOURS_DAYS],
+        closes: *const [u64; HOURS_DAYS],
+        offset: i64,
+        moment: i64,
+        answer: *mut [u64; HOURS_WORDS],
+    ) -> u64;
 
     pub fn rufflesquash_row(data: *const u8, data_len: usize, row: *mut [u64; ROW_WORDS]) -> u64;
 
@@ -824,6 +841,14 @@ pub fn refusal_kind(refusal: u64) -> u64 {
 pub fn refusal_is_transient(refusal: u64) -> bool {
     // SAFETY: takes a number.
     unsafe { rufflesquash_refusal_is_transient(refusal) != 0 }
+}
+
+/// The refusal's number and the answer's words.
+pub fn hours(opens: &[u64; HOURS_DAYS], closes: &[u64; HOURS_DAYS], offset: i64, moment: i64) -> (u64, [u64; HOURS_WORDS]) {
+    let mut answer = [0; HOURS_WORDS];
+    // SAFETY: the arrays have the lengths that the function names.
+    let number = unsafe { rufflesquash_hours(opens, closes, offset, moment, &mut answer) };
+    (number, answer)
 }
 
 // ---- rows

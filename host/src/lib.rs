@@ -38,6 +38,7 @@
 mod archive;
 mod cell;
 mod ffi;
+mod hours;
 mod messages;
 mod refusal;
 pub mod relations;
@@ -49,6 +50,7 @@ mod types;
 
 pub use archive::{check_archive, WrongArchive};
 pub use cell::ProgressCell;
+pub use hours::{Hall, OpeningHours, Weekday, Window};
 pub use messages::{write_copy_done, write_query, write_startup, write_status, write_terminate};
 pub use refusal::{Kind, Refusal};
 pub use run::Run;

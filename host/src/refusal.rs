@@ -68,6 +68,9 @@ refusals! {
     29 RelationTooLarge "a relation has more than 32 columns, or a column's name more than 63 bytes",
     30 RowUnmatched "a row's relation is not held, or has another number of columns",
     31 NoSuchFile "the file's number is above 3",
+    32 InvalidWindow "a window opens after it closes, or a minute is above 1,440",
+    33 OffsetOutOfRange "an offset is outside -840 to 840 minutes",
+    34 CalendarMomentOutOfRange "a moment of the calendar is more than 4,611,686,018,427,387,904 microseconds from 2000-01-01",
 }
 
 impl Refusal {

@@ -1041,6 +1041,54 @@ static void kinds(void) {
 
 /* ---- opening hours */
 
+static void opening_hours(void) {
+    /* Each weekday's window is its own, so that no two can be taken for each other; Saturday is shut. Moment 0 is a Saturday, 00:00. */
+    static const uint64_t opens[R(HOURS_DAYS)] = {60, 120, 180, 240, 300, 0, 420}, closes[R(HOURS_DAYS)] = {61, 122, 183, 244, 305, 0, 427};
+    static const uint64_t none[R(HOURS_DAYS)] = {0}, whole[R(HOURS_DAYS)] = {1440, 1440, 1440, 1440, 1440, 1440, 1440};
+    const int64_t minute = 60000000, most = INT64_C(4611686018427387904);
+    uint64_t hall[R(HOURS_WORDS)] = {9, 9, 9};
+    SAME(rufflesquash_hours(opens, closes, 0, 0, hall), 0);
+    SAME(hall[R(HOURS_OPEN)], 0);
+    SAME(hall[R(HOURS_CHANGES)], 1);
+    SAME(hall[R(HOURS_MOMENT)], (1440 + 420) * minute);
+    /* Sunday, then Monday to Friday, each at its opening and its closing minute. */
+    static const int days[] = {6, 0, 1, 2, 3, 4};
+    for (int i = 0; i < 6; i++) {
+        int64_t day = (1 + i) * 1440 * minute;
+        SAME(rufflesquash_hours(opens, closes, 0, day + (int64_t)opens[days[i]] * minute, hall), 0);
+        WORDS(hall, 1, 1, (uint64_t)(day + (int64_t)closes[days[i]] * minute));
+        SAME(rufflesquash_hours(opens, closes, 0, day + (int64_t)closes[days[i]] * minute - 1, hall), 0);
+        WORDS(hall, 1, 1, (uint64_t)(day + (int64_t)closes[days[i]] * minute));
+        SAME(rufflesquash_hours(opens, closes, 0, day + (int64_t)closes[days[i]] * minute, hall), 0);
+        SAME(hall[R(HOURS_OPEN)], 0);
+    }
+    /* An hour ahead of UTC all comes an hour sooner; before moment 0 the answer is negative. */
+    SAME(rufflesquash_hours(opens, closes, 60, 0, hall), 0);
+    WORDS(hall, 0, 1, (uint64_t)((1440 + 360) * minute));
+    SAME(rufflesquash_hours(opens, closes, 0, -1440 * minute, hall), 0);
+    WORDS(hall, 0, 1, (uint64_t)(-1140 * minute));
+    /* Hours that never change. */
+    SAME(rufflesquash_hours(none, none, 840, most, hall), 0);
+    WORDS(hall, 0);
+    SAME(rufflesquash_hours(none, whole, -840, -most, hall), 0);
+    WORDS(hall, 1);
+    /* 32, then 33, then 34. */
+    memset(hall, 9, sizeof hall);
+    SAME(rufflesquash_hours(whole, none, 841, most + 1, hall), 32);
+    WORDS(hall, 0);
+    memset(hall, 9, sizeof hall);
+    SAME(rufflesquash_hours(none, whole, 841, most + 1, hall), 33);
+    WORDS(hall, 0);
+    SAME(rufflesquash_hours(none, whole, -841, 0, hall), 33);
+    SAME(rufflesquash_hours(none, whole, INT64_MIN, 0, hall), 33);
+    memset(hall, 9, sizeof hall);
+    SAME(rufflesquash_hours(none, whole, 840, most + 1, hall), 34);
+    WORDS(hall, 0);
+    SAME(rufflesquash_hours(none, whole, 840, INT64_MIN, hall), 34);
+    static const uint64_t high[R(HOURS_DAYS)] = {0, 0, 0, 0, 0, 0, UINT64_MAX};
+    SAME(rufflesquash_hours(none, high, 0, 0, hall), 32);
+}
+
 /* ---- a load: seed 1 draws a Begin, seed 2 other data with two letters; of each the numbers were drawn by hand */
 
 /* Marsaglia's generator, here once more, for the numbers that the events are to have. */
@@ -1340,6 +1388,7 @@ int main(void) {
     rows();
     requests_and_errors();
     kinds();
+    opening_hours();
     touched();
     null_pointers();
     null_pointers_elsewhere();

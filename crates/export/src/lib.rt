@@ -2,6 +2,7 @@
 // SCOPE 9. Each function converts words, calls one function of a crate below, and converts what that answers.
 // `preserved`: the words at exit stand for the run that the call leaves, so calls over words are calls over runs.
 mod abi;
+mod calendar;
 mod cells;
 mod client;
 mod relations;

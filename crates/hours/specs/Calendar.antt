@@ -9,6 +9,10 @@ use lib.Dec.{leb, ltb}
 use Rattle.wire.specs.Bytes.{pick}
 use Rattle.hours.specs.declared.Hours.{Hours}
 
+-- opening and closing minutes, Monday first, and an offset
+abbrev pub hours : List ℕ → List ℕ → ℤ → Hours
+hours opens closes offset = record { opens = opens; closes = closes; offset = offset }
+
 -- microseconds of a minute
 abbrev pub minute : ℕ
 minute = 60000000

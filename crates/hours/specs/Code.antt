@@ -25,6 +25,7 @@ counted (negsuc k) = 4838400000000000000 - 1 - k
 abbrev pub boundaryAfter : ℕ → ℕ → ℕ → ℕ
 boundaryAfter opens closes m = pick (ltb m opens) (opens - m) (pick (ltb m closes) (closes - m) (1440 - m))
 
+-- .. of the window of the day in which a minute of the week lies
 unfoldable pub untilBoundary : Hours → ℕ → ℕ
 untilBoundary h m = boundaryAfter (getD (h .opens) (m / 1440) 0) (getD (h .closes) (m / 1440) 0) (m % 1440)
 

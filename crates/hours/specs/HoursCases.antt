@@ -6,16 +6,12 @@ use mathlib.Core.Option.{Option, some, none}
 use Prim.Native.Nat.{ℕ, _+_, _*_}
 use lib.IntN.{ℤ, pos, negsuc}
 use Rattle.hours.specs.declared.Hours.{Hours}
-use Rattle.hours.specs.Calendar.{minute, floorMod, sinceMonday, openAt, isOpen, areWindows}
+use Rattle.hours.specs.Calendar.{hours, minute, floorMod, sinceMonday, openAt, isOpen, areWindows}
 use Rattle.hours.specs.Answer.{changeFrom, nextOf, hoursOf}
 
 -- microseconds of days
 abbrev pub days : ℕ → ℕ
 days n = n * 86400000000
-
--- opening and closing minutes, Monday first, and an offset
-abbrev pub hours : List ℕ → List ℕ → ℤ → Hours
-hours opens closes offset = record { opens = opens; closes = closes; offset = offset }
 
 -- the microsecond of the week at known days, on a clock that shows UTC
 pub record DayCases : Type 0 where
@@ -35,6 +31,7 @@ pub record DayCases : Type 0 where
   pub ahead : sinceMonday (pos 60) (pos 0) ≡ days 5 + 60 * minute
   pub behind : sinceMonday (negsuc 59) (pos 0) + 60 * minute ≡ days 5
 
+-- each by computing
 pub day-cases : DayCases
 unfolding sinceMonday
 day-cases =
@@ -76,6 +73,7 @@ pub record HoursCases : Type 0 where
   pub moment-late : hoursOf (twoDays 0 0 0 0 (pos 840)) (pos 4611686018427387905) ≡ (34, (false, none))
   pub moment-early : hoursOf (twoDays 0 0 0 0 (negsuc 839)) (negsuc 4611686018427387904) ≡ (34, (false, none))
 
+-- each by computing
 pub hours-cases : HoursCases
 unfolding sinceMonday openAt isOpen areWindows changeFrom nextOf hoursOf
 hours-cases =

@@ -3,3 +3,4 @@ pub mod Calendar
 pub mod Code
 pub mod HoursCases
 pub mod Time
+pub mod Words

@@ -19,6 +19,7 @@ pub record ChangesAt (h : Hours) (t u : ℤ) : Type 0 where
 abbrev pub NeverChanges : Hours → ℤ → Type 0
 NeverChanges h t = (v : ℤ) → t <ℤ v → isOpen h v ≡ isOpen h t
 
+-- what an answer's change says: never, or at a moment
 abbrev pub NextIs : Hours → ℤ → Option ℤ → Type 0
 NextIs h t none = NeverChanges h t
 NextIs h t (some u) = ChangesAt h t u

@@ -1,4 +1,7 @@
 // Opening hours: whether a venue's hall is open at a moment, and when that next changes.
+pub mod layout;
+pub mod words;
+
 ghost use mathlib.Core.Path.{_≡_};
 ghost use mathlib.Core.Bool.{true, false};
 ghost use Prim.Native.Nat.{_<_, _≤_};

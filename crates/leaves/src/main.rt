@@ -1,5 +1,6 @@
 // Reads records from standard input to its end and prints the line of each.
 mod boundaries;
+mod calendar;
 mod kinds;
 mod names;
 mod reader;
