@@ -8,6 +8,7 @@ extern "C" {
     fn bench_read(limit: usize, unread: *const u8, unread_len: usize, payload: *mut u8, payload_len: usize) -> usize;
     fn bench_copy_data(payload: *const u8, len: usize) -> u64;
     fn bench_boundary(bytes: *const u8, len: usize) -> u64;
+    fn bench_load(seed: u64, messages: u64, out: *mut u8, len: usize) -> usize;
 }
 
 const LIMIT: usize = 65_536;
@@ -126,6 +127,16 @@ fn stream(size: usize, length: usize) -> Vec<u8> {
     bytes
 }
 
+/// About so many bytes of messages that the generator draws from a seed, each of 23 to 94 bytes (docs/SCOPE.md, 16).
+fn load(length: usize) -> Vec<u8> {
+    let messages = length / 48;
+    let mut bytes = vec![0; messages * 94];
+    let len = unsafe { bench_load(13, messages as u64, bytes.as_mut_ptr(), bytes.len()) };
+    assert!(len >= messages * 23, "the load is refused");
+    bytes.truncate(len);
+    bytes
+}
+
 fn best(mut run: impl FnMut()) -> f64 {
     (0..7)
         .map(|_| {
@@ -147,7 +158,8 @@ fn compared(bytes: &[u8], payload: &mut [u8]) -> (u64, usize) {
 
 fn main() {
     if std::env::args().any(|argument| argument == "--check") {
-        let messages: usize = SIZES.iter().map(|size| compared(&stream(*size, 1 << 20), &mut vec![0u8; LIMIT]).1).sum();
+        let streams = SIZES.iter().map(|size| stream(*size, 1 << 20)).chain([load(1 << 20)]);
+        let messages: usize = streams.map(|bytes| compared(&bytes, &mut vec![0u8; LIMIT]).1).sum();
         println!("bench: {messages} messages, the same results on both sides");
         return;
     }
@@ -156,31 +168,36 @@ fn main() {
         "bytes", "messages", "ours msg/s", "ours MB/s", "Rust MB/s", "memcpy", "ratio", "ours ns"
     );
     for size in SIZES {
-        let bytes = stream(size, 64 << 20);
-        let mut payload = vec![0u8; LIMIT];
-        let (_, count) = compared(&bytes, &mut payload);
-        let ours = best(|| {
-            black_box(rattle(black_box(&bytes), &mut payload));
-        });
-        let rust = best(|| {
-            black_box(plain(black_box(&bytes), &mut payload));
-        });
-        let mut copy = vec![0u8; bytes.len()];
-        let mem = best(|| {
-            copy.copy_from_slice(black_box(&bytes));
-            black_box(&mut copy);
-        });
-        let mb = bytes.len() as f64 / 1e6;
-        println!(
-            "{:>8} {:>9} {:>12.0} {:>9.0} {:>9.0} {:>9.0} {:>7.2} {:>9.1}",
-            bytes.len() / count,
-            count,
-            count as f64 / ours,
-            mb / ours,
-            mb / rust,
-            mb / mem,
-            ours / rust,
-            ours / count as f64 * 1e9
-        );
+        measured("", &stream(size, 64 << 20));
     }
+    measured("load", &load(64 << 20));
+}
+
+/// A line: both sides on a stream, and memcpy of its bytes.
+fn measured(name: &str, bytes: &[u8]) {
+    let mut payload = vec![0u8; LIMIT];
+    let (_, count) = compared(bytes, &mut payload);
+    let ours = best(|| {
+        black_box(rattle(black_box(bytes), &mut payload));
+    });
+    let rust = best(|| {
+        black_box(plain(black_box(bytes), &mut payload));
+    });
+    let mut copy = vec![0u8; bytes.len()];
+    let mem = best(|| {
+        copy.copy_from_slice(black_box(bytes));
+        black_box(&mut copy);
+    });
+    let mb = bytes.len() as f64 / 1e6;
+    println!(
+        "{:>8} {:>9} {:>12.0} {:>9.0} {:>9.0} {:>9.0} {:>7.2} {:>9.1} {name}",
+        bytes.len() / count,
+        count,
+        count as f64 / ours,
+        mb / ours,
+        mb / rust,
+        mb / mem,
+        ours / rust,
+        ours / count as f64 * 1e9
+    );
 }

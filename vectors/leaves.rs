@@ -5,6 +5,7 @@
 //! Use: leaves STDIN-FILE STDOUT-FILE
 
 mod hours;
+mod load;
 mod messages;
 mod position;
 mod protocol;
@@ -560,6 +561,7 @@ fn main() {
     name_lists(&mut v, &mut draw);
     messages::all(&mut v, &mut draw);
     hours::all(&mut v, &mut draw);
+    load::all(&mut v, &mut draw);
     recorded(&mut v);
     // an unknown kind ends the program
     v.input.extend([b'?', 0, 0, 0, 0, 0, 0, 0, 0, 0]);

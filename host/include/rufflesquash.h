@@ -25,7 +25,7 @@ extern "C" {
 #endif
 
 /* The number of this list and of the functions; it grows with every change of either. */
-#define RUFFLESQUASH_ABI 10
+#define RUFFLESQUASH_ABI 11
 
 /* Settings: intervals are nanoseconds, a flag is true unless 0. */
 #define RUFFLESQUASH_SETTINGS_WORDS 7
@@ -310,6 +310,9 @@ extern "C" {
 #define RUFFLESQUASH_IDENTIFIER_REFUSAL 0
 #define RUFFLESQUASH_IDENTIFIER_ID 1
 
+/* An event of a load: its kind and its six numbers, as in the answer of a step. */
+#define RUFFLESQUASH_LOAD_WORDS 7
+
 /* The lent memory of a relation cache: at most so many relations, their columns (32 for each), the bytes of the columns' names (63 for each), and how
  * many bytes the arrays have in all. */
 #define RUFFLESQUASH_CACHE_RELATIONS 64
@@ -524,6 +527,16 @@ uint64_t rufflesquash_row_identifier(const uint8_t *data, size_t data_len, size_
 uint64_t rufflesquash_touched(const uint32_t *identifiers, size_t identifiers_len, const uint64_t *files, size_t files_len,
                               const uint64_t answer[RUFFLESQUASH_ANSWER_WORDS], const uint8_t *payload, size_t payload_len,
                               uint64_t *touched);
+
+/* ---- a load for benchmarks */
+
+/* Writes so many messages of a server, drawn from a seed, over the front of out: CopyData with keepalives, Begins, Commits and other data in turn as
+ * they are drawn. Gives how many bytes they have; answers the refusal (35 for a seed of 0, then 4), after which out is as it was and written 0. */
+uint64_t rufflesquash_load(uint64_t seed, uint64_t messages, uint8_t *out, size_t out_len, uint64_t *written);
+
+/* The event of the message that is drawn from a state, as a run hands it on that was opened already and has no stop position; the data of an XLOG_DATA
+ * begin at place 25 of its payload. The first state is the seed. Answers the next state. */
+uint64_t rufflesquash_load_event(uint64_t state, uint64_t event[RUFFLESQUASH_LOAD_WORDS]);
 
 /* ---- a relation cache: what the Relation messages of a stream said of their columns, and rows matched with it
  *

@@ -8,7 +8,7 @@
 #![allow(dead_code)]
 
 // ---- the number of this list and of the functions; it grows with every change of either
-pub const ABI: u64 = 10;
+pub const ABI: u64 = 11;
 
 // ---- settings: intervals are nanoseconds, a flag is true unless 0
 pub const SETTINGS_WORDS: usize = 7;
@@ -293,6 +293,9 @@ pub const IDENTIFIER_WORDS: usize = 2;
 pub const IDENTIFIER_REFUSAL: usize = 0;
 pub const IDENTIFIER_ID: usize = 1;
 
+// ---- an event of a load: its kind and its six numbers, as in the answer of a step
+pub const LOAD_WORDS: usize = 7;
+
 // ---- the lent memory of a relation cache: at most so many relations, their columns, the bytes of the columns' names, and how many bytes in all
 pub const CACHE_RELATIONS: usize = 64;
 pub const CACHE_COLUMNS: usize = 2048;
@@ -517,6 +520,10 @@ extern "C" {
         payload_len: usize,
         touched: *mut u64,
     ) -> u64;
+
+    pub fn rufflesquash_load(seed: u64, messages: u64, out: *mut u8, out_len: usize, written: *mut u64) -> u64;
+
+    pub fn rufflesquash_load_event(state: u64, event: *mut [u64; LOAD_WORDS]) -> u64;
 }
 
 // ---- safe functions
@@ -898,6 +905,24 @@ pub fn touched(identifiers: &[u32], files: &[u64], answer: &[u64; ANSWER_WORDS],
         let (at, len) = (payload.as_ptr(), payload.len());
         rufflesquash_touched(identifiers.as_ptr(), identifiers.len(), files.as_ptr(), files.len(), answer, at, len, bits)
     }
+}
+
+// ---- a load
+
+/// The refusal's number and how many bytes were written.
+pub fn load(seed: u64, messages: u64, out: &mut [u8]) -> (u64, u64) {
+    let mut written = 0;
+    // SAFETY: the slice is lent whole, and nothing overlaps the count.
+    let number = unsafe { rufflesquash_load(seed, messages, out.as_mut_ptr(), out.len(), &mut written) };
+    (number, written)
+}
+
+/// The next state and the words of the event that is drawn from a state.
+pub fn load_event(state: u64) -> (u64, [u64; LOAD_WORDS]) {
+    let mut event = [0; LOAD_WORDS];
+    // SAFETY: the array has the length that the function names.
+    let next = unsafe { rufflesquash_load_event(state, &mut event) };
+    (next, event)
 }
 
 /// The memory of a relation cache; any content of it is some cache.

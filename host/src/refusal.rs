@@ -71,6 +71,7 @@ refusals! {
     32 InvalidWindow "a window opens after it closes, or a minute is above 1,440",
     33 OffsetOutOfRange "an offset is outside -840 to 840 minutes",
     34 CalendarMomentOutOfRange "a moment of the calendar is more than 4,611,686,018,427,387,904 microseconds from 2000-01-01",
+    35 SeedZero "a load's seed is 0",
 }
 
 impl Refusal {

@@ -1092,6 +1092,48 @@ static void opening_hours(void) {
 /* ---- a load: seed 1 draws a Begin, seed 2 other data with two letters; of each the numbers were drawn by hand */
 
 /* Marsaglia's generator, here once more, for the numbers that the events are to have. */
+static uint64_t drawn(uint64_t *state) {
+    *state ^= *state << 13;
+    *state ^= *state >> 7;
+    *state ^= *state << 17;
+    return *state;
+}
+
+static void load(void) {
+    static const uint8_t begin[] = {0x64, 0, 0, 0, 0x32, 0x77, 0x10, 0x00, 0x41, 0x06, 0x0C, 0x01, 0x14, 0x41, 0x9B, 0x1E, 0x84,
+                                    0x2F, 0x6E, 0x86, 0x26, 0x29, 0, 0, 0, 0, 0, 0, 0, 0, 0x42, 0xF5, 0x54, 0xF5, 0x03, 0x55, 0x5D, 0x80, 0x25,
+                                    0, 0, 0, 0, 0, 0, 0, 0, 0x90, 0x59, 0x92, 0x65};
+    uint8_t out[4096];
+    uint64_t written = 9, event[R(LOAD_WORDS)], state = 1;
+    memset(out, 7, sizeof out);
+    SAME(rufflesquash_load(1, 1, out, sizeof out, &written), 0);
+    SAME(written, sizeof begin);
+    BYTES(out, begin, sizeof begin);
+    SAME(out[sizeof begin], 7);
+    SAME(rufflesquash_load(1, 1, out, sizeof begin - 1, &written), 4);
+    SAME(written, 0);
+    SAME(rufflesquash_load(0, 1, out, 0, &written), 35);
+    SAME(written, 0);
+    /* A hundred events, each from the same draws. */
+    for (int i = 0; i < 100; i++) {
+        uint64_t own = state, kind = drawn(&own) % 4, a = drawn(&own), b = drawn(&own), c = 0, d = 0;
+        if (kind != 0)
+            c = drawn(&own);
+        if (kind % 2 == 1)
+            d = drawn(&own);
+        state = rufflesquash_load_event(state, event);
+        SAME(state, own);
+        if (kind == 0)
+            WORDS(event, R(EVENT_KEEP_ALIVE), a, 0, b & 1);
+        else if (kind == 1)
+            WORDS(event, R(EVENT_BEGIN), c, 0, d & UINT32_MAX);
+        else if (kind == 2)
+            WORDS(event, R(EVENT_XLOG_DATA), a, b, 0, 25, c % 64 + 1);
+        else
+            WORDS(event, R(EVENT_COMMIT), c, d);
+    }
+}
+
 /* A null pointer with length 0, in every place of a buffer. */
 static void null_pointers(void) {
     static const uint64_t no_limit[R(SETTINGS_WORDS)] = {0};
@@ -1389,6 +1431,7 @@ int main(void) {
     requests_and_errors();
     kinds();
     opening_hours();
+    load();
     touched();
     null_pointers();
     null_pointers_elsewhere();

@@ -7,6 +7,7 @@ use Rattle.error.specs.Writer.{writing}
 use Rattle.lossy.specs.Lossy.{lossyOf}
 use Rattle.lossy.specs.Marks.{marksOf, withMarks}
 use Rattle.framing.specs.Read.{readOf, fresh}
+use Rattle.load.specs.Load.{loading}
 use Rattle.replication.specs.CopyData as C
 use Rattle.pgoutput.specs.Boundary as B
 
@@ -37,3 +38,7 @@ readTaken limit u p = let x = readOf limit fresh u false p in (x .2, x .3)
 -- how many bytes of a lossy text were written, and the output after that
 abbrev pub lossyWritten : List ℕ → List ℕ → ℕ × List ℕ
 lossyWritten text out = let w = withMarks (marksOf text) (writing (length text) (lossyOf text) out) in (w .0 .1, w .1)
+
+-- how many bytes of a generated stream were written, and the output after that
+abbrev pub loadWritten : ℕ → ℕ → List ℕ → ℕ × List ℕ
+loadWritten seed messages out = let w = loading seed messages out in (w .0 .1, w .1)

@@ -5,8 +5,9 @@ ghost use Rattle.replication.specs.CopyData.{copyDataOf, saidBy as copySaid};
 ghost use Rattle.pgoutput.specs.Boundary.{boundaryOf, saidBy as boundarySaid};
 ghost use Rattle.lossy.specs.Marks.{lossyOutcome};
 ghost use Rattle.lossy.specs.Stretch.{stretchOf};
-ghost use Rattle.bench.specs.Mixed.{plus, bit, copyMixed, boundaryMixed, readTaken, lossyWritten};
+ghost use Rattle.bench.specs.Mixed.{plus, bit, copyMixed, boundaryMixed, readTaken, lossyWritten, loadWritten};
 use framing::MessageReader;
+use load::Loaded;
 use lossy::Lossy;
 use pgoutput::Boundary;
 use replication::CopyData;
@@ -134,4 +135,15 @@ pub extern "C" fn bench_well_formed_prefix_plain(text: &[u8]) -> usize
     ensures { λ r. ⌜ r ≡ stretchOf (now (text .entry)) ⌝ }
 {
     lossy::plain::well_formed_prefix(text)
+}
+
+// How long the stream is of so many messages that are drawn from a seed, 0 where it is refused.
+#[no_mangle]
+pub extern "C" fn bench_load(seed: u64, messages: u64, out: &mut [u8]) -> usize
+    ensures { λ r. ⌜ (r, now (out .exit)) ≡ loadWritten seed messages (now (out .entry)) ⌝ }
+{
+    match load::write_load(seed, messages, out) {
+        Loaded::Wrote(n) => n,
+        Loaded::Refused(_) => 0,
+    }
 }

@@ -5,6 +5,7 @@ mod abi;
 mod calendar;
 mod cells;
 mod client;
+mod generated;
 mod relations;
 mod row;
 mod server;

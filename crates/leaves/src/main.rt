@@ -1,6 +1,7 @@
 // Reads records from standard input to its end and prints the line of each.
 mod boundaries;
 mod calendar;
+mod generated;
 mod kinds;
 mod names;
 mod reader;

@@ -1,6 +1,7 @@
 // Kinds of records whose input is read: each answers the place after the line's fields, which begin after the kind.
 use crate::boundaries;
 use crate::calendar;
+use crate::generated;
 use crate::rows;
 use crate::session;
 use crate::shown;
@@ -108,6 +109,7 @@ pub(crate) fn after_fields(kind: u8, input: &[u8], line: &mut [u8]) -> usize {
         b'f' => fields(line, input),
         b'r' => rows::row(line, input),
         b'm' => session::simple(line, input),
+        b'k' => generated::events(line, input),
         b'v' => calendar::after_fields(line, input),
         b'w' => lines::number(line, 1, lossy::well_formed_prefix(input) as u64),
         _ => 0,

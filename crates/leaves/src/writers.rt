@@ -3,6 +3,7 @@
 ghost use mathlib.Core.Path.{_≡_};
 ghost use mathlib.Core.List.{_++_};
 ghost use Rattle.lines.specs.Line.{pieces, numberTexts, sumOf, partTexts};
+use crate::generated;
 use crate::names;
 use error::Written;
 use lines::fields;
@@ -100,6 +101,7 @@ fn write(kind: u8, input: &[u8], out: &mut [u8]) -> Answer {
         b'z' | b'x' => of_nothing(kind, out),
         b'd' => display(input, out),
         b't' => status(input, out),
+        b'n' => generated::stream(input, out),
         _ => names::named(kind, input, out),
     }
 }

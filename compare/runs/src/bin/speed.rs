@@ -10,7 +10,7 @@ use original::client::metrics::ReplicationMetrics;
 use original::client::worker::{ReplicationEvent, SharedProgress, WorkerState};
 use original::config::ReplicationConfig;
 use original::lsn::Lsn as TheirLsn;
-use rufflesquash::{Event, Input, Lsn, Moment, Queue, Run, Settings, State, STEP_OUTPUT};
+use rufflesquash::{write_load, Event, Input, Lsn, Moment, Queue, Run, Settings, State, STEP_OUTPUT};
 use runs::original::number_of;
 use runs::server::{begin, commit, data, keepalive};
 use std::io;
@@ -97,6 +97,15 @@ fn recorded(length: usize) -> Stream {
         }
     }
     s
+}
+
+/// The load of a seed, of which a message has 23 to 94 bytes.
+fn generated(length: usize) -> Stream {
+    let messages = length as u64 / 48;
+    let mut bytes = vec![0; 94 * messages as usize];
+    let len = write_load(7, messages, &mut bytes).expect("room for the longest messages");
+    bytes.truncate(len);
+    Stream { bytes, messages }
 }
 
 /// What the consumer makes of the events: all their numbers, and all their bytes or only the first and the last eight of each part.
@@ -371,6 +380,7 @@ fn table() {
     println!("| {} |", columns.join(" | "));
     println!("{}|", "|---".repeat(columns.len()));
     line("recorded", "", &recorded(STREAM));
+    line("load", "", &generated(STREAM));
     for (row, rows) in SHAPES {
         line(&row.to_string(), &rows.to_string(), &stream(row, rows, STREAM));
     }

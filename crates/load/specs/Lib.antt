@@ -1,0 +1,5 @@
+pub mod Xorshift
+pub mod Load
+pub mod Code
+pub mod LoadCases
+pub mod Words

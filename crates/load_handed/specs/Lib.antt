@@ -1,0 +1,2 @@
+pub mod LoadHanded
+pub mod Reached
