@@ -1,0 +1,12 @@
+pub mod Lists
+pub mod Boundary
+pub mod Payload
+pub mod Contained
+pub mod Prefix
+pub mod Mutual
+pub mod Step
+pub mod Gives
+pub mod Error
+pub mod Pair
+pub mod Calls
+pub mod Exported

@@ -1,0 +1,6 @@
+pub mod Hidden
+pub mod Alike
+pub mod Same
+pub mod Unpublished
+pub mod Exported
+pub mod Cases

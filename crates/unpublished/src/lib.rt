@@ -1,0 +1,1 @@
+// Definitions and theorems alone: what two streams that differ in unpublished texts leave equal.
