@@ -1,7 +1,7 @@
 //! Records of kind `h`: messages one after another on an empty relation cache. The cache is a `BTreeMap` by identifier; what a message says is
-//! read off the words of its row. Document 02, wish 4.
+//! read off the words of its row. Document 02, wishes 4 and 12.
 
-use super::{description, described, messages, of, truncated, tuple, words, Cell, Vectors};
+use super::{described, description, messages, of, truncated, tuple, words, Cell, Vectors};
 use crate::shared::{self, Draw};
 use std::collections::BTreeMap;
 use std::fmt::Write as _;
@@ -147,6 +147,29 @@ fn full() -> Vec<Vec<u8>> {
     list
 }
 
+/// A relation whose names, flags and types are its own, and those of its turn.
+fn own(id: u32, turn: u32, n: u32, len: usize) -> Vec<u8> {
+    let letters = "abcdefghijklmnopqrstuvwxyz".repeat(4);
+    let column = |i: u32| {
+        let from = ((id + i + turn) % 26) as usize;
+        let name = format!("{id}_{i}_{turn}_{}", &letters[from..from + 63]);
+        description((id + i + turn) as u8, &name[..len], (id << 26) ^ (turn << 20) ^ i, -1)
+    };
+    described(id, "public", "t", b'd', &(0..n).map(column).collect::<Vec<_>>())
+}
+
+/// 64 relations of 32 names of 63 bytes, each replaced by smaller ones three times, and some of them by as large ones again, once or twice. At last a
+/// row of each tells all that is held.
+fn replaced() -> Vec<Vec<u8>> {
+    let mut list: Vec<_> = (0..64).map(|id| own(id, 0, 32, 63)).collect();
+    for turn in 1..4 {
+        list.extend((0..64).map(|id| own(id, turn, (id + turn) % 4, (7 * turn) as usize)));
+    }
+    list.extend((0..8).chain((48..64).rev()).chain(0..8).zip(4..).map(|(id, turn)| own(id, turn, 32, 63)));
+    list.extend((0..64).map(|id| insert(id, if (8..48).contains(&id) { (id as usize + 3) % 4 } else { 32 })));
+    list
+}
+
 /// The data of each recorded stream in turn.
 fn streams() -> Vec<Vec<Vec<u8>>> {
     shared::stream_files().iter().map(|path| super::stream_data(&std::fs::read(path).unwrap())).collect()
@@ -187,6 +210,7 @@ pub fn make(v: &mut Vectors) {
     let mut draw = Draw(0x0123_4567_89AB_CDEF);
     let mut lists = limits();
     lists.push(full());
+    lists.push(replaced());
     lists.extend(streams());
     lists.extend((0..40).map(|_| mixed(&mut draw, 5, 30)));
     lists.extend((0..6).map(|_| mixed(&mut draw, 90, 250)));

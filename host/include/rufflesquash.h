@@ -25,7 +25,7 @@ extern "C" {
 #endif
 
 /* The number of this list and of the functions; it grows with every change of either. */
-#define RUFFLESQUASH_ABI 11
+#define RUFFLESQUASH_ABI 12
 
 /* Settings: intervals are nanoseconds, a flag is true unless 0. */
 #define RUFFLESQUASH_SETTINGS_WORDS 7
@@ -313,12 +313,12 @@ extern "C" {
 /* An event of a load: its kind and its six numbers, as in the answer of a step. */
 #define RUFFLESQUASH_LOAD_WORDS 7
 
-/* The lent memory of a relation cache: at most so many relations, their columns (32 for each), the bytes of the columns' names (63 for each), and how
- * many bytes the arrays have in all. */
+/* The lent memory of a relation cache: at most so many relations, the words of their columns (32 for each), the bytes of the columns' names (63 for
+ * each), and how many bytes the arrays have in all. */
 #define RUFFLESQUASH_CACHE_RELATIONS 64
 #define RUFFLESQUASH_CACHE_COLUMNS 2048
 #define RUFFLESQUASH_CACHE_NAMES 129024
-#define RUFFLESQUASH_CACHE_BYTES 141640
+#define RUFFLESQUASH_CACHE_BYTES 145736
 
 /* A column of a held relation. */
 #define RUFFLESQUASH_CACHE_COLUMN_WORDS 5
@@ -540,15 +540,15 @@ uint64_t rufflesquash_load_event(uint64_t state, uint64_t event[RUFFLESQUASH_LOA
 
 /* ---- a relation cache: what the Relation messages of a stream said of their columns, and rows matched with it
  *
- * The memory is lent in seven parts, RUFFLESQUASH_CACHE_BYTES in all: how many relations are held, their identifiers, how many columns each has;
- * of each column its type, its flags and its name's length; and the names. Column c of the relation in slot r has number 32 r + c, and its name
- * stands from byte 63 times that on. Every call gets the memory as the last one left it. Any content of it is some cache: a call with it has one
- * stated outcome, whatever the bytes are. */
+ * The memory is lent in five parts, RUFFLESQUASH_CACHE_BYTES in all: how many relations are held, their identifiers, how many columns each has;
+ * a word of each column; and the names. Column c of the relation in slot r has number 32 r + c, and its name stands from byte 63 times that on. A
+ * word has, from its most significant bit on, whether the column belongs to the key (1 bit), its type (32), its name's length (7) and its name's
+ * place in names (24). Every call gets the memory as the last one left it. Any content of it is some cache: a call with it has one stated
+ * outcome, whatever the bytes are; a name that a word places outside of names ends with them. */
 
 /* An empty cache; every byte of the memory is 0. */
 void rufflesquash_cache_clear(uint64_t *held, uint32_t ids[RUFFLESQUASH_CACHE_RELATIONS], uint8_t counts[RUFFLESQUASH_CACHE_RELATIONS],
-                              uint32_t types[RUFFLESQUASH_CACHE_COLUMNS], uint8_t flags[RUFFLESQUASH_CACHE_COLUMNS],
-                              uint8_t lens[RUFFLESQUASH_CACHE_COLUMNS], uint8_t names[RUFFLESQUASH_CACHE_NAMES]);
+                              uint64_t words[RUFFLESQUASH_CACHE_COLUMNS], uint8_t names[RUFFLESQUASH_CACHE_NAMES]);
 
 /* One message: the words of the row that its data hold, as rufflesquash_row answers them. A Relation is held from then on, in place of an earlier one
  * with its identifier. Answers the refusal: those of rufflesquash_row; 28 to a Relation where 64 others are held; 29 to one with more than 32
@@ -556,8 +556,7 @@ void rufflesquash_cache_clear(uint64_t *held, uint32_t ids[RUFFLESQUASH_CACHE_RE
  * columns than one of its tuples. Refused, the memory is as it was and all words are 0: after 29 the former description of the relation stays,
  * and rows with the old number of columns are read under the old names. */
 uint64_t rufflesquash_cache_message(uint64_t *held, uint32_t ids[RUFFLESQUASH_CACHE_RELATIONS], uint8_t counts[RUFFLESQUASH_CACHE_RELATIONS],
-                                    uint32_t types[RUFFLESQUASH_CACHE_COLUMNS], uint8_t flags[RUFFLESQUASH_CACHE_COLUMNS],
-                                    uint8_t lens[RUFFLESQUASH_CACHE_COLUMNS], uint8_t names[RUFFLESQUASH_CACHE_NAMES],
+                                    uint64_t words[RUFFLESQUASH_CACHE_COLUMNS], uint8_t names[RUFFLESQUASH_CACHE_NAMES],
                                     const uint8_t *data, size_t data_len, uint64_t row[RUFFLESQUASH_ROW_WORDS]);
 
 /* 1 where the relation is held, else 0; and how many columns it has. */
@@ -567,8 +566,7 @@ uint64_t rufflesquash_cache_count(uint64_t held, const uint32_t ids[RUFFLESQUASH
 /* A column of a relation, from 0: whether it is given, its name's place in names and length, whether it belongs to the key, its type. All words are 0
  * where the relation is not held or has no such column. */
 void rufflesquash_cache_column(uint64_t held, const uint32_t ids[RUFFLESQUASH_CACHE_RELATIONS], const uint8_t counts[RUFFLESQUASH_CACHE_RELATIONS],
-                               const uint32_t types[RUFFLESQUASH_CACHE_COLUMNS], const uint8_t flags[RUFFLESQUASH_CACHE_COLUMNS],
-                               const uint8_t lens[RUFFLESQUASH_CACHE_COLUMNS], uint32_t id, size_t index,
+                               const uint64_t words[RUFFLESQUASH_CACHE_COLUMNS], uint32_t id, size_t index,
                                uint64_t column[RUFFLESQUASH_CACHE_COLUMN_WORDS]);
 
 #ifdef __cplusplus

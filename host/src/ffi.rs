@@ -8,7 +8,7 @@
 #![allow(dead_code)]
 
 // ---- the number of this list and of the functions; it grows with every change of either
-pub const ABI: u64 = 11;
+pub const ABI: u64 = 12;
 
 // ---- settings: intervals are nanoseconds, a flag is true unless 0
 pub const SETTINGS_WORDS: usize = 7;
@@ -296,11 +296,11 @@ pub const IDENTIFIER_ID: usize = 1;
 // ---- an event of a load: its kind and its six numbers, as in the answer of a step
 pub const LOAD_WORDS: usize = 7;
 
-// ---- the lent memory of a relation cache: at most so many relations, their columns, the bytes of the columns' names, and how many bytes in all
+// ---- the lent memory of a relation cache: at most so many relations, the words of their columns, the bytes of the columns' names, bytes in all
 pub const CACHE_RELATIONS: usize = 64;
 pub const CACHE_COLUMNS: usize = 2048;
 pub const CACHE_NAMES: usize = 129024;
-pub const CACHE_BYTES: usize = 141640;
+pub const CACHE_BYTES: usize = 145736;
 
 // ---- a column of a held relation: whether there is one, its name's place among the names and its length, whether it is of the key, its type
 pub const CACHE_COLUMN_WORDS: usize = 5;
@@ -471,9 +471,7 @@ extern "C" {
         held: *mut u64,
         ids: *mut [u32; CACHE_RELATIONS],
         counts: *mut [u8; CACHE_RELATIONS],
-        types: *mut [u32; CACHE_COLUMNS],
-        flags: *mut [u8; CACHE_COLUMNS],
-        lens: *mut [u8; CACHE_COLUMNS],
+        words: *mut [u64; CACHE_COLUMNS],
         names: *mut [u8; CACHE_NAMES],
     );
 
@@ -481,9 +479,7 @@ extern "C" {
         held: *mut u64,
         ids: *mut [u32; CACHE_RELATIONS],
         counts: *mut [u8; CACHE_RELATIONS],
-        types: *mut [u32; CACHE_COLUMNS],
-        flags: *mut [u8; CACHE_COLUMNS],
-        lens: *mut [u8; CACHE_COLUMNS],
+        words: *mut [u64; CACHE_COLUMNS],
         names: *mut [u8; CACHE_NAMES],
         data: *const u8,
         data_len: usize,
@@ -502,9 +498,7 @@ extern "C" {
         held: u64,
         ids: *const [u32; CACHE_RELATIONS],
         counts: *const [u8; CACHE_RELATIONS],
-        types: *const [u32; CACHE_COLUMNS],
-        flags: *const [u8; CACHE_COLUMNS],
-        lens: *const [u8; CACHE_COLUMNS],
+        words: *const [u64; CACHE_COLUMNS],
         id: u32,
         index: usize,
         column: *mut [u64; CACHE_COLUMN_WORDS],
@@ -930,40 +924,29 @@ pub struct CacheMemory {
     pub held: u64,
     pub ids: [u32; CACHE_RELATIONS],
     pub counts: [u8; CACHE_RELATIONS],
-    pub types: [u32; CACHE_COLUMNS],
-    pub flags: [u8; CACHE_COLUMNS],
-    pub lens: [u8; CACHE_COLUMNS],
+    pub words: [u64; CACHE_COLUMNS],
     pub names: [u8; CACHE_NAMES],
 }
 
 impl CacheMemory {
     /// An empty cache, whose memory is zero.
     pub fn boxed() -> Box<CacheMemory> {
-        Box::new(CacheMemory {
-            held: 0,
-            ids: [0; CACHE_RELATIONS],
-            counts: [0; CACHE_RELATIONS],
-            types: [0; CACHE_COLUMNS],
-            flags: [0; CACHE_COLUMNS],
-            lens: [0; CACHE_COLUMNS],
-            names: [0; CACHE_NAMES],
-        })
+        Box::new(CacheMemory { held: 0, ids: [0; CACHE_RELATIONS], counts: [0; CACHE_RELATIONS], words: [0; CACHE_COLUMNS], names: [0; CACHE_NAMES] })
     }
 }
 
 pub fn cache_clear(m: &mut CacheMemory) {
     // SAFETY: arrays have the lengths that the function names, and exclusive references do not overlap.
-    unsafe { rufflesquash_cache_clear(&mut m.held, &mut m.ids, &mut m.counts, &mut m.types, &mut m.flags, &mut m.lens, &mut m.names) };
+    unsafe { rufflesquash_cache_clear(&mut m.held, &mut m.ids, &mut m.counts, &mut m.words, &mut m.names) };
 }
 
 /// The refusal's number and the words of a row's head.
 pub fn cache_message(m: &mut CacheMemory, data: &[u8]) -> (u64, [u64; ROW_WORDS]) {
     let mut row = [0; ROW_WORDS];
-    let (ids, counts, types) = (&mut m.ids, &mut m.counts, &mut m.types);
     // SAFETY: the slice is lent whole, arrays have the lengths that the function names, and exclusive references do not overlap.
     let number = unsafe {
         let (at, len) = (data.as_ptr(), data.len());
-        rufflesquash_cache_message(&mut m.held, ids, counts, types, &mut m.flags, &mut m.lens, &mut m.names, at, len, &mut row)
+        rufflesquash_cache_message(&mut m.held, &mut m.ids, &mut m.counts, &mut m.words, &mut m.names, at, len, &mut row)
     };
     (number, row)
 }
@@ -980,6 +963,6 @@ pub fn cache_count(m: &CacheMemory, id: u32) -> Option<u64> {
 pub fn cache_column(m: &CacheMemory, id: u32, index: usize) -> [u64; CACHE_COLUMN_WORDS] {
     let mut column = [0; CACHE_COLUMN_WORDS];
     // SAFETY: arrays have the lengths that the function names.
-    unsafe { rufflesquash_cache_column(m.held, &m.ids, &m.counts, &m.types, &m.flags, &m.lens, id, index, &mut column) };
+    unsafe { rufflesquash_cache_column(m.held, &m.ids, &m.counts, &m.words, id, index, &mut column) };
     column
 }

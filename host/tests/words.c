@@ -1344,18 +1344,16 @@ static struct {
     uint64_t held;
     uint32_t ids[R(CACHE_RELATIONS)];
     uint8_t counts[R(CACHE_RELATIONS)];
-    uint32_t types[R(CACHE_COLUMNS)];
-    uint8_t flags[R(CACHE_COLUMNS)];
-    uint8_t lens[R(CACHE_COLUMNS)];
+    uint64_t words[R(CACHE_COLUMNS)];
     uint8_t names[R(CACHE_NAMES)];
 } cache;
 
 static uint64_t cache_message(const uint8_t *data, size_t len, uint64_t row[R(ROW_WORDS)]) {
-    return rufflesquash_cache_message(&cache.held, cache.ids, cache.counts, cache.types, cache.flags, cache.lens, cache.names, data, len, row);
+    return rufflesquash_cache_message(&cache.held, cache.ids, cache.counts, cache.words, cache.names, data, len, row);
 }
 
 static void cache_column(uint32_t id, size_t index, uint64_t column[R(CACHE_COLUMN_WORDS)]) {
-    rufflesquash_cache_column(cache.held, cache.ids, cache.counts, cache.types, cache.flags, cache.lens, id, index, column);
+    rufflesquash_cache_column(cache.held, cache.ids, cache.counts, cache.words, id, index, column);
 }
 
 /* Relation 0x10203040 with columns "k", of the key, of type 23, and "value", of type 0x80000001. */
@@ -1368,7 +1366,7 @@ static void caches(void) {
     cache_column(7, 0, column);
     WORDS(column, 0);
     SAME(cache_message(insert, sizeof insert - 1, row), 30);
-    rufflesquash_cache_clear(&cache.held, cache.ids, cache.counts, cache.types, cache.flags, cache.lens, cache.names);
+    rufflesquash_cache_clear(&cache.held, cache.ids, cache.counts, cache.words, cache.names);
     const uint8_t *bytes = (const uint8_t *)&cache;
     size_t zeros = 0;
     while (zeros < sizeof cache && bytes[zeros] == 0)
@@ -1387,9 +1385,19 @@ static void caches(void) {
     cache_column(0x10203040, 1, column);
     WORDS(column, 1, 63, 5, 0, 0x80000001);
     SAME(column[R(CACHE_COLUMN_TYPE)], 0x80000001);
+    /* key flag, type, length and place of each name, from the most significant bit on */
+    SAME(cache.words[0], (uint64_t)1 << 63 | (uint64_t)23 << 31 | 1 << 24);
+    SAME(cache.words[1], (uint64_t)0x80000001 << 31 | 5 << 24 | 63);
     BYTES(cache.names + column[R(CACHE_COLUMN_NAME_FROM)], "value", column[R(CACHE_COLUMN_NAME_LEN)]);
     cache_column(0x10203040, 2, column);
     WORDS(column, 0);
+    /* words that no call has left: their names lie in the names all the same */
+    cache.words[0] = UINT64_MAX;
+    cache_column(0x10203040, 0, column);
+    WORDS(column, 1, R(CACHE_NAMES), 0, 1, UINT32_MAX);
+    cache.words[0] = (uint64_t)127 << 24 | (R(CACHE_NAMES) - 1);
+    cache_column(0x10203040, 0, column);
+    WORDS(column, 1, R(CACHE_NAMES) - 1, 1, 0, 0);
     SAME(cache_message(insert, sizeof insert - 1, row), 0);
     WORDS(row, R(ROW_INSERT), 0x10203040, 0, 2, 8);
     SAME(cache_message(insert, sizeof insert - 2, row), 26);

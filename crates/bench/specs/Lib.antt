@@ -1,1 +1,2 @@
+pub mod Caches
 pub mod Mixed

@@ -1,5 +1,7 @@
 // Functions for the benchmark to link: one read by a fresh reader, a CopyData, a boundary, a lossy text and a well-formed beginning, both by the table
-// and on the plain path, and a generated stream.
+// and on the plain path, a generated stream, and a relation cache in both layouts.
+mod caches;
+
 ghost use mathlib.Core.Path.{_≡_};
 ghost use Rattle.replication.specs.CopyData.{copyDataOf, saidBy as copySaid};
 ghost use Rattle.pgoutput.specs.Boundary.{boundaryOf, saidBy as boundarySaid};

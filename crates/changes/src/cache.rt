@@ -80,17 +80,15 @@ fn held_columns(
     held: u64,
     ids: &[u32; 64],
     counts: &[u8; 64],
-    types: &[u32; 2048],
-    flags: &[u8; 2048],
-    lens: &[u8; 2048],
+    columns: &[u64; 2048],
     names: &[u8; 129024],
     id: u32,
 ) -> usize {
-    let n = held_count(relation_cache::columns_held(held, ids, counts, id));
+    let n = held_count(packed_cache::columns_held(held, ids, counts, id));
     let mut at = lines::number(line, from, id as u64);
     let mut k: usize = 0;
     while k < n {
-        let c = relation_cache::held_column(held, ids, counts, types, flags, lens, id, k);
+        let c = packed_cache::held_column(held, ids, counts, columns, id, k);
         at = column_word(line, at, names, c);
         k += 1;
     }
@@ -104,19 +102,17 @@ fn one(
     held: &mut u64,
     ids: &mut [u32; 64],
     counts: &mut [u8; 64],
-    types: &mut [u32; 2048],
-    flags: &mut [u8; 2048],
-    lens: &mut [u8; 2048],
+    columns: &mut [u64; 2048],
     names: &mut [u8; 129024],
     message: &[u8],
 ) -> usize {
-    let a = relation_cache::message(held, ids, counts, types, flags, lens, names, message);
+    let a = packed_cache::message(held, ids, counts, columns, names, message);
     let b = wire::store::place(line, at, b" |");
     match told_answer(a) {
         Told::Of(id) => {
             let c = wire::store::place(line, b, b" 0");
             let h = *held;
-            held_columns(line, c, h, ids, counts, types, flags, lens, names, id)
+            held_columns(line, c, h, ids, counts, columns, names, id)
         }
         Told::Nothing => wire::store::place(line, b, b" 0 -"),
         Told::Refused(n) => lines::number(line, b, n as u64),
@@ -129,9 +125,7 @@ fn each(
     held: &mut u64,
     ids: &mut [u32; 64],
     counts: &mut [u8; 64],
-    types: &mut [u32; 2048],
-    flags: &mut [u8; 2048],
-    lens: &mut [u8; 2048],
+    columns: &mut [u64; 2048],
     names: &mut [u8; 129024],
     input: &[u8],
 ) -> usize {
@@ -151,9 +145,7 @@ fn each(
             held,
             ids,
             counts,
-            types,
-            flags,
-            lens,
+            columns,
             names,
             &input[begin..end],
         );
@@ -172,18 +164,14 @@ pub(crate) fn line_of(line: &mut [u8], input: &[u8]) -> usize {
     let mut held: u64 = 0;
     let mut ids = [0u32; 64];
     let mut counts = [0u8; 64];
-    let mut types = [0u32; 2048];
-    let mut flags = [0u8; 2048];
-    let mut lens = [0u8; 2048];
+    let mut columns = [0u64; 2048];
     let mut names = [0u8; 129024];
     let n = each(
         line,
         &mut held,
         &mut ids,
         &mut counts,
-        &mut types,
-        &mut flags,
-        &mut lens,
+        &mut columns,
         &mut names,
         input,
     );

@@ -3,4 +3,4 @@
 use Prim.Native.Nat.{ℕ}
 
 abbrev pub abi : ℕ
-abi = 11
+abi = 12

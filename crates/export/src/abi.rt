@@ -1,2 +1,2 @@
 // The number of the lists of words (each crate's layout.rt) and of the exported functions; it grows with every change of either.
-pub const ABI: u64 = 11;
+pub const ABI: u64 = 12;

@@ -2,8 +2,8 @@
 // arrays, and any content of it is some cache. SCOPE 9.10, 17. Refused, the memory is as it was and all words are 0.
 ghost use mathlib.Core.Path.{_≡_};
 ghost use mathlib.Core.List.{[]};
-ghost use Rattle.relation_cache.specs.Memory.{memory, columns, emptied, countHeld};
-ghost use Rattle.relation_cache.specs.Answers.{columnTold};
+ghost use Rattle.relation_cache.specs.Memory.{countHeld};
+ghost use Rattle.packed_cache.specs.Packed.{packed, wordsOf, emptied, columnTold};
 ghost use Rattle.relation_words.specs.Words.{messageCall, countReply, columnWords};
 use relation_words::answer_reply;
 use relation_words::column_words;
@@ -16,14 +16,12 @@ pub extern "C" fn rufflesquash_cache_clear(
     held: &mut u64,
     ids: &mut [u32; layout::CACHE_RELATIONS],
     counts: &mut [u8; layout::CACHE_RELATIONS],
-    types: &mut [u32; layout::CACHE_COLUMNS],
-    flags: &mut [u8; layout::CACHE_COLUMNS],
-    lens: &mut [u8; layout::CACHE_COLUMNS],
+    words: &mut [u64; layout::CACHE_COLUMNS],
     names: &mut [u8; layout::CACHE_NAMES],
 )
-    ensures { λ _. ⌜ memory (now (held .exit)) (now (ids .exit)) (now (counts .exit)) (columns (now (types .exit)) (now (flags .exit)) (now (lens .exit)) (now (names .exit))) ≡ emptied ⌝ }
+    ensures { λ _. ⌜ packed (now (held .exit)) (now (ids .exit)) (now (counts .exit)) (wordsOf (now (words .exit)) (now (names .exit))) ≡ emptied ⌝ }
 {
-    relation_cache::clear(held, ids, counts, types, flags, lens, names)
+    packed_cache::clear(held, ids, counts, words, names)
 }
 
 // One message: the row that its data hold, as rufflesquash_row answers it, or a refusal. A Relation is held from then on.
@@ -32,19 +30,17 @@ pub extern "C" fn rufflesquash_cache_message(
     held: &mut u64,
     ids: &mut [u32; layout::CACHE_RELATIONS],
     counts: &mut [u8; layout::CACHE_RELATIONS],
-    types: &mut [u32; layout::CACHE_COLUMNS],
-    flags: &mut [u8; layout::CACHE_COLUMNS],
-    lens: &mut [u8; layout::CACHE_COLUMNS],
+    words: &mut [u64; layout::CACHE_COLUMNS],
     names: &mut [u8; layout::CACHE_NAMES],
     data: &[u8],
     row: &mut [u64; row_words::layout::ROW_WORDS],
 ) -> u64
-    ensures { λ r. ⌜ ((r, now (row .exit)), memory (now (held .exit)) (now (ids .exit)) (now (counts .exit)) (columns (now (types .exit)) (now (flags .exit)) (now (lens .exit)) (now (names .exit)))) ≡ messageCall (memory (now (held .entry)) (now (ids .entry)) (now (counts .entry)) (columns (now (types .entry)) (now (flags .entry)) (now (lens .entry)) (now (names .entry)))) (now («data» .entry)) ⌝ }
+    ensures { λ r. ⌜ ((r, now (row .exit)), packed (now (held .exit)) (now (ids .exit)) (now (counts .exit)) (wordsOf (now (words .exit)) (now (names .exit)))) ≡ messageCall (packed (now (held .entry)) (now (ids .entry)) (now (counts .entry)) (wordsOf (now (words .entry)) (now (names .entry)))) (now («data» .entry)) ⌝ }
 {
-    let answer = relation_cache::message(held, ids, counts, types, flags, lens, names, data);
+    let answer = packed_cache::message(held, ids, counts, words, names, data);
     let reply = answer_reply(answer);
-    let words = reply.words;
-    *row = words;
+    let head = reply.words;
+    *row = head;
     reply.refusal
 }
 
@@ -59,7 +55,7 @@ pub extern "C" fn rufflesquash_cache_count(
 ) -> u64
     ensures { λ r. ⌜ (r, now (columns .exit)) ≡ countReply (countHeld held (now (ids .entry)) (now (counts .entry)) id) ⌝ }
 {
-    let reply = count_reply(relation_cache::columns_held(held, ids, counts, id));
+    let reply = count_reply(packed_cache::columns_held(held, ids, counts, id));
     *columns = reply.columns;
     reply.held
 }
@@ -71,15 +67,13 @@ pub extern "C" fn rufflesquash_cache_column(
     held: u64,
     ids: &[u32; layout::CACHE_RELATIONS],
     counts: &[u8; layout::CACHE_RELATIONS],
-    types: &[u32; layout::CACHE_COLUMNS],
-    flags: &[u8; layout::CACHE_COLUMNS],
-    lens: &[u8; layout::CACHE_COLUMNS],
+    words: &[u64; layout::CACHE_COLUMNS],
     id: u32,
     index: usize,
     column: &mut [u64; layout::CACHE_COLUMN_WORDS],
 )
-    ensures { λ _. ⌜ now (column .exit) ≡ columnWords (columnTold (memory held (now (ids .entry)) (now (counts .entry)) (columns (now (types .entry)) (now (flags .entry)) (now (lens .entry)) [])) id index) ⌝ }
+    ensures { λ _. ⌜ now (column .exit) ≡ columnWords (columnTold (packed held (now (ids .entry)) (now (counts .entry)) (wordsOf (now (words .entry)) [])) id index) ⌝ }
 {
-    let told = relation_cache::held_column(held, ids, counts, types, flags, lens, id, index);
+    let told = packed_cache::held_column(held, ids, counts, words, id, index);
     *column = column_words(told);
 }

@@ -8,7 +8,7 @@ ghost use mathlib.Core.Path.{_≡_};
 ghost use mathlib.Core.List.{[]};
 ghost use Rattle.rows.specs.Rows.{rowSaid};
 ghost use Rattle.relation_cache.specs.Answers.{numberOf, kindOf, answerBy, verdictBy, countBy, columnBy, columnTold, relatedBy, relatedOf, headJudged, answerAs};
-ghost use Rattle.relation_cache.specs.Memory.{memory, columns, emptied, messageOf, countHeld};
+ghost use Rattle.relation_cache.specs.Memory.{memory, columns, messageOf, countHeld};
 ghost use Rattle.relation_cache.specs.Cache.{matches, firstOf};
 ghost use Rattle.rows.specs.Head.{answerBy as rowBy};
 use rows::Part;
@@ -162,27 +162,6 @@ pub fn row_verdict(held: u64, ids: &[u32], counts: &[u8], r: Row) -> Verdict
         Row::NoRow => Verdict::Accepted,
         Row::Refused(_) => Verdict::Accepted,
     }
-}
-
-// An empty cache. The whole memory is zero.
-pub fn clear(
-    held: &mut u64,
-    ids: &mut [u32; 64],
-    counts: &mut [u8; 64],
-    types: &mut [u32; 2048],
-    flags: &mut [u8; 2048],
-    lens: &mut [u8; 2048],
-    names: &mut [u8; 129024],
-)
-    ensures { λ _. ⌜ memory (now (held .exit)) (now (ids .exit)) (now (counts .exit)) (columns (now (types .exit)) (now (flags .exit)) (now (lens .exit)) (now (names .exit))) ≡ emptied ⌝ }
-{
-    *held = 0;
-    *ids = [0; 64];
-    *counts = [0; 64];
-    *types = [0; 2048];
-    *flags = [0; 2048];
-    *lens = [0; 2048];
-    *names = [0; 129024];
 }
 
 // One message over slices.

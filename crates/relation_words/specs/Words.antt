@@ -5,8 +5,8 @@ use mathlib.Core.List.{List, [], _∷_}
 use mathlib.Core.Option.{Option, some, none}
 use Rattle.rows.specs.Rows.{rowSaid}
 use Rattle.row_words.specs.Words.{rowReply}
-use Rattle.relation_cache.specs.Memory.{Memory, messageOf}
 use Rattle.relation_cache.specs.Answers.{Told}
+use Rattle.packed_cache.specs.Packed.{Packed, messageOf}
 
 -- 1 for yes
 abbrev pub flagWord : Bool → ℕ
@@ -24,5 +24,5 @@ columnWords none = 0 ∷ 0 ∷ 0 ∷ 0 ∷ 0 ∷ []
 columnWords (some t) = 1 ∷ t .0 .0 ∷ t .0 .1 ∷ flagWord (t .1) ∷ t .2 ∷ []
 
 -- what a call answers to data: the refusal's number, 0 for none, and the words of the row's head; and the memory after it
-abbrev pub messageCall : Memory → List ℕ → (ℕ × List ℕ) × Memory
+abbrev pub messageCall : Packed → List ℕ → (ℕ × List ℕ) × Packed
 messageCall m s = (rowReply (messageOf m (rowSaid s) .0), messageOf m (rowSaid s) .1)

@@ -2,14 +2,14 @@
 // with the same numbers stand in host/src/ffi.rs and, with RUFFLESQUASH_ before them, in host/include/rufflesquash.h; the gate holds the three
 // together.
 
-// ---- the lent memory: at most so many relations, their columns, the bytes of the columns' names, and how many bytes that are in all
+// ---- the lent memory: at most so many relations, the words of their columns, the bytes of the columns' names, and how many bytes that are in all
 pub const CACHE_RELATIONS: usize = 64;
 
 pub const CACHE_COLUMNS: usize = 2048;
 
 pub const CACHE_NAMES: usize = 129024;
 
-pub const CACHE_BYTES: usize = 141640;
+pub const CACHE_BYTES: usize = 145736;
 
 // ---- a column of a held relation: whether there is one, its name's place among the names and its length, whether it is of the key, its type
 pub const CACHE_COLUMN_WORDS: usize = 5;

@@ -7,11 +7,11 @@ use Rattle.changes.proofs.cache.each.Statement.{statement}
 use Rattle.changes.proofs.cache.each.Tie as tie
 
 abbrev Inv-loop : tie.InvT-loop
-Inv-loop line₀ held₀ ids₀ counts₀ types₀ flags₀ lens₀ names₀ input from₀ at₀ line held ids counts types flags lens names from at =
+Inv-loop line₀ held₀ ids₀ counts₀ columns₀ names₀ input from₀ at₀ line held ids counts columns names from at =
     (at ≤ length input) × (length line ≡ length line₀)
 
 abbrev μ-loop : tie.MeasureT-loop
-μ-loop line₀ held₀ ids₀ counts₀ types₀ flags₀ lens₀ names₀ input from₀ at₀ line held ids counts types flags lens names from at = length input - at
+μ-loop line₀ held₀ ids₀ counts₀ columns₀ names₀ input from₀ at₀ line held ids counts columns names from at = length input - at
 
 pub each-spec : {M : Type 1} → statement M
 each-spec =

@@ -7,10 +7,10 @@ use Rattle.changes.proofs.cache.held_columns.Statement.{statement}
 use Rattle.changes.proofs.cache.held_columns.Tie as tie
 
 abbrev Inv-loop : tie.InvT-loop
-Inv-loop line₀ from held ids counts types flags lens names id n at₀ k₀ line at k = (k ≤ n) × (length line ≡ length line₀)
+Inv-loop line₀ from held ids counts columns names id n at₀ k₀ line at k = (k ≤ n) × (length line ≡ length line₀)
 
 abbrev μ-loop : tie.MeasureT-loop
-μ-loop line₀ from held ids counts types flags lens names id n at₀ k₀ line at k = n - k
+μ-loop line₀ from held ids counts columns names id n at₀ k₀ line at k = n - k
 
 pub held-columns-spec : {M : Type 1} → statement M
 held-columns-spec =

@@ -5,21 +5,21 @@ use Prim.Native.Nat.{ℕ}
 use Rattle.rows.specs.Head.{Answer}
 use Rattle.rows.specs.Rows.{rowSaid}
 use Rattle.row_words.specs.Words.{rowReply}
-use Rattle.relation_cache.specs.Memory.{Memory, memory, columns, messageOf}
+use Rattle.packed_cache.specs.Packed.{Packed, packed, wordsOf, messageOf}
 use Rattle.relation_words.specs.Words.{messageCall}
 use borrow.Author.Needs.{needs}
 use Rattle.export.proofs.relations.rufflesquash_cache_message.Statement.{statement}
 use Rattle.export.proofs.relations.rufflesquash_cache_message.Tie as tie
 
-called : (m : Memory) (s : List ℕ) {p : ℕ × List ℕ} (x : Answer) {m′ : Memory} → p ≡ rowReply x → (x, m′) ≡ messageOf m (rowSaid s) → (p, m′) ≡ messageCall m s
-called m s {p} x {m′} e h = ap (λ (q : ℕ × List ℕ). (q, m′)) e ∙ ap (λ (q : Answer × Memory). (rowReply (q .0), q .1)) h
+called : (m : Packed) (s : List ℕ) {p : ℕ × List ℕ} (x : Answer) {m′ : Packed} → p ≡ rowReply x → (x, m′) ≡ messageOf m (rowSaid s) → (p, m′) ≡ messageCall m s
+called m s {p} x {m′} e h = ap (λ (q : ℕ × List ℕ). (q, m′)) e ∙ ap (λ (q : Answer × Packed). (rowReply (q .0), q .1)) h
 
 returns : tie.Need-returns
 returns c =
     let r = c .before in
     let m = r .before in
-    let a = m .before .before .before .before .before .before .before .before .before .args in
-    called (memory (a .held .now) (a .ids .now) (a .counts .now) (columns (a .types .now) (a .flags .now) (a .lens .now) (a .names .now))) (a .«data» .now) _
+    let a = m .before .before .before .before .before .before .before .args in
+    called (packed (a .held .now) (a .ids .now) (a .counts .now) (wordsOf (a .words .now) (a .names .now))) (a .«data» .now) _
     (r .answer-reply .ensures) (m .message .ensures)
 
 pub rufflesquash-cache-message-spec : {M : Type 1} → statement M

@@ -1,9 +1,9 @@
 -- Each array is stored whole.
 use mathlib.Core.Path.{refl}
 use borrow.Author.Needs.{needs}
-use Rattle.relation_cache.specs.Memory.{emptied}
-use Rattle.relation_cache.proofs.clear.Statement.{statement}
-use Rattle.relation_cache.proofs.clear.Tie as tie
+use Rattle.packed_cache.specs.Packed.{emptied}
+use Rattle.packed_cache.proofs.clear.Statement.{statement}
+use Rattle.packed_cache.proofs.clear.Tie as tie
 
 returns : tie.Need-returns
 unfolding emptied
