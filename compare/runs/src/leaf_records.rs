@@ -24,7 +24,7 @@ pub trait Leaves {
 }
 
 /// The kinds of records.
-const KINDS: &[u8] = b"pdlwefacbrqytzxosgm";
+const KINDS: &[u8] = b"pdluwefacbrqytzxosgm";
 
 // ---- records
 
