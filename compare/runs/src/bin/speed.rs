@@ -99,11 +99,11 @@ fn recorded(length: usize) -> Stream {
     s
 }
 
-/// The load of a seed, of which a message has 23 to 94 bytes.
+/// The load of the seed that bench/run takes, too; a message of it has 23 to 94 bytes.
 fn generated(length: usize) -> Stream {
     let messages = length as u64 / 48;
     let mut bytes = vec![0; 94 * messages as usize];
-    let len = write_load(7, messages, &mut bytes).expect("room for the longest messages");
+    let len = write_load(13, messages, &mut bytes).expect("room for the longest messages");
     bytes.truncate(len);
     Stream { bytes, messages }
 }
