@@ -196,33 +196,3 @@ fn public_bytes_show() {
         assert!(differs);
     }
 }
-
-/// `follow` writes to standard error by `tell` and the service page alone. What it tells of the server's bytes is the text of an ErrorResponse, so no
-/// data and no content.
-#[test]
-fn follow_logs_no_data() {
-    let folder = concat!(env!("CARGO_MANIFEST_DIR"), "/src/bin/follow");
-    let (mut tells, mut errors, mut writers) = (0, 0, 0);
-    for entry in std::fs::read_dir(folder).unwrap() {
-        let path = entry.unwrap().path();
-        let source = std::fs::read_to_string(&path).unwrap();
-        let program = source.split("#[cfg(test)]").next().unwrap();
-        for (number, line) in program.lines().map(str::trim).enumerate() {
-            let at = format!("{}:{}: {line}", path.display(), number + 1);
-            let has = |words: &[&str]| words.iter().any(|word| line.contains(word));
-            assert!(!has(&["eprint", "dbg!", "panic!", "STDERR", "File::from_raw_fd"]), "{at}");
-            if has(&["stderr()"]) {
-                writers += 1;
-                assert!(has(&["\"follow: {line}\"", ".write_all(&page[..n])"]), "{at}");
-            }
-            if has(&["tell(", "Failure::"]) && !line.starts_with("pub fn") {
-                tells += 1;
-                assert!(!has(&["content", ".data", "{data", "prefix", "unread", "{event", "{item"]), "{at}");
-                let server = has(&["Failure::server("]);
-                errors += server as u64;
-                assert!(!has(&["payload"]) || server && has(&["b'E' =>", "self.run.error(self.payload)"]), "{at}");
-            }
-        }
-    }
-    assert!(writers == 2 && tells > 10 && errors > 2, "{writers} writers, {tells} lines, {errors} errors of the server");
-}

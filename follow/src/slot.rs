@@ -1,0 +1,201 @@
+//! The queries before and after a stream: slots, publications, and the tables that have a file.
+use crate::conninfo::Conninfo;
+use crate::failure::{sqlstate, tell, who, Failure, FAILED, LOST, ONE_AT_A_TIME};
+use crate::options::Options;
+use crate::startup::Talk;
+use rufflesquash::Lsn;
+use std::time::Duration;
+
+/// After so long the user is told what is waited for.
+const PATIENCE: Duration = Duration::from_secs(2);
+
+/// What the server tells of a slot.
+#[derive(Debug, PartialEq)]
+struct Slot {
+    /// Whether it is a logical one.
+    logical: bool,
+    plugin: String,
+    /// Empty where it is that of the connection.
+    other_database: String,
+    /// Of the server's process that uses it; empty where none does.
+    pid: String,
+    /// Whether the server has what it stands at no more.
+    lost: bool,
+}
+
+impl Slot {
+    // From the column that `SLOT` asks for.
+    fn of(row: &[u8]) -> Option<Slot> {
+        let text = String::from_utf8_lossy(row);
+        let mut parts = text.splitn(5, '\n').map(String::from);
+        let mut part = || parts.next();
+        let (kind, pid, status, plugin, other_database) = (part()?, part()?, part()?, part()?, part()?);
+        Some(Slot { logical: kind == "logical", plugin, other_database, pid, lost: status == "lost" })
+    }
+
+    // Whether it can be followed here at all.
+    fn check(&self, slot: &str) -> Result<(), Failure> {
+        let Slot { plugin, other_database, .. } = self;
+        let line = if !self.logical {
+            format!("slot {slot} is a physical one; name another, or make one with --create-slot")
+        } else if plugin != "pgoutput" {
+            format!("slot {slot} is one of the plugin {plugin}; follow reads pgoutput: name another, or make one with --create-slot")
+        } else if !other_database.is_empty() {
+            format!("slot {slot} is one of the database {other_database}; connect to that with --dbname, or name another slot")
+        } else if self.lost {
+            format!("slot {slot} was invalidated by the server: {LOST}")
+        } else {
+            return Ok(());
+        };
+        Err(Failure::new(FAILED, line))
+    }
+}
+
+impl Talk<'_> {
+    /// Makes the slot; where it may be there already, that is no error if it can be followed.
+    pub fn create_slot(&mut self, options: &Options) -> Result<(), Failure> {
+        let text = format!("CREATE_REPLICATION_SLOT {} LOGICAL pgoutput NOEXPORT_SNAPSHOT", options.slot);
+        let waits = "the end of transactions that are open now: SELECT pid, xact_start, query FROM pg_stat_activity WHERE backend_xid IS NOT NULL";
+        match self.slow_query(&text, waits)? {
+            Ok(_) => Ok(()),
+            Err(error) if options.if_not_exists && sqlstate(&error) == b"42710" => self.slot(&options.slot)?.check(&options.slot),
+            Err(error) => Err(Failure::server(&error)),
+        }
+    }
+
+    /// Drops the slot.
+    pub fn drop_slot(&mut self, options: &Options) -> Result<(), Failure> {
+        self.query(&format!("DROP_REPLICATION_SLOT {}", options.slot))?.map(drop).map_err(|error| Failure::server(&error))
+    }
+
+    /// Whether the slot is there, of this plugin and database, and free: a stream that begins would tell some of it only, and in other words.
+    pub fn check_slot(&mut self, options: &Options) -> Result<(), Failure> {
+        let (name, slot) = (&options.slot, self.slot(&options.slot)?);
+        slot.check(name)?;
+        if slot.pid.is_empty() {
+            return Ok(());
+        }
+        let line = format!("slot {name} is in use by the connection with PID {} on the server; {ONE_AT_A_TIME}; {}", slot.pid, who(&slot.pid));
+        Err(Failure { again: true, ..Failure::new(FAILED, line) })
+    }
+
+    // After a while the user is told what is waited for.
+    fn slow_query(&mut self, text: &str, waits: &str) -> Result<Result<Vec<Vec<u8>>, Vec<u8>>, Failure> {
+        self.send_query(text)?;
+        if self.silent_for(PATIENCE) {
+            tell(format_args!("waiting for {waits}; Ctrl-C ends this"));
+        }
+        self.answers()
+    }
+
+    fn slot(&mut self, name: &str) -> Result<Slot, Failure> {
+        let rows = self.query(&format!("{SLOT} WHERE slot_name = {}", literal(name)))?.map_err(|error| Failure::server(&error))?;
+        let missing = || Failure::new(FAILED, format!("the server has no replication slot {name}; --create-slot makes it"));
+        rows.first().and_then(|row| Slot::of(row)).ok_or_else(missing)
+    }
+
+    /// Moves the slot to a position that is done, where no stream can confirm it.
+    pub fn advance_slot(&mut self, slot: &str, position: Lsn) -> Result<(), Failure> {
+        let text = format!("SELECT pg_catalog.pg_replication_slot_advance({}, '{position}')", literal(slot));
+        self.slow_query(&text, "the server to confirm what was printed")?.map(drop).map_err(|error| Failure::server(&error))
+    }
+
+    /// Begins the stream with the plugin's options that the library does not write.
+    pub fn start_replication(&mut self, options: &Options, from: Lsn) -> Result<(), Failure> {
+        self.send_query(&start_query(options, from))?;
+        loop {
+            let message = self.answer()?;
+            match message.tag {
+                b'W' => return Ok(()),
+                b'E' => {
+                    let wrong_option = matches!(sqlstate(message.payload), b"XX000" | b"42601" | b"22023" | b"0A000");
+                    let failure = Failure::server(message.payload);
+                    let advice = if wrong_option { "; look at what is given with --option" } else { "" };
+                    return Err(Failure { line: failure.line + advice, ..failure });
+                }
+                b'Z' => return Err(Failure::new(FAILED, "the server began no stream: is this a PostgreSQL server?")),
+                // Notices.
+                _ => {}
+            }
+        }
+    }
+
+    /// Whether each publication is there: the stream itself would tell it only with the first change.
+    pub fn check_publications(&mut self, options: &Options, conninfo: &Conninfo) -> Result<(), Failure> {
+        let rows = self.query("SELECT pubname FROM pg_catalog.pg_publication")?.map_err(|error| Failure::server(&error))?;
+        let missing = |name: &&String| !rows.iter().any(|row| row == name.as_bytes());
+        match options.publications.iter().find(missing) {
+            None => Ok(()),
+            Some(name) => {
+                let line = format!("the database {} has no publication {name}; make it with CREATE PUBLICATION, or name another", conninfo.dbname);
+                Err(Failure::new(FAILED, line))
+            }
+        }
+    }
+
+    /// The relation identifiers of the tables that have a file. Each must be one that is followed, since no other could ever touch its file.
+    pub fn files(&mut self, options: &Options) -> Result<Vec<(u32, u64)>, Failure> {
+        let names: Vec<String> = options.publications.iter().map(|name| literal(name)).collect();
+        let rows = self.query(&format!("{PUBLISHED} ({})", names.join(", ")))?.map_err(|error| Failure::server(&error))?;
+        let tables: Vec<(u32, &str)> = rows.iter().filter_map(|row| published(row)).collect();
+        let mut list: Vec<(u32, u64)> = Vec::new();
+        for given in &options.files {
+            let same = |(id, name): &&(u32, &str)| given.table == *name || given.table == id.to_string();
+            let wrong = match *tables.iter().filter(same).collect::<Vec<_>>() {
+                [(id, name)] if list.iter().any(|(other, _)| id == other) => format!("{name} (OID {id}) has its file already"),
+                [(id, _)] => {
+                    list.push((*id, given.file));
+                    continue;
+                }
+                [] => "no publication that is followed has such a table; give schema.table as the catalog spells it, or an OID".to_string(),
+                [..] => "several tables are spelled so; give the table's OID".to_string(),
+            };
+            return Err(Failure::new(FAILED, format!("{given}: {wrong}")));
+        }
+        Ok(list)
+    }
+}
+
+/// A slot in one column: lines with its kind, the PID of who uses it, its state, its plugin, and its database where that is not the connection's.
+const SLOT: &str = "SELECT pg_catalog.concat_ws(E'\\n', slot_type, coalesce(active_pid::text, ''), coalesce(wal_status, ''), coalesce(plugin, ''), \
+    CASE WHEN database <> pg_catalog.current_database() THEN database ELSE '' END) FROM pg_catalog.pg_replication_slots";
+
+/// The tables of publications: an OID, a space, a schema, a dot and a table in one column.
+const PUBLISHED: &str = "SELECT DISTINCT c.oid || ' ' || n.nspname || '.' || c.relname FROM pg_catalog.pg_publication_tables t \
+    JOIN pg_catalog.pg_namespace n ON n.nspname = t.schemaname JOIN pg_catalog.pg_class c ON c.relnamespace = n.oid AND c.relname = t.tablename \
+    WHERE t.pubname IN";
+
+fn published(row: &[u8]) -> Option<(u32, &str)> {
+    let (id, name) = std::str::from_utf8(row).ok()?.split_once(' ')?;
+    Some((id.parse().ok()?, name))
+}
+
+// A text as SQL takes it.
+fn literal(text: &str) -> String {
+    format!("E'{}'", text.replace('\\', "\\\\").replace('\'', "''"))
+}
+
+// The command with the user's own options. A replication command knows no escapes in a text but the doubled quotation mark.
+fn start_query(options: &Options, from: Lsn) -> String {
+    let quoted = |text: &str| format!("'{}'", text.replace('\'', "''"));
+    let names: Vec<String> = options.publications.iter().map(|name| identifier(name)).collect();
+    let mut list = vec!["proto_version '1'".to_string(), format!("publication_names {}", quoted(&names.join(",")))];
+    if !options.plugin_options.iter().any(|(name, _)| name == "messages") {
+        list.push("messages 'true'".to_string());
+    }
+    if options.binary {
+        list.push("binary 'true'".to_string());
+    }
+    for (name, value) in &options.plugin_options {
+        list.push(match value {
+            Some(value) => format!("{} {}", identifier(name), quoted(value)),
+            None => identifier(name),
+        });
+    }
+    format!("START_REPLICATION SLOT {} LOGICAL {from} ({})", options.slot, list.join(", "))
+}
+
+/// A name as SQL takes it for an identifier: the server folds and splits names that are not quoted.
+pub fn identifier(name: &str) -> String {
+    format!("\"{}\"", name.replace('"', "\"\""))
+}
