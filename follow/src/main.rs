@@ -119,6 +119,11 @@ impl<'a> Client<'a> {
         Ok(talk)
     }
 
+    fn connect_next(&mut self) -> Result<Talk<'a>, Failure> {
+        self.conninfo.refresh(&self.options.given);
+        self.connect()
+    }
+
     // The first connection also finds out what the stream itself would tell only with the first change.
     fn connect_first(&mut self, output: &mut Output) -> Result<Talk<'a>, Failure> {
         let options = self.options;
@@ -196,7 +201,7 @@ impl Following {
         let options = client.options;
         let (mut pause, mut confirmed, mut first) = (FIRST_PAUSE, Lsn(0), true);
         loop {
-            let connected = if first { client.connect_first(&mut self.output) } else { client.connect() };
+            let connected = if first { client.connect_first(&mut self.output) } else { client.connect_next() };
             first &= connected.is_err();
             let failure = match connected.and_then(|talk| self.one_stream(options, talk)) {
                 Ok(End::Server) if !options.no_loop => Failure::cut("the server ended the stream"),

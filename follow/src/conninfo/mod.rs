@@ -171,6 +171,13 @@ impl Conninfo {
         }
         Ok(conninfo)
     }
+
+    /// The same for a later connection: what stands in files now counts, as a new password. Where something is wrong there, all stays as it was.
+    pub fn refresh(&mut self, given: &Given) {
+        if let Ok((conninfo, _)) = resolve_in(given, &Surroundings::of_process()) {
+            *self = conninfo;
+        }
+    }
 }
 
 // Every error here is one of what the user gave.
