@@ -2,11 +2,13 @@
 use crate::failure::{tell, Failure, FAILED};
 use crate::ffi;
 use rufflesquash::{Lsn, Run};
-use std::io::{self, BufRead, BufReader};
+use std::fs::File;
+use std::io::{self, BufRead, BufReader, ErrorKind, Read};
 use std::os::fd::RawFd;
 use std::sync::atomic::{AtomicBool, AtomicU64, Ordering::SeqCst};
 use std::sync::Arc;
 use std::thread;
+use std::time::Duration;
 
 const FILES: usize = Run::FILES as usize;
 /// A longer line is no acknowledgement; it is read on and forgotten.
@@ -27,6 +29,9 @@ struct Shared {
     done: [AtomicU64; FILES],
     // Nothing beyond it was printed yet.
     printed: AtomicU64,
+    // A keepalive's position behind all that was printed; 0 where something was printed since, u64::MAX where that was a message, which no line
+    // acknowledges before the next commit's.
+    passed: AtomicU64,
     ended: AtomicBool,
 }
 
@@ -44,7 +49,7 @@ impl Acks {
         if ffi::write_only(fd) {
             return Err(failed(io::Error::from_raw_os_error(libc::EBADF)));
         }
-        let input = BufReader::new(ffi::file_of(fd).map_err(failed)?);
+        let input = BufReader::new(Patient(ffi::file_of(fd).map_err(failed)?));
         let shared = Arc::new(Shared::default());
         let reader = Reader { shared: shared.clone() };
         thread::Builder::new().spawn(move || reader.run(input)).map_err(failed)?;
@@ -53,14 +58,36 @@ impl Acks {
 
     /// This is printed now; what lies beyond was not, so no line can acknowledge it.
     pub fn printed(&self, position: Lsn) {
+        self.shared.passed.store(0, SeqCst);
         self.shared.printed.fetch_max(position.0, SeqCst);
+    }
+
+    /// All before it was sent, and nothing was printed for it: once the rest is acknowledged it is done, too.
+    pub fn passed(&self, position: Lsn) {
+        if self.shared.passed.load(SeqCst) != u64::MAX {
+            self.shared.passed.store(position.0, SeqCst);
+        }
+    }
+
+    /// A message is printed now.
+    pub fn message(&self) {
+        self.shared.passed.store(u64::MAX, SeqCst);
     }
 
     /// Up to where each file is done. A file without tables is as far as the furthest.
     pub fn done(&self) -> [Lsn; FILES] {
         let done = |file: usize| Lsn(self.shared.done[file].load(SeqCst));
         let furthest = (0..FILES).map(done).max().unwrap_or_default();
-        std::array::from_fn(|file| if self.used[file] { done(file) } else { furthest })
+        let all: [Lsn; FILES] = std::array::from_fn(|file| if self.used[file] { done(file) } else { furthest });
+        let (printed, passed) = (self.shared.printed.load(SeqCst), self.shared.passed.load(SeqCst));
+        if passed == u64::MAX || all.iter().any(|done| done.0 < printed) {
+            return all;
+        }
+        // Kept, so that what is done never falls back.
+        for done in &self.shared.done {
+            done.fetch_max(passed, SeqCst);
+        }
+        all.map(|done| done.max(Lsn(passed)))
     }
 
     /// Whether all that was printed is acknowledged.
@@ -71,6 +98,20 @@ impl Acks {
     /// Whether no line will come any more.
     pub fn ended(&self) -> bool {
         self.shared.ended.load(SeqCst)
+    }
+}
+
+/// A descriptor that another program may have made non-blocking.
+struct Patient(File);
+
+impl Read for Patient {
+    fn read(&mut self, buffer: &mut [u8]) -> io::Result<usize> {
+        loop {
+            match self.0.read(buffer) {
+                Err(e) if e.kind() == ErrorKind::WouldBlock => thread::sleep(Duration::from_millis(5)),
+                read => return read,
+            }
+        }
     }
 }
 

@@ -78,9 +78,10 @@ impl Failure {
             return Failure { server: !matches!(state, b"55000" | b"58P01"), ..Failure::server(payload) };
         }
         let line = format!(
-            "the server says: {text}: it was dropped, or made only after the change that comes next. To make it now does not help, for the server looks \
-             at the catalog as of that change. What helps is SELECT pg_replication_slot_advance('{slot}', pg_current_wal_lsn()), or --drop-slot and then \
-             --create-slot; both skip all changes up to then that were not printed"
+            "the server says: {text}: it was dropped, or made only after the change that comes next, and the server looks at the catalog as of that \
+             change. So to make it alone does not help: first CREATE PUBLICATION where it is not there, then skip to now with \
+             SELECT pg_replication_slot_advance('{slot}', pg_current_wal_lsn()), or with --drop-slot and then --create-slot; both skip all changes up to \
+             then that were not printed"
         );
         Failure { server: true, ..Failure::new(FAILED, line) }
     }
@@ -108,7 +109,7 @@ fn advice(state: &[u8], text: &str) -> Option<String> {
         b"42704" if has(&["publication"]) => "make it with CREATE PUBLICATION, or name another",
         b"42704" => "--create-slot makes a slot, CREATE PUBLICATION a publication",
         b"42710" => "follow it without --create-slot, or add --if-not-exists",
-        b"28P01" => "is the password right? -W asks for it, else it comes from the connection string, PGPASSWORD or the password file",
+        b"28P01" => "is the password right? -W asks for another",
         b"28000" => return refused_user(&has),
         b"3D000" => "name another database with --dbname; psql -l lists those that are there",
         b"55000" => return wrong_state(&has),

@@ -64,6 +64,19 @@ pub fn write_only(fd: RawFd) -> bool {
     opened_as(fd, libc::O_WRONLY)
 }
 
+/// The file, on which reads and writes wait.
+pub fn blocking(file: File) -> io::Result<File> {
+    // SAFETY: asks for the flags of the open file and sets one; the file stays open meanwhile.
+    let set = unsafe {
+        let flags = libc::fcntl(file.as_raw_fd(), libc::F_GETFL);
+        libc::fcntl(file.as_raw_fd(), libc::F_SETFL, flags & !libc::O_NONBLOCK)
+    };
+    if set < 0 {
+        return Err(io::Error::last_os_error());
+    }
+    Ok(file)
+}
+
 /// Standard output as a file: std's own handle takes a write to a descriptor that cannot be written for done.
 pub fn standard_output() -> io::Result<File> {
     Ok(io::stdout().as_fd().try_clone_to_owned()?.into())
@@ -298,6 +311,14 @@ fn handle(signal: c_int, handler: libc::sighandler_t) {
     unsafe { libc::signal(signal, handler) };
 }
 
+fn is_ignored(signal: c_int) -> bool {
+    // SAFETY: zeros are a value of the structure, which is lent; nothing is changed.
+    unsafe {
+        let mut now: libc::sigaction = std::mem::zeroed();
+        libc::sigaction(signal, std::ptr::null(), &mut now) == 0 && now.sa_sigaction == libc::SIG_IGN
+    }
+}
+
 /// Waits for a socket and for `wake`.
 pub struct Waiter {
     woken: UnixStream,
@@ -314,7 +335,10 @@ impl Waiter {
         let reopen = on_reopen as extern "C" fn(c_int) as libc::sighandler_t;
         handle(libc::SIGINT, stop);
         handle(libc::SIGTERM, stop);
-        handle(libc::SIGHUP, if reopens { reopen } else { stop });
+        // nohup has it ignored, and so it stays.
+        if reopens || !is_ignored(libc::SIGHUP) {
+            handle(libc::SIGHUP, if reopens { reopen } else { stop });
+        }
         // A write beyond the limit of a file's size fails like one to a full disk.
         handle(libc::SIGXFSZ, libc::SIG_IGN);
         Ok(Waiter { woken })

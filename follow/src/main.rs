@@ -96,10 +96,14 @@ fn act(options: &Options) -> Result<(), Failure> {
     }
     let mut talk = client.connect()?;
     if options.drop_slot {
-        talk.drop_slot(options)
+        talk.drop_slot(options)?;
     } else {
-        talk.create_slot(options)
+        talk.create_slot(options)?;
     }
+    if options.verbose {
+        tell(format_args!("slot {} {}", options.slot, if options.drop_slot { "was dropped" } else { "is there" }));
+    }
+    Ok(())
 }
 
 /// Opens connections.
@@ -177,8 +181,10 @@ impl Following {
     fn follow(mut self, mut client: Client) -> Result<(), Failure> {
         let mut result = self.connect_again(&mut client);
         self.settle(client.waiter, Some(Duration::from_secs(1)));
-        if let Err(failure) = &result {
-            if failure.server && self.position() > self.totals.last_status.unwrap_or_default() {
+        if result.as_ref().is_err_and(|failure| failure.server) {
+            self.await_acks(client.waiter);
+            // A status that was sent may not have been read before the error.
+            if self.position() != Lsn(0) {
                 self.confirm_by_query(&mut client);
             }
         }
@@ -187,7 +193,7 @@ impl Following {
                 result = Err(failure);
             }
         }
-        if client.options.verbose {
+        if client.options.verbose && self.totals.streams > 0 {
             let Totals { streams, events, statuses, stalls, last_status } = self.totals;
             let last = last_status.unwrap_or_default();
             tell(format_args!("{streams} streams, {events} events, {statuses} statuses, {stalls} stalls, last status {last}"));
@@ -212,6 +218,9 @@ impl Following {
             self.settle(client.waiter, None);
             if ffi::stop_requested() || self.output.failed() {
                 return Ok(());
+            }
+            if self.acks.as_ref().is_some_and(Acks::ended) && failure.again {
+                return self.acknowledged(End::Unacknowledged);
             }
             if !failure.again || options.no_loop || self.totals.streams == 0 {
                 return Err(failure);
@@ -271,6 +280,7 @@ impl Following {
             clock: self.clock,
             slot: &options.slot,
             keepalives: options.keepalives,
+            ack_idle: options.ack_idle,
             verbose: options.verbose,
         };
         Session::new(talk, self.settings, (run, &query), &mut self.payload, host)?.stream()
@@ -288,6 +298,18 @@ impl Following {
         match result {
             Ok(()) => self.totals.last_status = Some(position),
             Err(failure) => tell(format_args!("what was printed last may be sent again: {failure}")),
+        }
+    }
+
+    // What was printed may be acknowledged in a moment.
+    fn await_acks(&self, waiter: &Waiter) {
+        let until = Instant::now() + session::CLOSING;
+        while self.acks.as_ref().is_some_and(|acks| !acks.ended() && !acks.all_done()) && !ffi::stop_requested() {
+            let left = until.saturating_duration_since(Instant::now());
+            if left.is_zero() {
+                return;
+            }
+            waiter.wait(None, Some(left));
         }
     }
 

@@ -50,6 +50,8 @@ Output:
 Confirming:
       --ack[=FD]               read lines POSITION or FILE POSITION from standard input, or from descriptor FD, and
                                confirm these alone; without it all is confirmed that is written
+      --ack-idle               with --ack: where all that was printed is acknowledged, the server's log behind it that
+                               has nothing to print is confirmed, too
   -s, --status-interval SECS   time between two confirmations (default: 10; 0: only where the server asks)
 How:
       --max-message-size BYTES longest message that is taken (default: 1073741824)
@@ -64,7 +66,7 @@ error, also while the server is waited for, and following goes on:
   POSITION               0/19A3570     what would be confirmed now
   SENT                   0/19A3570     what was confirmed last; a hyphen before the first time
   SERVER                 0/19A3570     how far the server is
-  EVENTS                         5     handed on
+  EVENTS                         5     handed on, keepalives among them
   STALLS                         0     how often a full pipe had to be waited for
   STATE                    WAITING     of the stream
 
@@ -100,6 +102,8 @@ pub struct Options {
     pub progress: bool,
     /// The descriptor that acknowledgements come from.
     pub ack: Option<RawFd>,
+    /// Whether a keepalive that is not printed counts once all that was printed is acknowledged.
+    pub ack_idle: bool,
     pub status_interval: Duration,
     pub max_message_size: usize,
     pub no_loop: bool,
@@ -165,6 +169,7 @@ impl Options {
             keepalives: false,
             progress: false,
             ack: None,
+            ack_idle: false,
             status_interval: Duration::from_secs(10),
             max_message_size: 1_073_741_824,
             no_loop: false,
@@ -181,6 +186,7 @@ impl Options {
             "--drop-slot" => &mut self.drop_slot,
             "--raw" => &mut self.raw,
             "--keepalives" => &mut self.keepalives,
+            "--ack-idle" => &mut self.ack_idle,
             "--progress" => &mut self.progress,
             "--no-loop" | "-n" => &mut self.no_loop,
             "--verbose" | "-v" => &mut self.verbose,
@@ -283,6 +289,9 @@ impl Options {
         if self.files.len() > MOST_FILES {
             return wrong(&format!("{} tables have a --file; at most {MOST_FILES} can", self.files.len()));
         }
+        if self.ack_idle && self.ack.is_none() {
+            return wrong("--ack-idle needs --ack");
+        }
         if self.if_not_exists && !self.create_slot {
             return wrong("--if-not-exists needs --create-slot");
         }
@@ -357,7 +366,7 @@ fn format(name: &str, text: &str) -> Result<Format, Failure> {
 // What stands before the last equals sign is the table, as the catalog spells it.
 fn file_of(name: &str, text: &str) -> Result<FileOf, Failure> {
     let wrong = |what: &str| usage(format!("{name} {text}: {what}, as in --file public.greetings=0"));
-    let (table, file) = text.rsplit_once('=').ok_or_else(|| wrong("give a table and its file"))?;
+    let (table, file) = text.rsplit_once('=').ok_or_else(|| wrong("give a table and its file (an output file is -f FILE)"))?;
     let is_oid = table.parse::<u32>().is_ok() && table.bytes().all(|b| b.is_ascii_digit());
     if !is_oid && !table.contains('.') {
         return Err(wrong("a table is an OID or schema.table"));
@@ -417,7 +426,7 @@ pub fn parse(arguments: impl IntoIterator<Item = OsString>) -> Result<Wanted, Fa
     let mut arguments = arguments.into_iter();
     while let Some(argument) = arguments.next() {
         if !argument.as_bytes().starts_with(b"-") || argument == "-" || argument == "--" {
-            return Err(usage(format!("{} is no option", argument.to_string_lossy())));
+            return Err(usage(format!("{} is no option; a database is named with -d", argument.to_string_lossy())));
         }
         let (name, value) = split(&argument)?;
         match (name.as_str(), &value) {
@@ -500,6 +509,7 @@ mod tests {
             ("-S s -o streaming", "when they are committed"),
             ("-S s -o publication_names=a,,b", "commas between"),
             ("-S s --drop-slot --start", "stands alone"),
+            ("-S s --publication p --ack-idle", "needs --ack"),
             ("-S s --create-slot -E 0/1", "need --start"),
             ("--ack=1", "a descriptor that is open"),
             ("--ack=77777", "a descriptor that is open"),

@@ -31,6 +31,8 @@ pub struct Output {
     touched: Option<Touched>,
     outstanding: bool,
     handed: Lsn,
+    // A stream that begins again is told with its first event: an attempt that fails has resumed nothing.
+    resumed: Option<Lsn>,
 }
 
 impl Output {
@@ -52,6 +54,7 @@ impl Output {
             touched: None,
             outstanding: false,
             handed: Lsn(0),
+            resumed: None,
         })
     }
 
@@ -63,6 +66,9 @@ impl Output {
     /// Adds an event's line to the batch. None where it is of a kind that cannot be printed.
     #[inline]
     pub fn take(&mut self, event: Event) -> Option<()> {
+        if let Some(from) = self.resumed.take() {
+            self.lines.resumed(&mut self.text, from);
+        }
         let files: Option<Files> = self.touched.as_mut().map(|touched| touched.event(&event));
         self.lines.event(&mut self.text, &event, files)?;
         match event {
@@ -89,7 +95,7 @@ impl Output {
     /// The stream begins again after a cut.
     pub fn resumed(&mut self, from: Lsn) {
         self.outstanding = false;
-        self.lines.resumed(&mut self.text, from);
+        self.resumed = Some(from);
     }
 
     /// The stream ends at a keepalive that reaches the end position.
@@ -105,10 +111,15 @@ impl Output {
     }
 
     fn hand_over(&mut self, reopen: bool) {
-        self.batches += 1;
-        self.bytes += self.text.len() as u64;
         let (position, counts) = (std::mem::take(&mut self.position), std::mem::take(&mut self.counts));
         let mut queue = self.shared.queue();
+        // A position alone goes with the last batch that waits: keepalives may come while nothing is written.
+        if let Some(last) = queue.batches.back_mut().filter(|_| self.text.len() == 0 && !reopen) {
+            (last.position, last.counts) = (position, last.bytes.len());
+            return;
+        }
+        self.batches += 1;
+        self.bytes += self.text.len() as u64;
         let bytes = self.text.replace(queue.spare.pop().unwrap_or_default());
         queue.batches.push_back(Batch { bytes, position, counts, reopen });
         self.shared.notify(queue);

@@ -21,7 +21,7 @@ const RATE: usize = 1;
 const ENOUGH: usize = 1_048_576;
 const GATHER: Duration = Duration::from_millis(1);
 /// How long a stop waits for the output and the acknowledgements, and then for the server.
-const CLOSING: Duration = Duration::from_secs(5);
+pub const CLOSING: Duration = Duration::from_secs(5);
 /// The first pause in reading, so that the server cannot send; each further one is twice as long.
 const FILLING: Duration = Duration::from_millis(500);
 /// After so long the user is told what a stop waits for.
@@ -78,6 +78,8 @@ pub struct Host<'a> {
     pub slot: &'a str,
     /// Whether keepalives are printed, so that they can be acknowledged.
     pub keepalives: bool,
+    /// Whether other keepalives count, too, once all that was printed is acknowledged.
+    pub ack_idle: bool,
     pub verbose: bool,
 }
 
@@ -87,7 +89,10 @@ impl Host<'_> {
         if let Some(acks) = self.acks {
             match event {
                 Event::Commit { end_lsn, .. } => acks.printed(end_lsn),
-                Event::KeepAlive { wal_end, .. } if self.keepalives && !self.output.in_transaction() => acks.printed(wal_end),
+                Event::KeepAlive { .. } if self.output.in_transaction() => {}
+                Event::KeepAlive { wal_end, .. } if self.keepalives => acks.printed(wal_end),
+                Event::KeepAlive { wal_end, .. } if self.ack_idle => acks.passed(wal_end),
+                Event::Message { .. } => acks.message(),
                 _ => {}
             }
         }
@@ -112,11 +117,15 @@ pub struct Session<'a> {
     filled: usize,
     // Whether the last step took bytes or had an event.
     moved: bool,
+    // Whether a keepalive has reached the end position: what lies behind it is not printed.
+    reached: bool,
     ended: bool,
     // Why the host itself ends the stream: a keepalive has reached the end position, or no acknowledgement can come.
     stop: Option<End>,
     end: End,
     reported: [Lsn; Run::FILES as usize],
+    // When a status was sent within a message, where the run sends none.
+    within: Moment,
     gather: Gather,
     // The clocks, as they were when they were last looked at.
     now: Moment,
@@ -173,10 +182,12 @@ impl<'a> Session<'a> {
             at: 0,
             filled,
             moved: false,
+            reached: false,
             ended: false,
             stop: None,
             end: End::Server,
             reported,
+            within: Moment(0),
             gather: Gather { since: Instant::now(), times: 0, bytes: 0, came: false, pauses: false },
             now,
             client_time_micros,
@@ -199,6 +210,7 @@ impl<'a> Session<'a> {
         let mut out = [0; STEP_OUTPUT];
         loop {
             self.look_around();
+            self.send_within()?;
             for _ in 0..STEPS {
                 match self.step(&mut out) {
                     Ok(0) if self.moved => {}
@@ -213,8 +225,16 @@ impl<'a> Session<'a> {
                 if self.moved && self.at < self.filled {
                     continue;
                 }
-                if ffi::stop_requested() && self.run.state() == State::Opening {
-                    return Err(Failure::cut("stopped while the stream was opened"));
+                match (self.stops(), self.run.state()) {
+                    (Some(_), State::Opening) => return Err(Failure::cut("stopped while the stream was opened")),
+                    // The run would wait for the message's end. Nothing of it was handed on, so the stream can end before it.
+                    (Some(end), State::Reading) if self.at == self.filled => {
+                        self.end = end;
+                        let written = rufflesquash::write_copy_done(&mut out).unwrap_or(0);
+                        self.close(&out[..written]);
+                        return Ok(());
+                    }
+                    _ => {}
                 }
                 if self.pause() {
                     break;
@@ -263,9 +283,35 @@ impl<'a> Session<'a> {
         let _ = io::stderr().write_all(&page[..n]);
     }
 
+    fn stops(&self) -> Option<End> {
+        if ffi::stop_requested() || self.host.output.failed() {
+            Some(End::Wanted)
+        } else {
+            self.stop
+        }
+    }
+
+    // When a status is due within a message: a server that hears nothing for long ends the stream, and the message would come anew each time.
+    fn due_within(&self) -> Option<Moment> {
+        let last = self.run.last_sent()?.at.max(self.within);
+        (self.run.state() == State::Reading).then(|| Moment(last.0.saturating_add(self.settings.status_interval.as_nanos() as u64)))
+    }
+
+    fn send_within(&mut self) -> Result<(), Failure> {
+        if !self.due_within().is_some_and(|due| due <= self.now) {
+            return Ok(());
+        }
+        self.within = self.now;
+        let (mut out, position, limit) = ([0; STEP_OUTPUT], self.run.position(), self.settings.max_message_size);
+        let n = rufflesquash::write_status(position, self.client_time_micros, false, &mut out).map_err(|refusal| Failure::refused(refusal, limit))?;
+        self.link.send(&out[..n])?;
+        self.confirmed(position);
+        Ok(())
+    }
+
     // Up to four steps of the run; answers how many bytes are to be sent.
     fn step(&mut self, out: &mut [u8]) -> Result<usize, Failure> {
-        let stop = if ffi::stop_requested() || self.host.output.failed() { Some(End::Wanted) } else { self.stop };
+        let stop = self.stops();
         let input = Input {
             moment: self.now,
             client_time_micros: self.client_time_micros,
@@ -281,11 +327,17 @@ impl<'a> Session<'a> {
         // A run that ends neither at a stop request nor with StoppedAt was ended by the server.
         let stopped = matches!(step.event, Some(Event::StoppedAt { .. }));
         self.end = if stopped { End::Wanted } else { stop.unwrap_or(self.end) };
-        if let Some(event) = step.event {
+        if let Some(event) = step.event.filter(|_| !self.reached) {
+            let asked = matches!(event, Event::KeepAlive { reply_requested: true, .. });
             let reached = keepalive_at_end(&event, self.settings.stop_at_lsn).filter(|_| stop.is_none() && !self.host.output.in_transaction());
             self.host.take(event)?;
+            // It may wait for the confirmation, as one that shuts down does.
+            if asked {
+                self.host.output.sync();
+            }
             if let Some(reached) = reached {
                 self.host.output.stopped(reached);
+                self.reached = true;
                 self.stop = Some(End::Wanted);
             }
         }
@@ -333,7 +385,7 @@ impl<'a> Session<'a> {
         let timeout = match self.run.next_step(self.payload.len(), self.host.output.queue()) {
             NextStep::AtOnce | NextStep::Never => return true,
             NextStep::From(moment) => Some(Duration::from_nanos(moment.0.saturating_sub(self.host.clock.now().0))),
-            NextStep::OnInput => None,
+            NextStep::OnInput => self.due_within().map(|due| Duration::from_nanos(due.0.saturating_sub(self.host.clock.now().0))),
         };
         let shown = self.host.progress.as_ref().map(|progress| progress.due());
         self.link.wait(takes, [timeout, shown].into_iter().flatten().min());
@@ -360,9 +412,15 @@ impl<'a> Session<'a> {
     // The run has written its CopyDone. What the consumer is done with is confirmed before that is sent.
     fn close(&mut self, copy_done: &[u8]) {
         self.host.output.sync();
-        let (begun, until) = (Instant::now(), Instant::now() + CLOSING);
-        let mut told = false;
-        while !self.all_done() && Instant::now() < until {
+        let (begun, mut until, mut told) = (Instant::now(), Instant::now() + CLOSING, false);
+        while !self.all_done() {
+            // A stream that has come to its end waits for the output as long as that takes.
+            if !ffi::stop_requested() && !self.host.output.settled() {
+                until = Instant::now() + CLOSING;
+            }
+            if Instant::now() >= until {
+                break;
+            }
             if !told && begun.elapsed() >= PATIENCE {
                 told = true;
                 let what = if self.host.output.settled() { "the acknowledgement of" } else { "the output to take" };

@@ -96,7 +96,12 @@ impl Talk<'_> {
 
     /// Moves the slot to a position that is done, where no stream can confirm it.
     pub fn advance_slot(&mut self, slot: &str, position: Lsn) -> Result<(), Failure> {
-        let text = format!("SELECT pg_catalog.pg_replication_slot_advance({}, '{position}')", literal(slot));
+        // One that stands further already stays.
+        let text = format!(
+            "SELECT pg_catalog.pg_replication_slot_advance(slot_name, greatest('{position}', confirmed_flush_lsn)) \
+             FROM pg_catalog.pg_replication_slots WHERE slot_name = {}",
+            literal(slot)
+        );
         self.slow_query(&text, "the server to confirm what was printed")?.map(drop).map_err(|error| Failure::server(&error))
     }
 
@@ -161,7 +166,8 @@ const SLOT: &str = "SELECT pg_catalog.concat_ws(E'\\n', slot_type, coalesce(acti
     CASE WHEN database <> pg_catalog.current_database() THEN database ELSE '' END) FROM pg_catalog.pg_replication_slots";
 
 /// The tables of publications: an OID, a space, a schema, a dot and a table in one column.
-const PUBLISHED: &str = "SELECT DISTINCT c.oid || ' ' || n.nspname || '.' || c.relname FROM pg_catalog.pg_publication_tables t \
+// By a function of the catalog's: an operator that somebody made for these types would be called instead of the catalog's own.
+const PUBLISHED: &str = "SELECT DISTINCT pg_catalog.concat(c.oid, ' ', n.nspname, '.', c.relname) FROM pg_catalog.pg_publication_tables t \
     JOIN pg_catalog.pg_namespace n ON n.nspname = t.schemaname JOIN pg_catalog.pg_class c ON c.relnamespace = n.oid AND c.relname = t.tablename \
     WHERE t.pubname IN";
 

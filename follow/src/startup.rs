@@ -221,7 +221,7 @@ impl<'a> Opening<'_, 'a> {
         match miss {
             // With TLS 1.3 the server tells only after the handshake that it does not take a certificate.
             Miss::Next(failure, socket) => match (connector, talk.link.trouble()) {
-                (Some(connector), Some(trouble)) if trouble.contains("alert") => Miss::Other(Failure::new(FAILED, connector.words(trouble, ""))),
+                (Some(connector), Some(trouble)) if trouble.contains("alert") => Miss::Other(Failure::new(FAILED, connector.words(trouble))),
                 _ => Miss::Next(failure, socket),
             },
             Miss::Rejected(failure, Stage::Closed) => Miss::Next(failure, false),

@@ -55,14 +55,13 @@ impl Connector {
     /// Does the handshake on a socket that does not block.
     pub fn handshake(&self, host: &str, socket: TcpStream, waiter: &Waiter, until: Option<Instant>) -> Result<TlsStream<TcpStream>, Failure> {
         if host.contains('\0') || host.is_empty() {
-            return Err(Failure::new(FAILED, "TLS needs the name of the server: give it as host"));
+            return Err(Failure::new(FAILED, "sslmode=verify-full holds the certificate against a host name: give host beside hostaddr"));
         }
         let mut result = self.inner.connect(host, socket);
         loop {
             match result {
-                Ok(stream) if self.names && !is_of(&stream, host) => return Err(Failure::new(FAILED, self.words("hostname mismatch", host))),
-                Ok(stream) => return Ok(stream),
-                Err(HandshakeError::Failure(error)) => return Err(self.failed(&error.to_string(), host)),
+                Ok(stream) => return if self.names { is_of(&stream, host).map(|()| stream) } else { Ok(stream) },
+                Err(HandshakeError::Failure(error)) => return Err(self.failed(&error.to_string())),
                 Err(HandshakeError::WouldBlock(middle)) => {
                     let left = until.map(|until| until.saturating_duration_since(Instant::now()));
                     if ffi::stop_requested() {
@@ -80,15 +79,15 @@ impl Connector {
     }
 
     // A connection that broke off says nothing of certificates: the next one may do.
-    fn failed(&self, text: &str, host: &str) -> Failure {
+    fn failed(&self, text: &str) -> Failure {
         if text.to_lowercase().contains("unexpected eof") || text.contains("(os error") {
             return Failure::cut("the server closed the connection in the TLS handshake");
         }
-        Failure::new(FAILED, self.words(text, host))
+        Failure::new(FAILED, self.words(text))
     }
 
     /// Why TLS failed, in a line: what OpenSSL says of the server's certificate, or what the server says of ours.
-    pub fn words(&self, text: &str, host: &str) -> String {
+    pub fn words(&self, text: &str) -> String {
         let lower = text.to_lowercase();
         let has = |words: &[&str]| words.iter().any(|word| lower.contains(word));
         if has(&["alert "]) {
@@ -100,9 +99,6 @@ impl Connector {
         }
         if has(&["not yet valid"]) {
             return format!("the server's certificate is not valid yet: look at the clocks of both computers (it is checked because of {roots})");
-        }
-        if has(&["hostname mismatch", "ip address mismatch"]) {
-            return format!("the server's certificate is not one of {host}: connect by a name that it holds, or have one made for this name");
         }
         if has(&["self-signed", "self signed", "local issuer", "issuer certificate", "verify the first"]) {
             let advice = "put the certificate of the server's authority there, or name its file with sslrootcert";
@@ -144,9 +140,12 @@ impl Connector {
 }
 
 // A stream without a certificate is one of nobody.
-fn is_of(stream: &TlsStream<TcpStream>, host: &str) -> bool {
+fn is_of(stream: &TlsStream<TcpStream>, host: &str) -> Result<(), Failure> {
     let der = stream.peer_certificate().ok().flatten().and_then(|certificate| certificate.to_der().ok());
-    der.is_some_and(|der| names::certificate_is_of(&der, host))
+    names::certificate_is_of(&der.unwrap_or_default(), host).map_err(|names| {
+        let advice = "connect by one of these names, or have one made for this name";
+        Failure::new(FAILED, format!("the server's certificate is one of {names}, not of {host}: {advice}"))
+    })
 }
 
 fn protocol(version: TlsVersion) -> Protocol {
@@ -398,17 +397,15 @@ mod tests {
             ("(certificate is not yet valid)", "the server's certificate is not valid yet"),
             ("(self-signed certificate in certificate chain)", "the server's certificate is signed by no authority of /r.crt"),
             ("(unable to get local issuer certificate)", "the server's certificate is signed by no authority of /r.crt"),
-            ("(hostname mismatch)", "the server's certificate is not one of h"),
-            ("(IP address mismatch)", "the server's certificate is not one of h"),
             ("(EE certificate key too weak)", "the server's certificate is not good (certificate verify failed: EE certificate key too weak)"),
         ] {
-            let said = connector.words(&format!("{failed} {text}"), "h");
+            let said = connector.words(&format!("{failed} {text}"));
             assert!(said.starts_with(line), "{said}");
         }
         let alert = |reason: &str| format!("error:0A000418:SSL routines:ssl3_read_bytes:{reason}:../ssl/b.c:1586:SSL alert number 48");
-        let said = connector.words(&alert("tlsv13 alert certificate required"), "h");
+        let said = connector.words(&alert("tlsv13 alert certificate required"));
         assert!(said.starts_with("the server asks for a client certificate"), "{said}");
-        assert_eq!(connector.words(&alert("tlsv1 alert internal error"), "h"), "the server ends TLS: tlsv1 alert internal error");
+        assert_eq!(connector.words(&alert("tlsv1 alert internal error")), "the server ends TLS: tlsv1 alert internal error");
         let connector = Connector { cert: Some("/c.crt".into()), ..connector };
         for (reason, line) in [
             ("tlsv1 alert unknown ca", "the server does not know the authority that signed the client certificate /c.crt"),
@@ -416,9 +413,9 @@ mod tests {
             ("sslv3 alert certificate revoked", "the client certificate /c.crt was revoked"),
             ("sslv3 alert bad certificate", "the server does not take the client certificate /c.crt: sslv3 alert bad certificate"),
         ] {
-            let said = connector.words(&alert(reason), "h");
+            let said = connector.words(&alert(reason));
             assert!(said.starts_with(line), "{said}");
         }
-        assert_eq!(connector.words("unexpected EOF", "h"), "TLS failed: unexpected EOF");
+        assert_eq!(connector.words("unexpected EOF"), "TLS failed: unexpected EOF");
     }
 }

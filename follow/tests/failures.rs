@@ -101,7 +101,7 @@ fn a_slot_that_cannot_be_followed_is_told_before_the_stream() {
 #[test]
 fn the_servers_errors_and_what_to_do() {
     for (state, text, part) in [
-        ("28P01", "password authentication failed for user \"me\"", "is the password right? -W asks for it"),
+        ("28P01", "password authentication failed for user \"me\"", "is the password right? -W asks for another"),
         (
             "28000",
             "no pg_hba.conf entry for host \"::1\", user \"me\", database \"db\", no encryption",
@@ -186,10 +186,12 @@ fn what_was_printed_before_the_servers_error_is_confirmed() {
         text
     });
     let output = follow(port, &[]);
-    assert_eq!(server.join().unwrap(), "SELECT pg_catalog.pg_replication_slot_advance(E's', '0/108')");
+    assert_eq!(server.join().unwrap(), "SELECT pg_catalog.pg_replication_slot_advance(slot_name, greatest('0/108', confirmed_flush_lsn)) FROM pg_catalog.pg_replication_slots WHERE slot_name = E's'");
     assert_eq!((output.status.code(), kinds(&output)), (Some(1), ["begin", "data", "commit"].map(String::from).to_vec()));
     let line = line(&output);
-    for part in ["To make it now does not help", "SELECT pg_replication_slot_advance('s', pg_current_wal_lsn())", "--drop-slot", "skip all changes"] {
+    for part in
+        ["So to make it alone does not help", "SELECT pg_replication_slot_advance('s', pg_current_wal_lsn())", "--drop-slot", "skip all changes"]
+    {
         assert!(line.contains(part), "{line}");
     }
 }

@@ -454,3 +454,137 @@ fn sighup_opens_the_file_again() {
     assert!(lines_of(&file)[0].starts_with("begin 2 "));
     std::fs::remove_dir_all(folder).unwrap();
 }
+
+// A transaction, and the first bytes of a message whose rest does not come.
+fn within_a_message() -> Vec<u8> {
+    let mut bytes = transaction(0x100, 1);
+    bytes.extend(&transaction(0x200, 2)[..20]);
+    bytes
+}
+
+#[test]
+fn a_stop_within_a_message_confirms_what_was_printed() {
+    let (port, server) = serve(|listener| {
+        let mut client = accept(&listener);
+        let_in(&mut client);
+        client.write_all(&within_a_message()).unwrap();
+        let mut positions = Vec::new();
+        while let (b'd', body) = receive(&mut client) {
+            positions.push(status(&body));
+        }
+        positions
+    });
+    let mut follow = command(port, &["--publication", "P"]).stdout(Stdio::piped()).stderr(Stdio::piped()).spawn().unwrap();
+    lines(follow.stdout.as_mut().unwrap(), 3);
+    thread::sleep(std::time::Duration::from_millis(50));
+    signal(follow.id(), "INT");
+    assert_eq!(server.join().unwrap().last(), Some(&0x108));
+    assert_eq!(follow.wait_with_output().unwrap().status.code(), Some(0));
+}
+
+#[test]
+fn statuses_are_sent_within_a_message_too() {
+    let (port, server) = serve(|listener| {
+        let mut client = accept(&listener);
+        let_in(&mut client);
+        client.write_all(&within_a_message()).unwrap();
+        let mut count = 0;
+        while count < 5 {
+            let (tag, body) = receive(&mut client);
+            assert_eq!(tag, b'd');
+            count += u32::from(status(&body) == 0x108);
+        }
+        count
+    });
+    let output = follow(port, &["-s", "0.05", "-n"]);
+    assert_eq!((server.join().unwrap(), output.status.code()), (5, Some(1)));
+}
+
+#[test]
+fn nothing_is_printed_after_the_end() {
+    let (port, server) = serve(|listener| {
+        let mut client = accept(&listener);
+        let_in(&mut client);
+        client.write_all(&[transaction(0x100, 1), keepalive(0x300, 0, 0), transaction(0x400, 2)].concat()).unwrap();
+        while !matches!(receive(&mut client), (b'X', _)) {}
+    });
+    let output = follow(port, &["--endpos", "0/200"]);
+    server.join().unwrap();
+    assert_eq!((output.status.code(), kinds(&output)), (Some(0), ["begin", "data", "commit", "stopped"].map(String::from).to_vec()));
+}
+
+#[test]
+fn a_stream_that_did_not_begin_again_is_not_told() {
+    let (port, server) = serve(|listener| {
+        let mut client = accept(&listener);
+        let_in(&mut client);
+        client.write_all(&transaction(0x100, 1)).unwrap();
+        drop(client);
+        for _ in 0..2 {
+            let mut client = accept(&listener);
+            authenticate(&mut client);
+            query(&mut client);
+            refuse(&mut client, &error("55006", "replication slot \"s\" is active for PID 1"));
+        }
+        let mut client = accept(&listener);
+        let_in(&mut client);
+        client.write_all(&transaction(0x200, 2)).unwrap();
+        statuses(&mut client)
+    });
+    let output = follow(port, &["--endpos", "0/208"]);
+    server.join().unwrap();
+    let resumed = kinds(&output).iter().filter(|kind| *kind == "resumed").count();
+    assert_eq!((output.status.code(), resumed), (Some(0), 1));
+}
+
+#[test]
+fn the_end_waits_for_a_slow_reader() {
+    let (port, server) = serve(|listener| {
+        let mut client = accept(&listener);
+        let_in(&mut client);
+        let large = [&b"I\0\0\0\x07N\0\x01t\0\x02\0\0"[..], &[b'x'; 131_072]].concat();
+        client.write_all(&transaction_of(0x100, 1, &[&large[..]; 6])).unwrap();
+        client.write_all(&keepalive(0x300, 0, 0)).unwrap();
+        while !matches!(receive(&mut client), (b'X', _)) {}
+    });
+    let arguments = ["--publication", "P", "--endpos", "0/300"];
+    let mut follow = command(port, &arguments).stdout(Stdio::piped()).stderr(Stdio::piped()).spawn().unwrap();
+    // Longer than a stop would wait.
+    thread::sleep(std::time::Duration::from_millis(7_000));
+    let mut text = String::new();
+    follow.stdout.as_mut().unwrap().read_to_string(&mut text).unwrap();
+    server.join().unwrap();
+    assert_eq!((follow.wait().unwrap().code(), text.lines().count()), (Some(0), 9));
+}
+
+// A keepalive moves what is confirmed only with --ack-idle, and only behind what is acknowledged.
+#[test]
+fn idle_keepalives_count_once_all_is_acknowledged() {
+    for (option, expected) in [(&[][..], 0x108), (&["--ack-idle"], 0x500)] {
+        let (port, server) = serve(|listener| {
+            let mut client = accept(&listener);
+            let_in(&mut client);
+            client.write_all(&[transaction(0x100, 1), keepalive(0x400, 0, 0)].concat()).unwrap();
+            let mut positions = Vec::new();
+            loop {
+                match receive(&mut client) {
+                    (b'd', body) => positions.push(status(&body)),
+                    _ => return positions,
+                }
+                if positions.last() == Some(&0x108) || positions.last() == Some(&0x400) {
+                    client.write_all(&keepalive(0x500, 0, 1)).unwrap();
+                }
+            }
+        });
+        let arguments = [&["--publication", "P", "--ack", "-s", "0.05"][..], option].concat();
+        let mut follow = command(port, &arguments).stdin(Stdio::piped()).stdout(Stdio::piped()).stderr(Stdio::null()).spawn().unwrap();
+        lines(follow.stdout.as_mut().unwrap(), 3);
+        thread::sleep(std::time::Duration::from_millis(200));
+        follow.stdin.as_mut().unwrap().write_all(b"0/108\n").unwrap();
+        thread::sleep(std::time::Duration::from_millis(400));
+        signal(follow.id(), "TERM");
+        let positions = server.join().unwrap();
+        assert_eq!(follow.wait().unwrap().code(), Some(0));
+        assert_eq!((positions[0], positions.last()), (0, Some(&expected)), "{positions:?}");
+    }
+}

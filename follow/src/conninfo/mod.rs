@@ -148,7 +148,7 @@ pub enum TlsVersion {
 pub struct CertFile {
     /// None where there is no home folder to look in.
     pub path: Option<PathBuf>,
-    /// Whether the user named it: then it must be there.
+    /// Whether the user named it.
     pub named: bool,
 }
 
@@ -172,11 +172,18 @@ impl Conninfo {
         Ok(conninfo)
     }
 
-    /// The same for a later connection: what stands in files now counts, as a new password. Where something is wrong there, all stays as it was.
+    /// The same for a later connection: what stands in files now counts, as a new password. Where something is wrong there, all stays as it was, and
+    /// a password that is no longer there is the former one.
     pub fn refresh(&mut self, given: &Given) {
-        if let Ok((conninfo, _)) = resolve_in(given, &Surroundings::of_process()) {
-            *self = conninfo;
+        let Ok((mut conninfo, _)) = resolve_in(given, &Surroundings::of_process()) else { return };
+        if (&conninfo.user, &conninfo.dbname) == (&self.user, &self.dbname) {
+            for new in conninfo.targets.iter_mut().filter(|new| new.password.is_none()) {
+                if let Some(old) = self.targets.iter().find(|old| old.place == new.place && old.port == new.port) {
+                    (new.password, new.passfile) = (old.password.clone(), old.passfile.clone());
+                }
+            }
         }
+        *self = conninfo;
     }
 }
 

@@ -1,11 +1,12 @@
 //! The thread that writes the output, and what it shares with the session.
 use crate::ffi;
 use crate::options::Options;
+use crate::progress;
 use rufflesquash::Lsn;
 use std::collections::VecDeque;
 use std::fs::{File, OpenOptions};
-use std::io::{self, ErrorKind, Read, Seek, SeekFrom, Write};
-use std::os::unix::fs::OpenOptionsExt;
+use std::io::{self, ErrorKind, IsTerminal, Read, Seek, SeekFrom, Write};
+use std::os::unix::fs::{FileTypeExt, OpenOptionsExt};
 use std::path::{Path, PathBuf};
 use std::sync::atomic::{AtomicBool, AtomicU64, Ordering::SeqCst};
 use std::sync::{Arc, Condvar, Mutex, MutexGuard, PoisonError};
@@ -13,6 +14,7 @@ use std::time::{Duration, Instant};
 
 /// Memory of larger batches is not kept.
 const SPARE: usize = 1024 * 1024;
+const SPARES: usize = 16;
 
 /// Whole lines.
 #[derive(Default)]
@@ -91,6 +93,8 @@ struct Target {
     /// None is standard output.
     path: Option<PathBuf>,
     regular: bool,
+    // The status line may stand there.
+    terminal: bool,
     // Of a regular file that was opened by its name: how long it is, up to where it has whole transactions, and up to where these are done.
     len: u64,
     whole: u64,
@@ -100,12 +104,14 @@ struct Target {
 impl Target {
     fn open(path: Option<&Path>) -> io::Result<Target> {
         let file = match path {
+            Some(path) if path.metadata().is_ok_and(|about| about.file_type().is_fifo()) => open_pipe(path)?,
             Some(path) => OpenOptions::new().append(true).create(true).mode(0o600).open(path)?,
             None => ffi::standard_output()?,
         };
         let about = file.metadata()?;
         let (len, regular) = (about.len(), about.is_file());
-        let mut target = Target { file, path: path.map(Path::to_path_buf), regular, len, whole: len, done: len };
+        let terminal = file.is_terminal();
+        let mut target = Target { file, path: path.map(Path::to_path_buf), regular, terminal, len, whole: len, done: len };
         if regular && path.is_some_and(ends_within_a_line) {
             target.write(b"\n")?;
             (target.whole, target.done) = (target.len, target.len);
@@ -119,6 +125,9 @@ impl Target {
 
     // Writes all, and counts what is written. A pipe that another program has made non-blocking is tried again.
     fn write(&mut self, mut bytes: &[u8]) -> io::Result<()> {
+        if self.terminal {
+            progress::clear();
+        }
         while !bytes.is_empty() {
             match self.file.write(bytes) {
                 Ok(0) => return Err(ErrorKind::WriteZero.into()),
@@ -140,6 +149,16 @@ impl Target {
         if ours && self.len > self.done && self.file.set_len(self.done).is_ok() {
             self.len = self.done;
             let _ = self.file.sync_all();
+        }
+    }
+}
+
+// A pipe that nobody reads yet is waited for, and a stop ends the wait.
+fn open_pipe(path: &Path) -> io::Result<File> {
+    loop {
+        match OpenOptions::new().write(true).custom_flags(libc::O_NONBLOCK).open(path) {
+            Err(e) if e.raw_os_error() == Some(libc::ENXIO) && !ffi::stop_requested() => std::thread::sleep(Duration::from_millis(50)),
+            opened => return opened.and_then(ffi::blocking),
         }
     }
 }
@@ -253,8 +272,9 @@ impl Writer {
         } else {
             self.done();
         }
-        if batch.bytes.capacity() <= SPARE {
-            self.shared.queue().spare.push(batch.bytes);
+        let mut queue = self.shared.queue();
+        if batch.bytes.capacity() <= SPARE && queue.spare.len() < SPARES {
+            queue.spare.push(batch.bytes);
         }
         Ok(())
     }

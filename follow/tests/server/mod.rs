@@ -119,7 +119,7 @@ pub const SLOT: &[u8] = b"logical\n\nreserved\npgoutput\n";
 pub fn asked(client: &mut TcpStream, slot: &[u8]) -> String {
     loop {
         let text = query(client);
-        let known = [("SELECT pubname", &b"P"[..]), ("SELECT DISTINCT c.oid", b"77 a.b"), ("SELECT pg_catalog.concat_ws", slot)];
+        let known = [("SELECT pubname", &b"P"[..]), ("SELECT DISTINCT pg_catalog.concat", b"77 a.b"), ("SELECT pg_catalog.concat_ws", slot)];
         match known.iter().find(|(begin, _)| text.starts_with(begin)) {
             Some((_, row)) => answer(client, &[row]),
             None => return text,
