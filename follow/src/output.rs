@@ -31,7 +31,7 @@ pub struct Output {
     touched: Option<Touched>,
     outstanding: bool,
     handed: Lsn,
-    // A stream that begins again is told with its first event: an attempt that fails has resumed nothing.
+    // A stream that begins again is told when it has begun: an attempt that fails has resumed nothing.
     resumed: Option<Lsn>,
 }
 
@@ -66,9 +66,7 @@ impl Output {
     /// Adds an event's line to the batch. None where it is of a kind that cannot be printed.
     #[inline]
     pub fn take(&mut self, event: Event) -> Option<()> {
-        if let Some(from) = self.resumed.take() {
-            self.lines.resumed(&mut self.text, from);
-        }
+        self.begun();
         let files: Option<Files> = self.touched.as_mut().map(|touched| touched.event(&event));
         self.lines.event(&mut self.text, &event, files)?;
         match event {
@@ -92,10 +90,18 @@ impl Output {
         (self.position, self.counts) = (self.handed, self.text.len());
     }
 
-    /// The stream begins again after a cut.
+    /// A stream is asked for after a cut.
     pub fn resumed(&mut self, from: Lsn) {
         self.outstanding = false;
         self.resumed = Some(from);
+    }
+
+    /// The stream has begun, so that is told now.
+    #[inline]
+    pub fn begun(&mut self) {
+        if let Some(from) = self.resumed.take() {
+            self.lines.resumed(&mut self.text, from);
+        }
     }
 
     /// The stream ends at a keepalive that reaches the end position.

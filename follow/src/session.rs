@@ -353,6 +353,7 @@ impl<'a> Session<'a> {
     fn send_status(&mut self, bytes: &[u8]) -> Result<(), Failure> {
         self.link.send(bytes)?;
         if let Some(status) = self.run.last_sent() {
+            self.host.output.begun();
             self.confirmed(status.position);
         }
         Ok(())
