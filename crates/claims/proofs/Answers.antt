@@ -1,13 +1,11 @@
 -- What each end of a step answers, in the table's words: a law for each of worker's `handing`, `refusedWith`, `doneWith` and `feedbackOf`. Rows and
 -- Preserved take them.
-use mathlib.Core.Path.{_≡_, refl, sym, ap}
+use mathlib.Core.Path.{_≡_, refl, ap, _∙_}
 use mathlib.Core.Bool.{Bool}
 use mathlib.Core.List.{List, []}
 use Prim.Native.Nat.{ℕ}
 use lib.ListN.{length, take}
-use Rattle.wire.specs.Bytes.{put}
-use Rattle.wire.proofs.Laws.{put-none}
-use Rattle.frontend.specs.Frontend.{statusUpdate}
+use Rattle.frontend.specs.Frontend.{statusUpdate, copyDone}
 use Rattle.lsn.specs.declared.Lsn.{Lsn}
 use Rattle.progress.specs.Progress.{cellPosition}
 use Rattle.worker.specs.declared.State.{State}
@@ -19,11 +17,13 @@ use Rattle.worker.specs.declared.Run.{Run}
 use Rattle.worker.specs.Run.{cellIn}
 use Rattle.worker.specs.Step.{Lent, doneWith, handing, moved, refusedWith, feedbackOf, waitedBy}
 use Rattle.worker.specs.Events as E
+use Rattle.claims.specs.Tests.{onto}
 use Rattle.claims.specs.Happened.{Happened, happenedOf, Parts}
 use Rattle.claims.specs.Trace.{Setup, Trace, takenBy, nothing, done, status, confirmedOf}
 use Rattle.claims.specs.Table.{limitBy, lastMessage, respond, enters, writes}
 use Rattle.claims.specs.Traced.{Answers}
 use Rattle.claims.specs.Traced as T
+use Rattle.claims.proofs.Tests.{put-front}
 
 -- nothing is taken, so the payload buffer stays
 module _ {s : Setup} {h : Trace} {i : Input} {l : Lent} where
@@ -34,7 +34,7 @@ module _ {s : Setup} {h : Trace} {i : Input} {l : Lent} where
       record {
         refusal = refl;
         taken = refl;
-        payload = sym (put-none (l .payload) 0);
+        payload = refl;
         output = refl;
         waited = refl;
         state = refl;
@@ -51,7 +51,7 @@ module _ {s : Setup} {h : Trace} {i : Input} {l : Lent} where
       record {
         refusal = refl;
         taken = refl;
-        payload = sym (put-none (l .payload) 0);
+        payload = refl;
         output = refl;
         waited = refl;
         state = refl;
@@ -66,13 +66,12 @@ module _ {s : Setup} {h : Trace} {i : Input} {l : Lent} where
       record {
         refusal = refl;
         taken = refl;
-        payload = sym (put-none (l .payload) 0);
-        output = refl;
+        payload = refl;
+        output = ap (λ (o : List ℕ). (5, o)) (put-front (l .out) copyDone);
         waited = refl;
         state = refl;
         event = he;
-        parts =
-            w;
+        parts = w;
       }
 
   pub status-answers : (reply : Bool) (to : State) (r : Run) → cellPosition (cellIn r) ≡ confirmedOf (s .start) h
@@ -83,8 +82,10 @@ module _ {s : Setup} {h : Trace} {i : Input} {l : Lent} where
       record {
         refusal = refl;
         taken = refl;
-        payload = sym (put-none (l .payload) 0);
-        output = ap (λ (p : Lsn). (39, put (l .out) 0 (statusUpdate (p .0) (i .«client_time») reply))) e;
+        payload = refl;
+        output =
+            ap (λ (o : List ℕ). (39, o)) (put-front (l .out) (statusUpdate (cellPosition (cellIn r) .0) (i .«client_time») reply))
+            ∙ ap (λ (p : Lsn). (39, onto (statusUpdate (p .0) (i .«client_time») reply) (l .out))) e;
         waited = w;
         state = refl;
         event = refl;

@@ -19,6 +19,7 @@ use Rattle.worker.specs.declared.State.the-variants.{Opening, Turn}
 use Rattle.worker.specs.Run.{freshRun}
 use Rattle.worker.specs.Opening.{Opened, badInterval, openOf, alreadyOpenOf}
 use Rattle.claims.specs.Beginnings.{overADay, openAnswer, Beginnings-answer}
+use Rattle.claims.proofs.Tests.{put-front, bytes-total}
 use Rattle.claims.specs.Calls.{Beginning, opens, is-open, isOpening, startOf, runBegun}
 
 abbrev pub first-state : Bool → State
@@ -60,8 +61,9 @@ module _ (s : Settings) (slot : List ℕ) (publications : List (RefT (List ℕ))
       ≡ openAnswer s slot publications position out
   unfolding openOf writing
   opens-so =
-      opened-answer (overADay (s .«status_interval»)) (overADay (s .«idle_wakeup_interval»)) (ltb 1048576 (length slot + total publications))
-      (ltb (length out) (length text))
+      rw (bytes-total publications, ← put-front out text)
+      (opened-answer (overADay (s .«status_interval»)) (overADay (s .«idle_wakeup_interval»)) (ltb 1048576 (length slot + total publications))
+      (ltb (length out) (length text)))
 
   opens-fresh : openOf s slot publications position start out .run ≡ freshRun s Opening start
   unfolding openOf

@@ -9,7 +9,6 @@ use mathlib.Core.Option.{Option, some, none}
 use lib.ListN.{length, take, drop}
 use lib.Seq.{take-append-seam}
 use lib.IntN.{ℤ}
-use Rattle.wire.specs.Bytes.{put}
 use Rattle.wire.specs.Field.{andThen, fieldAt}
 use Rattle.wire.proofs.Laws.{by-test, impossible}
 use Rattle.wire.specs.Int.{int, value}
@@ -31,7 +30,9 @@ use Rattle.worker.specs.Step.{Lent, Outcome, stepOf}
 use Rattle.worker.specs.Opening.{reportOf}
 use Rattle.effects.specs.Effects as W
 use Rattle.effects.proofs.Effects.{step-effects}
+use Rattle.claims.proofs.Tests.{put-front}
 use Rattle.claims.proofs.Beginnings.{run-begun}
+use Rattle.claims.specs.Tests.{onto}
 use Rattle.claims.specs.Calls.{Beginning, startOf, runBegun}
 use Rattle.claims.specs.Confirms.{AnyCall, step, report, Writes, nothing, done, status, Reached, reachedWith, leastOf, Confirmed}
 use Rattle.claims.specs.Confirms.{Confirms-smallest, NotAbove, NoneBehind, No-file-behind}
@@ -43,12 +44,11 @@ length-update position time reply =
 
 -- the 39 bytes, as a server reads them
 reads-back : (position : ℕ) (time : ℤ) (reply : Bool) (out : List ℕ)
-    → statusOf (take 39 (put out 0 (statusUpdate position time reply)))
+    → statusOf (take 39 (onto (statusUpdate position time reply) out))
     ≡ some (confirming (position % 2 ^ 64) (int 8 (value 8 time % 2 ^ 64)) reply)
-unfolding put
 reads-back position time reply out =
     let m : List ℕ = statusUpdate position time reply in
-    let rest : List ℕ = drop (0 + length m) out in
+    let rest : List ℕ = drop (length m) out in
     let n : length m ≡ 39 = length-update position time reply in
     let front : take 39 (m ++ rest) ≡ m = rw (← n) (take-append-seam m rest) in
     ap statusOf (front ∙ sym (append-nil m)) ∙ status-read-back-modulo position time reply []
@@ -56,10 +56,11 @@ reads-back position time reply out =
 -- what a step wrote, and how a server reads it
 as-read : {b : W.Before} {i : Input} {l : Lent} {o : Outcome} → W.Writing b i l o → Writes (smallest (b .files) .0) i l o
 as-read (W.nothing a c d) = nothing a c
-as-read (W.done a c d) = done a c
+as-read {l = l} (W.done a c d) = done a (c ∙ put-front (l .out) copyDone)
 as-read {b} {i} {l} {o} (W.status reply a c d) =
-    status reply a c
-    (ap (λ (n : ℕ). statusOf (take n (o .out))) a ∙ ap (λ (x : List ℕ). statusOf (take 39 x)) c
+    let e = c ∙ put-front (l .out) (statusUpdate (smallest (b .files) .0) (i .«client_time») reply) in
+    status reply a e
+    (ap (λ (n : ℕ). statusOf (take n (o .out))) a ∙ ap (λ (x : List ℕ). statusOf (take 39 x)) e
     ∙ reads-back (smallest (b .files) .0) (i .«client_time») reply (l .out))
 
 length-done : length copyDone ≡ 5
@@ -72,7 +73,7 @@ writes-at : {n m : ℕ} {i : Input} {l : Lent} {o : Outcome} → n ≡ m → Wri
 writes-at {i = i} {l = l} h (nothing a c) = nothing a c
 writes-at {i = i} {l = l} h (done a c) = done a c
 writes-at {i = i} {l = l} h (status reply a c d) =
-    status reply a (c ∙ ap (λ (x : ℕ). put (l .out) 0 (statusUpdate x (i .«client_time») reply)) h)
+    status reply a (c ∙ ap (λ (x : ℕ). onto (statusUpdate x (i .«client_time») reply) (l .out)) h)
     (d ∙ ap (λ (x : ℕ). some (confirming (x % 2 ^ 64) (int 8 (value 8 (i .«client_time») % 2 ^ 64)) reply)) h)
 
 -- four positions by their numbers, as they are reached
@@ -130,10 +131,10 @@ none-in-nothing : statusOf [] ≡ none
 unfolding statusOf messageRead fieldAt
 none-in-nothing = refl
 
-none-in-done : (out : List ℕ) → statusOf (take 5 (put out 0 copyDone)) ≡ none
-unfolding put statusOf
+none-in-done : (out : List ℕ) → statusOf (take 5 (onto copyDone out)) ≡ none
+unfolding statusOf
 none-in-done out =
-    let rest : List ℕ = drop (0 + length copyDone) out in
+    let rest : List ℕ = drop (length copyDone) out in
     let front : take 5 (copyDone ++ rest) ≡ copyDone = rw (← length-done) (take-append-seam copyDone rest) in
     ap statusOf (front ∙ sym (append-nil copyDone)) ∙ ap (λ (m : Option Message). andThen m inCopyData) (copy-done-read-back [])
 

@@ -1,3 +1,5 @@
+pub mod Tests
+pub mod Shared
 pub mod Begins
 pub mod Beginnings
 pub mod Spans

@@ -1,5 +1,5 @@
 -- Which numbers a read, a CopyData and a boundary refuse with: 6 to 18. So the table's rows refuse with none of 2 to 5. Refused takes it.
-use mathlib.Core.Path.{_≡_, refl}
+use mathlib.Core.Path.{_≡_, refl, sym, subst}
 use mathlib.Core.Bool.{Bool, true, false}
 use mathlib.Core.List.{List, [], _∷_, _++_}
 use mathlib.Core.Option.{Option, some, none}
@@ -31,10 +31,11 @@ use Rattle.worker.specs.declared.State.the-variants.{Opening, Turn, Drain, Read
 use Rattle.worker.specs.Rows.{both, unless}
 use Rattle.worker.specs.Streaming.{isCopyDone}
 use Rattle.worker.specs.Step.{isEnded}
+use Rattle.claims.proofs.Tests.{found, found-is}
 use Rattle.claims.specs.Happened.{Happened}
 use Rattle.claims.specs.Plain.{Msg, isRefusedEarly, byQueue}
 use Rattle.claims.specs.Trace.{Setup, Trace, Response, nothing, done, status, pendingOf, signalledOf, drainedOf, fullBefore}
-use Rattle.claims.specs.Table.{respond, enters, writes, refuses, limitBy, isPassed, isIdle, statusIf, readResponse, openingResponse, readingResponse, idleResponse, waitingResponse, lastMessage, lastGives, backOf, boundaryResponse, copyDataResponse, handlingResponse, leftOf, passedOn, handsOver, drops, againResponse, tableOf}
+use Rattle.claims.specs.Table.{Found, respond, enters, writes, refuses, limitBy, isPassed, isIdle, statusIf, readResponse, openingResponse, readingResponse, idleResponse, waitingResponse, lastMessage, lastGives, backOf, boundaryResponse, copyDataResponse, handlingResponse, leftOf, passedOn, handsOver, drops, againResponse, tableOf}
 
 -- 6 to 18
 abbrev pub Between : ℕ → Type 0
@@ -148,22 +149,25 @@ late-queue Free x y w a b c = a
 late-queue Full x y w a b c = b
 late-queue Closed x y w a b c = c
 
-late-read : (limit : ℕ) (b u : List ℕ) (e : Bool) (f : Said → Response) → ((a : Said) → InRead a → Late (f a)) → Late (readResponse limit b u e f)
+late-read : (limit : ℕ) (b u : List ℕ) (e : Bool) (f : Found → Response) → ((a : Said) → InRead a → Late (f (found a)))
+    → Late (readResponse limit b u e f)
 late-read limit b u e f h =
-    let c : Cut = cutOf limit (cutOf limit b .rest ++ u) in h (firstAnswer (c .items) (c .ending) (length u) e) (told-in (c .items) (c .ending) (length u) e)
+    let c : Cut = cutOf limit (cutOf limit b .rest ++ u) in
+    subst (λ (a : Found). Late (f a)) (sym (found-is (c .items) (c .ending) (length u) e))
+    (h (firstAnswer (c .items) (c .ending) (length u) e) (told-in (c .items) (c .ending) (length u) e))
 
-opening-late : (a : Said) → InRead a → Late (openingResponse a)
+opening-late : (a : Said) → InRead a → Late (openingResponse (found a))
 opening-late more h = refl
 opening-late (whole tag n) h =
     late-either (isCopyBothResponse tag) (enters Turn) _ refl (late-either (isError tag) (refuses 19) (enters Opening) refl refl)
 opening-late (refused n) h = not-early n h
 
-reading-late : (a : Said) → InRead a → Late (readingResponse a)
+reading-late : (a : Said) → InRead a → Late (readingResponse (found a))
 reading-late more h = refl
 reading-late (whole tag n) h = refl
 reading-late (refused n) h = not-early n h
 
-waiting-late : (idle : Bool) (a : Said) → InRead a → Late (waitingResponse idle a)
+waiting-late : (idle : Bool) (a : Said) → InRead a → Late (waitingResponse idle (found a))
 waiting-late idle more h = late-either idle (writes (status false) Turn) (enters Waiting) refl refl
 waiting-late idle (whole tag n) h = refl
 waiting-late idle (refused n) h = not-early n h

@@ -6,7 +6,7 @@ use mathlib.Core.Bool.{Bool, true, false, not}
 use mathlib.Core.List.{List, [], _∷_, _++_}
 use mathlib.Core.Logic.{inr}
 use mathlib.Core.Option.{some, none}
-use Prim.Native.Nat.{ℕ, _+_, _^_, _<_, _≤_}
+use Prim.Native.Nat.{ℕ, _+_, _-_, _^_, _<_, _≤_}
 use native.Mathlib.Nat.{min-le-left, mod-eq-of-lt}
 use native.Mathlib.Omega.{arith}
 use borrow.Author.Tests.{ltb-true, ltb-false, le-leb, lt-leb, eqb-true}
@@ -17,7 +17,7 @@ use Rattle.wire.specs.Bytes.{pick, at}
 use Rattle.wire.proofs.Laws.{by-test, impossible, part-of-front, part-of-part}
 use Rattle.framing.specs.Read.{Result, readOf}
 use Rattle.framing.specs.Read as R
-use Rattle.framing.specs.Feed.{Reads}
+use Rattle.framing.specs.Feed.{Reads, stored}
 use Rattle.stream.specs.Cut.{Cut, cutOf}
 use Rattle.stream.specs.Tag.{isError, isCopyBothResponse, isCopyData}
 use Rattle.framing.proofs.Feed.{read-is-cut}
@@ -47,17 +47,19 @@ use Rattle.worker.specs.Rows.{both, unless}
 use Rattle.worker.specs.Streaming.{isCopyDone}
 use Rattle.worker.specs.Step.{Lent, Outcome, boundaryBy, copyDataBy, doneWith, drainOf, endedWith, firstBy, handing, handlingOf, having, idleOf, intervalPassed, isReadable, isStoppedAt, moved, nextEvent, offeringOf, offers, openingBy, openingOf, reaches, readBy, readingBy, readingOf, stalledBy, stalledOf, stalls, stepIn, statusDue, feedbackOf, turnOf, waitedBy, waitingBy, waitingOf}
 use Rattle.worker.specs.Events as E
+use Rattle.claims.specs.Tests.{onto}
 use Rattle.claims.specs.Happened.{Happened, happenedOf, Parts}
 use Rattle.claims.specs.Happened as H
 use Rattle.claims.specs.Plain.{Msg, Gives, gives, reaching, dataGives, payloadGives, isCutOff, isFull, byQueue}
 use Rattle.claims.specs.Begins.{isClosed}
 use Rattle.claims.specs.Trace.{Setup, Trace, a-step, nothing, done, status, Response, takenBy, confirmedOf, readInWait, fullBefore, goneOf}
 use Rattle.claims.specs.Calls.{Played, stepped, lentTo}
-use Rattle.claims.specs.Table.{respond, enters, writes, refuses, isPassed, isIdle, statusIf, readResponse, openingResponse, readingResponse, idleResponse, waitingResponse, lastMessage, boundaryResponse, copyDataResponse, leftOf, passedOn, handsOver, drops, againResponse, tableOf}
+use Rattle.claims.specs.Table.{Found, respond, enters, writes, refuses, isPassed, isIdle, statusIf, readResponse, openingResponse, readingResponse, idleResponse, waitingResponse, lastMessage, boundaryResponse, copyDataResponse, leftOf, passedOn, handsOver, drops, againResponse, tableOf}
 use Rattle.claims.specs.Counters.{endAfter, lastEnd}
 use Rattle.claims.specs.Failed.{Shows}
 use Rattle.claims.specs.Traced.{Answers}
 use Rattle.claims.specs.Traced as T
+use Rattle.claims.proofs.Tests.{put-front, found, found-is, used-is, payload-is}
 use Rattle.claims.proofs.Answers.{handing-answers, moved-answers, refused-answers, done-answers, status-answers}
 use Rattle.claims.proofs.Course.{Course, Before, Going, Offers, Tied, gives-of, following, before-on, before-over, before-skips, before-error, before-goes, going-on, going-over, going-held, handled-over, handled-back, handled-offer, cut-off, waits-on, hands-last, hands-then-stopped, hands-and-goes}
 use Rattle.claims.proofs.Facts.{Facts, factsBy, factsOf, takes, with-status, confirmed-facts, at-moment, with-drained, with-wait, with-read, with-tries, with-end, with-reply, passing, stalling, gone-by, Agrees}
@@ -212,7 +214,7 @@ module _ (s : Setup) (trace : Trace) (z : Played) (i : Input) (n : ℕ) (out : L
     read-in st = withReader (x .1) (in-state st)
 
     -- an outcome that takes what was read answers as f says of the reader's answer
-    record Read (from : State) (f : R.Said → Response) (o : Outcome) : Type 0 where
+    record Read (from : State) (f : Found → Response) (o : Outcome) : Type 0 where
       row : Next from (readResponse (limit s) taken (l .unread) (i .ended) f) (having (x .2) (x .3) o)
 
     -- what holds after a read to which the table responds y
@@ -220,7 +222,7 @@ module _ (s : Setup) (trace : Trace) (z : Played) (i : Input) (n : ℕ) (out : L
     AfterRead from o y = Agreed from y o × Placed s (y .entered) (stepped z i (having (x .2) (x .3) o))
 
     -- the reader's answer is a, to which the table responds y
-    took : {A : Awaiting} {C : Course} {from : State} {f : R.Said → Response} {o : Outcome} → Here A C → (a : R.Said) → x .0 ≡ a → (y : Response) → f a ≡ y
+    took : {A : Awaiting} {C : Course} {from : State} {f : Found → Response} {o : Outcome} → Here A C → (a : R.Said) → x .0 ≡ a → (y : Response) → f (found a) ≡ y
         → o .event ≡ E.nothing → (InRead a → y .refusal ≡ 19 → (y .entered ≡ Ended) × Shows (last-at s (z .taken + x .2) .1) (o .run) (x .3))
         → Answered y o → Agreed from y o
         → Placed s (y .entered) (stepped z i (having (x .2) (x .3) o)) → Read from f o
@@ -229,9 +231,10 @@ module _ (s : Setup) (trace : Trace) (z : Played) (i : Input) (n : ℕ) (out : L
         let w : Reads (limit s) taken (l .unread) (i .ended) p x =
         rw same-read at (read-is-cut (s .settings .«max_message_size») taken (l .unread) (i .ended) (r .reader) p (b .base .room) (b .base .follows))
         in
-        let q = sym hy ∙ ap f (sym h ∙ w .answer) in
-        let k = subst (AfterRead from o) q (ag, pl) in
         let c : Cut = cutOf (limit s) (cutOf (limit s) taken .rest ++ l .unread) in
+        let u : List ℕ = cutOf (limit s) taken .rest ++ l .unread in
+        let q = sym hy ∙ ap f (ap found (sym h ∙ w .answer) ∙ sym (found-is (c .items) (c .ending) (length (l .unread)) (i .ended))) in
+        let k = subst (AfterRead from o) q (ag, pl) in
         let v : InRead a = subst InRead (sym (w .answer) ∙ h) (told-in (c .items) (c .ending) (length (l .unread)) (i .ended)) in
         let none : (c : List ℕ) → happenedOf (o .event) c ≡ [] = λ c. ap (λ (v : E.Said). happenedOf v c) hn in
         record {
@@ -239,8 +242,9 @@ module _ (s : Setup) (trace : Trace) (z : Played) (i : Input) (n : ℕ) (out : L
               record {
                 answers = record {
                   refusal = an .refusal ∙ ap (λ (g : Response). g .refusal) q;
-                  taken = w .taken;
-                  payload = w .buffer;
+                  taken = w .taken ∙ ap (λ (n : ℕ). n - length (cutOf (limit s) taken .rest)) (sym (used-is (c .items) (c .ending) u));
+                  payload =
+                      w .buffer ∙ (put-front p (stored (c .items) (c .ending) u) ∙ ap (λ (b : List ℕ). onto b p) (sym (payload-is (c .items) (c .ending) u)));
                   output = an .output ∙ ap (λ (g : Response). T.writtenBy (g .writing) (confirmedOf (s .start) trace) (i .«client_time») out) q;
                   waited = an .waited ∙ ap (λ (g : Response). T.waitedBy s trace i (g .writing)) q;
                   state = an .state ∙ ap (λ (g : Response). g .entered) q;

@@ -6,19 +6,22 @@ use mathlib.Core.Bool.{Bool}
 use Prim.Native.Nat.{ℕ, _+_}
 use lib.ListN.{length}
 use lib.Dec.{ltb}
-use denote.Ref.{RefT}
-use Rattle.wire.specs.Bytes.{put}
-use Rattle.error.specs.Inputs.{total}
+use denote.Ref.{RefT, now}
 use Rattle.frontend.specs.Frontend.{query}
 use Rattle.lsn.specs.declared.Lsn.{Lsn}
 use Rattle.request.specs.Request.{startReplication}
 use Rattle.worker.specs.declared.Settings.{Settings}
 use Rattle.worker.specs.Opening.{openOf, alreadyOpenOf}
-use Rattle.claims.specs.Tests.{_⇒_, firstOf}
+use Rattle.claims.specs.Tests.{_⇒_, firstOf, onto}
 
 -- an interval has at most a day, in nanoseconds
 abbrev pub overADay : ℕ → Bool
 overADay interval = ltb 86400000000000 interval
+
+-- the bytes of all names together
+unfoldable pub bytesIn : List (RefT (List ℕ)) → ℕ
+bytesIn [] = 0
+bytesIn (n ∷ ns) = length (now n) + bytesIn ns
 
 -- `open`: 1 for either interval, 25, 4, each with the output as it was; else the query that names the slot, the publications and the query position
 abbrev pub openAnswer : Settings → List ℕ → List (RefT (List ℕ)) → Lsn → List ℕ → (ℕ × ℕ) × List ℕ
@@ -27,10 +30,10 @@ openAnswer s slot publications position out =
     firstOf
     ((overADay (s .«status_interval») ⇒ ((1, 0), out))
     ∷ (overADay (s .«idle_wakeup_interval») ⇒ ((1, 0), out))
-    ∷ (ltb 1048576 (length slot + total publications) ⇒ ((25, 0), out))
+    ∷ (ltb 1048576 (length slot + bytesIn publications) ⇒ ((25, 0), out))
     ∷ (ltb (length out) (length text) ⇒ ((4, 0), out))
     ∷ [])
-    ((0, length text), put out 0 text)
+    ((0, length text), onto text out)
 
 -- `already_open`: 1 alone
 abbrev pub openedAnswer : Settings → ℕ

@@ -8,7 +8,7 @@ use mathlib.Core.Option.{some}
 use lib.Dec.{eqb, ltb}
 use lib.ListN.{take}
 use lib.IntN.{ℤ}
-use Rattle.wire.specs.Bytes.{pick, put}
+use Rattle.wire.specs.Bytes.{pick}
 use Rattle.wire.specs.Int.{int, value}
 use Rattle.frontend.specs.Frontend.{statusUpdate, copyDone}
 use Rattle.frontend.specs.ReadBack.{statusOf, Status, confirming}
@@ -19,6 +19,7 @@ use Rattle.worker.specs.declared.Run.{Run}
 use Rattle.worker.specs.declared.Settings.{Settings}
 use Rattle.worker.specs.Step.{Outcome, Lent, stepOf}
 use Rattle.worker.specs.Opening.{reportOf}
+use Rattle.claims.specs.Tests.{onto}
 use Rattle.claims.specs.Calls.{Beginning, startOf, runBegun}
 
 -- a call, with whatever bytes and buffers it is lent
@@ -35,8 +36,8 @@ ReadAs position time reply o =
 -- what a step wrote: nothing, a CopyDone, or a status that confirms this position; the rest of the output is as it was
 pub data Writes (position : ℕ) (i : Input) (l : Lent) (o : Outcome) : Type 0 where
   nothing : o .written ≡ 0 → o .out ≡ l .out → Writes position i l o
-  done : o .written ≡ 5 → o .out ≡ put (l .out) 0 copyDone → Writes position i l o
-  status : (reply : Bool) → o .written ≡ 39 → o .out ≡ put (l .out) 0 (statusUpdate position (i .«client_time») reply)
+  done : o .written ≡ 5 → o .out ≡ onto copyDone (l .out) → Writes position i l o
+  status : (reply : Bool) → o .written ≡ 39 → o .out ≡ onto (statusUpdate position (i .«client_time») reply) (l .out)
       → ReadAs position (i .«client_time») reply o → Writes position i l o
 
 -- what each file has reached, by its number

@@ -5,19 +5,18 @@ use mathlib.Core.Bool.{Bool, true, false, not}
 use mathlib.Core.List.{List, [], _∷_}
 use Prim.Native.Nat.{ℕ, _+_, _%_, _^_}
 use lib.ListN.{length, take}
+use lib.Dec.{eqb}
 use Rattle.wire.specs.Bytes.{pick}
 use Rattle.lsn.specs.declared.Lsn.{Lsn}
 use Rattle.metrics.specs.declared.Metrics.{Metrics}
 use Rattle.moment.specs.declared.Moment.{Moment}
-use Rattle.moment.specs.Moment.{sinceOf}
 use Rattle.replication.specs.CopyData.{copyDataOf}
 use Rattle.replication.specs.CopyData as C
-use Rattle.stream.specs.Tag.{isCopyData}
 use Rattle.worker.specs.declared.Input.{Input}
 use Rattle.worker.specs.declared.Settings.{Settings}
 use Rattle.worker.specs.declared.State.{State}
 use Rattle.worker.specs.declared.State.the-variants.{Handling, Offering}
-use Rattle.claims.specs.Tests.{both, unless, isIn, lsn, noMoment, micros}
+use Rattle.claims.specs.Tests.{both, unless, isIn, lsn, noMoment, since, micros}
 use Rattle.claims.specs.Plain.{Msg, isRefusedEarly, isFull}
 use Rattle.claims.specs.Trace.{Setup, Response, Trace, a-step, a-report, isStatus, isReply, takenBy, handedBy, sentPosition, fullBefore}
 use Rattle.claims.specs.Table.{lastMessage, limitBy}
@@ -68,7 +67,7 @@ stallBegan (a-report file p m ∷ h) = stallBegan h
 unfoldable pub stallMicros : Trace → ℕ
 stallMicros [] = 0
 stallMicros (a-step i from y ∷ h) =
-    pick (endsStall h i from y) (stallMicros h + micros (sinceOf (i .moment) (stallBegan h))) (stallMicros h)
+    pick (endsStall h i from y) (stallMicros h + micros (since (i .moment) (stallBegan h))) (stallMicros h)
 stallMicros (a-report file p m ∷ h) = stallMicros h
 
 -- ---- the server's end
@@ -79,9 +78,9 @@ endBy (C.w start end time from len) old = lsn end
 endBy (C.k end time reply) old = lsn end
 endBy (C.refused n) old = old
 
--- .. after a message of any tag
+-- after a message of any tag: only a CopyData, `d`, byte 100, tells it
 abbrev pub endAfter : Msg → Lsn → Lsn
-endAfter m old = pick (isCopyData (m .0)) (endBy (copyDataOf (m .1)) old) old
+endAfter m old = pick (eqb (m .0) 100) (endBy (copyDataOf (m .1)) old) old
 
 -- a step handles the last whole message: it leaves Handling, also where it is refused with 10 to 19
 abbrev pub handles : State → Response → Bool

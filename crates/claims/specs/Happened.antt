@@ -4,8 +4,8 @@ use Prim.Native.Nat.{ℕ, _+_, _≤_}
 use mathlib.Core.Bool.{Bool}
 use mathlib.Core.List.{List, [], _∷_}
 use lib.IntN.{ℤ}
-use Rattle.wire.specs.Bytes.{at}
 use Rattle.worker.specs.Events as E
+use Rattle.claims.specs.Tests.{part}
 
 -- an event as its receiver reads it: row data and messages are bytes, not places in a buffer
 pub data Happened : Type 0 where
@@ -22,8 +22,8 @@ happenedOf E.nothing p = []
 happenedOf (E.keepAlive end time reply) p = keepAlive end time reply ∷ []
 happenedOf (E.begin final time xid) p = begin final time xid ∷ []
 happenedOf (E.commit position end time) p = commit position end time ∷ []
-happenedOf (E.message flag position pf pl cf cl) p = message flag position (at p pf pl) (at p cf cl) ∷ []
-happenedOf (E.xlogData start end time from len) p = xlogData start end time (at p from len) ∷ []
+happenedOf (E.message flag position pf pl cf cl) p = message flag position (part p pf pl) (part p cf cl) ∷ []
+happenedOf (E.xlogData start end time from len) p = xlogData start end time (part p from len) ∷ []
 happenedOf (E.stoppedAt reached) p = stoppedAt reached ∷ []
 
 -- the parts that it names lie within the first n bytes

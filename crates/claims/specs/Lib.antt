@@ -1,4 +1,5 @@
 pub mod Tests
+pub mod Shared
 pub mod Happened
 pub mod Plain
 pub mod Trace

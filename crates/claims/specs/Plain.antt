@@ -8,17 +8,16 @@ use mathlib.Core.List.{List, [], _∷_, _++_}
 use mathlib.Core.Option.{Option, some, none}
 use lib.ListN.{length, take, drop}
 use lib.IntN.{ℤ}
-use lib.Dec.{ltb, leb}
-use Rattle.wire.specs.Bytes.{pick, at}
+use lib.Dec.{ltb, leb, eqb}
+use Rattle.wire.specs.Bytes.{pick}
 use Rattle.stream.specs.Cut.{Item, message, refused, cutOf}
-use Rattle.stream.specs.Tag.{isError, isCopyBothResponse}
 use Rattle.replication.specs.CopyData.{copyDataOf}
 use Rattle.replication.specs.CopyData as C
 use Rattle.pgoutput.specs.Boundary.{boundaryOf}
 use Rattle.pgoutput.specs.Boundary as B
-use Rattle.worker.specs.Streaming.{whileStreaming}
 use Rattle.worker.specs.declared.Queue.{Queue}
 use Rattle.worker.specs.declared.Queue.the-variants.{Free, Full, Closed}
+use Rattle.claims.specs.Tests.{part, whileOpening, byTag}
 use Rattle.claims.specs.Happened.{Happened}
 use Rattle.claims.specs.Happened as H
 
@@ -53,21 +52,21 @@ abbrev pub dataGives : Option ℕ → ℕ → ℕ → ℤ → List ℕ → B.Sai
 dataGives stop start end time bytes (B.begin final at-time xid) = reaching stop final (H.begin final at-time xid)
 dataGives stop start end time bytes (B.commit position commit-end at-time) = reaching stop commit-end (H.commit position commit-end at-time)
 dataGives stop start end time bytes (B.message flag position pf pl cf cl) =
-    reaching stop end (H.message flag position (at bytes pf pl) (at bytes cf cl))
+    reaching stop end (H.message flag position (part bytes pf pl) (part bytes cf cl))
 dataGives stop start end time bytes B.no-boundary = reaching stop end (H.xlogData start end time bytes)
 dataGives stop start end time bytes (B.refused n) = gives [] true
 
 -- a keepalive stops nothing
 abbrev pub payloadGives : Option ℕ → List ℕ → C.Said → Gives
 payloadGives stop payload (C.w start end time from len) =
-    dataGives stop start end time (at payload from len) (boundaryOf (at payload from len))
+    dataGives stop start end time (part payload from len) (boundaryOf (part payload from len))
 payloadGives stop payload (C.k end time reply) = gives (H.keepAlive end time reply ∷ []) false
 payloadGives stop payload (C.refused n) = gives [] true
 
 -- an `E` and a `c` end the reading; of other messages only a `d` gives events
 abbrev pub messageGives : Option ℕ → ℕ → List ℕ → Gives
 messageGives stop tag payload =
-    whileStreaming tag
+    byTag tag
     (gives [] true)
     (gives [] true)
     (payloadGives stop payload (copyDataOf payload))
@@ -88,12 +87,12 @@ wholeOnes (message tag payload ∷ is) = (tag, payload) ∷ wholeOnes is
 -- the messages after the first `W`, for a run that began in Opening; an `E` before it ends the reading
 unfoldable pub afterOpening : List Msg → List Msg
 afterOpening [] = []
-afterOpening (m ∷ ms) = pick (isCopyBothResponse (m .0)) ms (pick (isError (m .0)) [] (afterOpening ms))
+afterOpening (m ∷ ms) = whileOpening (m .0) ms [] (afterOpening ms)
 
--- whether a `W` is among the messages
+-- whether a `W`, byte 87, is among the messages
 unfoldable pub hasOpened : List Msg → Bool
 hasOpened [] = false
-hasOpened (m ∷ ms) = pick (isCopyBothResponse (m .0)) true (hasOpened ms)
+hasOpened (m ∷ ms) = pick (eqb (m .0) 87) true (hasOpened ms)
 
 -- what the messages give, one after the other, until one ends the reading
 unfoldable pub given : Option ℕ → List Msg → List Happened

@@ -2,16 +2,13 @@
 -- at no run. SCOPE 6.11 and 8.3; 01, "Events and confirmations", step table, and "Where each call turns back".
 use mathlib.Core.Bool.{Bool, true, false}
 use mathlib.Core.List.{List, [], _∷_, _++_}
-use Prim.Native.Nat.{ℕ, _-_}
+use Prim.Native.Nat.{ℕ, _+_, _-_}
 use lib.ListN.{length, take, drop}
 use lib.Dec.{ltb, leb, eqb}
-use Rattle.wire.specs.Bytes.{pick, at}
-use Rattle.stream.specs.Cut.{Cut, cutOf}
-use Rattle.framing.specs.Read.{Said, more, whole, refused, limitOf}
-use Rattle.framing.specs.Feed.{firstAnswer, span, stored}
-use Rattle.stream.specs.Tag.{isError, isCopyBothResponse}
+use Rattle.wire.specs.Bytes.{pick}
+use Rattle.stream.specs.Cut.{Item, message, Ending, header, payload, over, Cut, cutOf}
+use Rattle.stream.specs.Cut.{refused as bad}
 use Rattle.moment.specs.declared.Moment.{Moment}
-use Rattle.moment.specs.Moment.{isBefore, inRange, sinceOf}
 use Rattle.pgoutput.specs.Boundary.{boundaryOf}
 use Rattle.pgoutput.specs.Boundary as B
 use Rattle.replication.specs.CopyData.{copyDataOf}
@@ -19,8 +16,7 @@ use Rattle.replication.specs.CopyData as C
 use Rattle.worker.specs.declared.State.{State}
 use Rattle.worker.specs.declared.State.the-variants.{Opening, Turn, Drain, Reading, Waiting, Handling, Offering, Ended}
 use Rattle.worker.specs.declared.Input.{Input}
-use Rattle.worker.specs.Streaming.{whileStreaming}
-use Rattle.claims.specs.Tests.{_⇒_, firstOf, both, unless, isEnded}
+use Rattle.claims.specs.Tests.{_⇒_, firstOf, both, unless, part, whileOpening, byTag, isEnded, isMoment, isBefore, since, longest}
 use Rattle.claims.specs.Happened.{Happened}
 use Rattle.claims.specs.Plain.{Msg, Gives, messageGives, wholeOnes, byQueue}
 use Rattle.claims.specs.Trace.{Setup, boundsOf, Writing, nothing, done, status, Response, Trace, a-step, a-report, stateAfter, takenBy, lastAccepted, hasSent, sentAt, waitBegan, pendingOf, signalledOf, drainedOf, readInWait, fullBefore, goneOf}
@@ -43,17 +39,17 @@ refuses n = respond n nothing Ended []
 
 -- the longest payload that the settings admit
 abbrev pub limitBy : Setup → ℕ
-limitBy s = limitOf (s .settings .«max_message_size»)
+limitBy s = longest (s .settings .«max_message_size»)
 
 -- ---- clocks
 
 -- the status interval has passed since the last status
 abbrev pub isPassed : Setup → Trace → Input → Bool
-isPassed s h i = leb (s .settings .«status_interval») (sinceOf (i .moment) (sentAt h))
+isPassed s h i = leb (s .settings .«status_interval») (since (i .moment) (sentAt h))
 
 -- the idle interval has passed since the wait began
 abbrev pub isIdle : Setup → Trace → Input → Bool
-isIdle s h i = leb (s .settings .«idle_wakeup_interval») (sinceOf (i .moment) (waitBegan h))
+isIdle s h i = leb (s .settings .«idle_wakeup_interval») (since (i .moment) (waitBegan h))
 
 -- a status where a test holds
 abbrev pub statusIf : Bool → Writing
@@ -61,36 +57,65 @@ statusIf c = pick c (status false) nothing
 
 -- ---- a read: what the message still lacks is what the cut of the server's bytes says
 
--- b are the bytes taken, u those unread; the cut's answer decides refusal, writing and state
-abbrev pub readResponse : ℕ → List ℕ → List ℕ → Bool → (Said → Response) → Response
+-- what is found of the message: it is still unfinished, it is whole and has a tag, or it is refused
+pub data Found : Type 0 where
+  unfinished : Found
+  whole : ℕ → Found
+  refused : ℕ → Found
+
+-- the input's end counts where no byte is unread: 8 in a header, 9 in a payload
+abbrev pub endedIn : ℕ → ℕ → Bool → Found
+endedIn n unread ended = pick (eqb unread 0) (pick ended (refused n) unfinished) unfinished
+
+-- by the cut: its first message is whole; a length below 4 is 6, a payload over the limit 7; else the bytes end within the message
+abbrev pub foundBy : List Item → Ending → ℕ → Bool → Found
+foundBy (message tag p ∷ is) end unread ended = whole tag
+foundBy (bad ∷ is) end unread ended = refused 6
+foundBy [] header unread ended = endedIn 8 unread ended
+foundBy [] payload unread ended = endedIn 9 unread ended
+foundBy [] over unread ended = refused 7
+
+-- how many of the bytes s are used: the whole message, the header with a refused length, or all that is there of an unfinished message
+abbrev pub usedBy : List Item → Ending → List ℕ → ℕ
+usedBy (message tag p ∷ is) end s = 5 + length p
+usedBy (bad ∷ is) end s = 5
+usedBy [] header s = length s
+usedBy [] payload s = length s
+usedBy [] over s = 5
+
+-- the payload bytes of the message, as far as they are there: those after the five of the header
+abbrev pub payloadBy : List Item → Ending → List ℕ → List ℕ
+payloadBy (message tag p ∷ is) end s = p
+payloadBy (bad ∷ is) end s = []
+payloadBy [] header s = []
+payloadBy [] payload s = drop 5 s
+payloadBy [] over s = []
+
+-- b are the bytes taken, u those unread; what is found decides refusal, writing and state
+abbrev pub readResponse : ℕ → List ℕ → List ℕ → Bool → (Found → Response) → Response
 readResponse limit b u ended f =
     let rest : List ℕ = cutOf limit b .rest in
     let c : Cut = cutOf limit (rest ++ u) in
-    let y : Response = f (firstAnswer (c .items) (c .ending) (length u) ended) in
+    let y : Response = f (foundBy (c .items) (c .ending) (length u) ended) in
     record {
       refusal = y .refusal;
-      taken = span (c .items) (c .ending) (rest ++ u) - length rest;
-      stored = stored (c .items) (c .ending) (rest ++ u);
+      taken = usedBy (c .items) (c .ending) (rest ++ u) - length rest;
+      stored = payloadBy (c .items) (c .ending) (rest ++ u);
       writing = y .writing;
       entered = y .entered;
       event = y .event;
     }
 
 -- a `W` opens the stream, an `E` is 19, other messages are skipped
-abbrev pub openingResponse : Said → Response
-openingResponse more = enters Opening
-openingResponse (whole tag n) =
-    firstOf
-    ((isCopyBothResponse tag ⇒ enters Turn)
-    ∷ (isError tag ⇒ refuses 19)
-    ∷ [])
-    (enters Opening)
+abbrev pub openingResponse : Found → Response
+openingResponse unfinished = enters Opening
+openingResponse (whole tag) = whileOpening tag (enters Turn) (refuses 19) (enters Opening)
 openingResponse (refused n) = refuses n
 
 -- a message that is whole is handled in the next step
-abbrev pub readingResponse : Said → Response
-readingResponse more = enters Reading
-readingResponse (whole tag n) = enters Handling
+abbrev pub readingResponse : Found → Response
+readingResponse unfinished = enters Reading
+readingResponse (whole tag) = enters Handling
 readingResponse (refused n) = refuses n
 
 -- the idle test: a status, and the wait ends
@@ -98,9 +123,9 @@ abbrev pub idleResponse : Bool → Response
 idleResponse idle = pick idle (writes (status false) Turn) (enters Waiting)
 
 -- a message that is still unfinished leads to the idle test
-abbrev pub waitingResponse : Bool → Said → Response
-waitingResponse idle more = idleResponse idle
-waitingResponse idle (whole tag n) = enters Handling
+abbrev pub waitingResponse : Bool → Found → Response
+waitingResponse idle unfinished = idleResponse idle
+waitingResponse idle (whole tag) = enters Handling
 waitingResponse idle (refused n) = refuses n
 
 -- ---- the last whole message of the bytes taken
@@ -134,14 +159,14 @@ boundaryResponse (B.refused n) = refuses n
 
 -- a keepalive that asks for a reply gets a status with reply byte 1; its event is offered then
 abbrev pub copyDataResponse : List ℕ → C.Said → Response
-copyDataResponse p (C.w start end time from len) = boundaryResponse (boundaryOf (at p from len))
+copyDataResponse p (C.w start end time from len) = boundaryResponse (boundaryOf (part p from len))
 copyDataResponse p (C.k end time reply) = writes (pick reply (status true) nothing) Offering
 copyDataResponse p (C.refused n) = refuses n
 
 -- an `E` is 19; the server's `c` is answered in kind, and the run ends; of other messages only a `d` is not skipped
 abbrev pub handlingResponse : Trace → Msg → Response
 handlingResponse h m =
-    whileStreaming (m .0)
+    byTag (m .0)
     (refuses 19)
     (writes done Ended)
     (copyDataResponse (m .1) (copyDataOf (m .1)))
@@ -222,7 +247,7 @@ tableOf Ended s h i b u = respond 2 nothing Ended []
 
 -- 5: no moment at all, or one before the last accepted step
 abbrev pub isBadMoment : Trace → Moment → Bool
-isBadMoment h m = pick (inRange m) (isBefore m (lastAccepted h)) true
+isBadMoment h m = pick (isMoment m) (isBefore m (lastAccepted h)) true
 
 -- a step in a state, with an output of so many bytes: 2 to 5 in their order, which leave the state; then the state's row
 abbrev pub stepResponse : State → Setup → Trace → Input → List ℕ → List ℕ → ℕ → Response

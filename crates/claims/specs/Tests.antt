@@ -1,9 +1,10 @@
--- The words in which the table makes its tests. They are its own: what the step's definition means by words of the same name plays no part in what
--- condition 3 says.
+-- The words in which the table, the plain reading and the counters make their tests. They are their own, down to the numbers: what the step's
+-- definition means by words of the same name plays no part in what condition 3 says. What is shared with it stands in Shared, and nowhere else.
 use mathlib.Core.Bool.{Bool, true, false}
-use mathlib.Core.List.{List, [], _∷_}
-use Prim.Native.Nat.{ℕ, _/_}
-use lib.Dec.{eqb}
+use mathlib.Core.List.{List, [], _∷_, _++_}
+use Prim.Native.Nat.{ℕ, _-_, _/_, min}
+use lib.ListN.{length, take, drop}
+use lib.Dec.{eqb, ltb, leb}
 use Rattle.wire.specs.Bytes.{pick}
 use Rattle.lsn.specs.declared.Lsn.{Lsn}
 use Rattle.moment.specs.declared.Moment.{Moment}
@@ -29,6 +30,26 @@ both a b = pick a b false
 -- b and not a
 abbrev pub unless : Bool → Bool → Bool
 unless a b = pick a false b
+
+-- ---- parts of a buffer
+
+-- the bytes from a place on, so many of them
+abbrev pub part : List ℕ → ℕ → ℕ → List ℕ
+part s from len = take len (drop from s)
+
+-- d with s over its front; the rest of d is as it was
+abbrev pub onto : List ℕ → List ℕ → List ℕ
+onto s d = s ++ drop (length s) d
+
+-- ---- tags, by their bytes: PostgreSQL documentation, "Message Formats"
+
+-- in Opening: a CopyBothResponse, `W`; an ErrorResponse, `E`; any other
+abbrev pub whileOpening : {A : Type 0} → ℕ → A → A → A → A
+whileOpening tag opened failed other = pick (eqb tag 87) opened (pick (eqb tag 69) failed other)
+
+-- afterwards: an ErrorResponse, `E`; a CopyDone, `c`; a CopyData, `d`; any other
+abbrev pub byTag : {A : Type 0} → ℕ → A → A → A → A → A
+byTag tag failed done copied other = pick (eqb tag 69) failed (pick (eqb tag 99) done (pick (eqb tag 100) copied other))
 
 -- ---- states
 
@@ -64,6 +85,10 @@ isEnded Ended = true
 abbrev pub lsn : ℕ → Lsn
 lsn v = record { 0 = v }
 
+-- one position lies below another
+abbrev pub isBelow : Lsn → Lsn → Bool
+isBelow a b = ltb (a .0) (b .0)
+
 -- 0 stands for no moment
 abbrev pub noMoment : Moment
 noMoment = record { 0 = 0 }
@@ -72,6 +97,24 @@ noMoment = record { 0 = 0 }
 abbrev pub isNone : Moment → Bool
 isNone m = eqb (m .0) 0
 
+-- the moments that a step may be given
+abbrev pub isMoment : Moment → Bool
+isMoment m = pick (ltb (m .0) 1) false (leb (m .0) 9223372036854775807)
+
+-- one moment lies before another
+abbrev pub isBefore : Moment → Moment → Bool
+isBefore a b = ltb (a .0) (b .0)
+
+-- the nanoseconds from b to a, 0 where b lies ahead
+abbrev pub since : Moment → Moment → ℕ
+since a b = a .0 - b .0
+
 -- whole microseconds of nanoseconds
 abbrev pub micros : ℕ → ℕ
 micros nanos = nanos / 1000
+
+-- ---- the limit
+
+-- the longest payload by a setting: the setting itself, and at most 1 GiB
+abbrev pub longest : ℕ → ℕ
+longest setting = min setting 1073741824

@@ -7,15 +7,13 @@ use mathlib.Core.List.{List, [], _∷_, _++_}
 use mathlib.Core.Option.{some, none}
 use lib.Dec.{eqb}
 use Rattle.wire.specs.Bytes.{pick}
-use Rattle.framing.specs.Read.{limitOf}
 use Rattle.lsn.specs.declared.Lsn.{Lsn}
-use Rattle.lsn.specs.Position.{isBelow}
 use Rattle.moment.specs.declared.Moment.{Moment}
 use Rattle.worker.specs.declared.Input.{Input}
 use Rattle.worker.specs.declared.Settings.{Settings}
 use Rattle.worker.specs.declared.State.{State}
 use Rattle.worker.specs.declared.State.the-variants.{Opening, Turn, Drain, Reading, Waiting, Handling, Offering}
-use Rattle.claims.specs.Tests.{both, unless, isIn, lsn, noMoment, isNone}
+use Rattle.claims.specs.Tests.{both, unless, isIn, lsn, isBelow, noMoment, isNone, longest}
 use Rattle.claims.specs.Happened.{Happened}
 use Rattle.claims.specs.Plain.{Bounds, Observation, isRefusedEarly, isFull}
 
@@ -29,7 +27,7 @@ pub record Setup : Type 0 where
 
 -- the settings of the plain reading
 abbrev pub boundsOf : Settings → Bounds
-boundsOf s = record { stop = pick (s .«has_stop») (some (s .«stop_at_lsn» .0)) none; limit = limitOf (s .«max_message_size») }
+boundsOf s = record { stop = pick (s .«has_stop») (some (s .«stop_at_lsn» .0)) none; limit = longest (s .«max_message_size») }
 
 -- ---- responses
 

@@ -6,14 +6,13 @@ use mathlib.Core.Option.{Option, some, none}
 use Prim.Native.Nat.{ℕ}
 use lib.ListN.{length, take}
 use lib.IntN.{ℤ}
-use Rattle.wire.specs.Bytes.{pick, put}
+use Rattle.wire.specs.Bytes.{pick}
 use Rattle.frontend.specs.Frontend.{statusUpdate, copyDone}
 use Rattle.lsn.specs.declared.Lsn.{Lsn}
-use Rattle.moment.specs.Moment.{sinceOf}
 use Rattle.worker.specs.declared.Settings.{Settings}
 use Rattle.worker.specs.declared.Input.{Input}
 use Rattle.worker.specs.Step.{Outcome, Lent, stepOf}
-use Rattle.claims.specs.Tests.{isNone}
+use Rattle.claims.specs.Tests.{onto, isNone, since}
 use Rattle.claims.specs.Happened.{happenedOf, Parts}
 use Rattle.claims.specs.Trace.{Setup, Writing, nothing, done, status, Response, Trace, a-step, a-report, stateAfter, takenBy, handedBy, observationsOf, confirmedOf, takesPending, pendingSince}
 use Rattle.claims.specs.Calls.{Beginning, Call, step, report, Played, played, lentTo, setupOf}
@@ -40,22 +39,22 @@ traceOf s cs = traceAll s [] cs
 -- how many bytes are written, and the whole output then
 abbrev pub writtenBy : Writing → Lsn → ℤ → List ℕ → ℕ × List ℕ
 writtenBy nothing position time out = (0, out)
-writtenBy done position time out = (5, put out 0 copyDone)
-writtenBy (status reply) position time out = (39, put out 0 (statusUpdate (position .0) time reply))
+writtenBy done position time out = (5, onto copyDone out)
+writtenBy (status reply) position time out = (39, onto (statusUpdate (position .0) time reply) out)
 
 -- how long a confirmed position waited, where a status takes a pending moment
 abbrev pub waitedBy : Setup → Trace → Input → Writing → Option ℕ
 waitedBy s h i nothing = none
 waitedBy s h i done = none
 waitedBy s h i (status reply) =
-    pick (takesPending s h) (pick (isNone (pendingSince s h)) none (some (sinceOf (i .moment) (pendingSince s h)))) none
+    pick (takesPending s h) (pick (isNone (pendingSince s h)) none (some (since (i .moment) (pendingSince s h)))) none
 
 -- a step answers and leaves what the table responds; beyond the stored bytes the payload buffer is as it was, and the parts that an event names
 -- lie within the payload of the last whole message
 pub record Answers (s : Setup) (h : Trace) (i : Input) (l : Lent) (y : Response) (o : Outcome) : Type 0 where
   pub refusal : o .refusal ≡ y .refusal
   pub taken : o .taken ≡ y .taken
-  pub payload : o .payload ≡ put (l .payload) 0 (y .stored)
+  pub payload : o .payload ≡ onto (y .stored) (l .payload)
   pub output : (o .written, o .out) ≡ writtenBy (y .writing) (confirmedOf (s .start) h) (i .«client_time») (l .out)
   pub waited : o .waited ≡ waitedBy s h i (y .writing)
   pub state : o .run .state ≡ y .entered

@@ -15,8 +15,6 @@ use Rattle.wire.specs.Bytes.{pick}
 use Rattle.wire.proofs.Laws.{impossible}
 use Rattle.stream.specs.Cut.{Item, Ending, header, payload, over, Cut, cutOf}
 use Rattle.stream.proofs.Laws.{continued, cut-append, cut-nothing}
-use Rattle.framing.specs.Read.{Said, more, whole, refused, limitOf}
-use Rattle.framing.specs.Feed.{firstAnswer, span, stored}
 use Rattle.lsn.specs.declared.Lsn.{Lsn}
 use Rattle.worker.specs.declared.Input.{Input}
 use Rattle.worker.specs.declared.Queue.the-variants.{Free}
@@ -26,10 +24,10 @@ use Rattle.worker.specs.declared.State.the-variants.{Opening, Turn, Drain, Read
 use Rattle.claims.specs.Happened.{Happened}
 use Rattle.claims.specs.Begins.{isClosed, NoneClosed}
 use Rattle.claims.specs.Plain.{Msg, Gives, gives, messageGives, wholeOnes, given, takenOf}
-use Rattle.claims.specs.Tests.{both, unless, isEnded}
+use Rattle.claims.specs.Tests.{both, unless, isEnded, longest}
 use Rattle.claims.specs.Trace.{Setup, boundsOf, Writing, nothing, done, status, Response, Trace, a-step, a-report, stateAfter, takenBy, handedBy, observationsOf}
 use Rattle.claims.specs.Trace.{hasSent, pendingOf, signalledOf, drainedOf, readInWait, fullBefore, goneOf}
-use Rattle.claims.specs.Table.{respond, enters, writes, limitBy, isPassed, isIdle, statusIf, readResponse, readingResponse, waitingResponse, idleResponse}
+use Rattle.claims.specs.Table.{Found, unfinished, whole, refused, foundBy, usedBy, payloadBy, respond, enters, writes, limitBy, isPassed, isIdle, statusIf, readResponse, readingResponse, waitingResponse, idleResponse}
 use Rattle.claims.specs.Table.{lastOr, lastMessage, lastGives, backOf, handlingResponse, drainResponse, waitingTests, handsOver, drops, offeringResponse}
 use Rattle.claims.specs.Table.{tableOf, isBadMoment, stepResponse, responseOf}
 use Rattle.claims.specs.Calls.{is-open, Call, step, report, Played, playOne, playAll, setupOf}
@@ -93,34 +91,34 @@ back-never false k = impossible cc
 
 -- ---- a read
 
-abbrev answered : List ℕ → List ℕ → List Item → Ending → Bool → (Said → Response) → Response
+abbrev answered : List ℕ → List ℕ → List Item → Ending → Bool → (Found → Response) → Response
 answered rest u is end e f =
-    let y : Response = f (firstAnswer is end (length u) e) in
+    let y : Response = f (foundBy is end (length u) e) in
     record {
       refusal = y .refusal;
-      taken = span is end (rest ++ u) - length rest;
-      stored = stored is end (rest ++ u);
+      taken = usedBy is end (rest ++ u) - length rest;
+      stored = payloadBy is end (rest ++ u);
       writing = y .writing;
       entered = y .entered;
       event = y .event;
     }
 
 -- of a state that reads: only a refusal ends the run
-pub record Reads (f : Said → Response) : Type 0 where
-  pub whole-goes : (tag m : ℕ) → Never (f (whole tag m))
-  pub more-goes : Never (f more)
+pub record Reads (f : Found → Response) : Type 0 where
+  pub whole-goes : (tag : ℕ) → Never (f (whole tag))
+  pub more-goes : Never (f unfinished)
   pub refused-hands : (r : ℕ) → f (refused r) .event ≡ []
 
 reading-reads : Reads readingResponse
-reading-reads = record { whole-goes = λ tag m k. impossible cc; more-goes = λ k. impossible cc; refused-hands = λ r. refl }
+reading-reads = record { whole-goes = λ tag k. impossible cc; more-goes = λ k. impossible cc; refused-hands = λ r. refl }
 
 waiting-reads : (q : Bool) → Reads (waitingResponse q)
-waiting-reads q = record { whole-goes = λ tag m k. impossible cc; more-goes = idle-quiet q; refused-hands = λ r. refl }
+waiting-reads q = record { whole-goes = λ tag k. impossible cc; more-goes = idle-quiet q; refused-hands = λ r. refl }
 
-module _ (rest u : List ℕ) (f : Said → Response) (w : Reads f) where
+module _ (rest u : List ℕ) (f : Found → Response) (w : Reads f) where
   -- the input's end, with no byte unread
-  end-quiet : (r : ℕ) (z e : Bool) → eqb (length u) 0 ≡ z → f (pick z (pick e (refused r) more) more) .entered ≡ Ended
-      → (length (rest ++ u) - length rest ≡ 0) × (f (pick z (pick e (refused r) more) more) .event ≡ [])
+  end-quiet : (r : ℕ) (z e : Bool) → eqb (length u) 0 ≡ z → f (pick z (pick e (refused r) unfinished) unfinished) .entered ≡ Ended
+      → (length (rest ++ u) - length rest ≡ 0) × (f (pick z (pick e (refused r) unfinished) unfinished) .event ≡ [])
   end-quiet r true true h k =
       let l : length u ≡ 0 = eqb-true (length u) 0 h in
       let a : length (rest ++ u) ≡ length rest + length u = length-append rest u in
@@ -130,7 +128,7 @@ module _ (rest u : List ℕ) (f : Said → Response) (w : Reads f) where
 
   answer-quiet : (ms : List Message) (end : Ending) → (end ≡ over → ⊥) → (e : Bool) → Quiet (answered rest u (itemsOf ms) end e f)
   unfolding itemsOf
-  answer-quiet (m ∷ ms) end o e k = absurd (w .whole-goes 100 (length (payloadOf m)) k)
+  answer-quiet (m ∷ ms) end o e k = absurd (w .whole-goes 100 k)
   answer-quiet [] header o e k = end-quiet 8 (eqb (length u) 0) e refl k
   answer-quiet [] payload o e k = end-quiet 9 (eqb (length u) 0) e refl k
   answer-quiet [] over o e k = absurd (o refl)
@@ -149,7 +147,7 @@ last-of d m (a ∷ ms) f = last-of (100, payloadOf m) a ms (f .1)
 -- ---- one step
 
 module _ (s : Settings) (start : Lsn) (seed n : ℕ) (p : List ℕ) (fits : seed < 2 ^ 64) (no-stop : s .«has_stop» ≡ false)
-    (wide : 100 ≤ limitOf (s .«max_message_size»)) where
+    (wide : 100 ≤ longest (s .«max_message_size»)) where
   abbrev bytes : List ℕ
   bytes = streamOf n seed
 
@@ -167,7 +165,7 @@ module _ (s : Settings) (start : Lsn) (seed n : ℕ) (p : List ℕ) (fits : seed
     abbrev b : List ℕ
     b = take t bytes
 
-    read-quiet : (k : ℕ) (f : Said → Response) → Reads f → Quiet (readResponse (limitBy x) b (take k (drop t bytes)) (i .ended) f)
+    read-quiet : (k : ℕ) (f : Found → Response) → Reads f → Quiet (readResponse (limitBy x) b (take k (drop t bytes)) (i .ended) f)
     read-quiet k f w =
         let u : List ℕ = take k (drop t bytes) in
         let c : Cut = cutOf (limitBy x) (cutOf (limitBy x) b .rest ++ u) in
@@ -236,7 +234,7 @@ module _ (s : Settings) (start : Lsn) (seed n : ℕ) (p : List ℕ) (fits : seed
     waiting-quiet : (k : ℕ) → Quiet (waitingTests x h i b (take k (drop t bytes)))
     waiting-quiet k =
         let u : List ℕ = take k (drop t bytes) in
-        let f : Said → Response = waitingResponse (isIdle x h i) in
+        let f : Found → Response = waitingResponse (isIdle x h i) in
         wait-quiet (i .stop) (both (pendingOf start h) (isPassed x h i)) (unless (pendingOf start h) (signalledOf start h))
         (pick (eqb (length u) 0) (i .ended) true) (readResponse (limitBy x) b u (i .ended) f) (idleResponse (isIdle x h i)) quiet
         (read-quiet k f (waiting-reads (isIdle x h i))) (idle-quiet (isIdle x h i))

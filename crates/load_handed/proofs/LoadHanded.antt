@@ -12,7 +12,6 @@ use Rattle.wire.specs.Bytes.{pick}
 use Rattle.wire.proofs.Laws.{impossible}
 use Rattle.stream.specs.Cut.{cutOf}
 use Rattle.stream.proofs.Frame.{length-framed}
-use Rattle.framing.specs.Read.{limitOf}
 use Rattle.lsn.specs.declared.Lsn.{Lsn}
 use Rattle.worker.specs.declared.Queue.{Queue}
 use Rattle.worker.specs.declared.Queue.the-variants.{Free}
@@ -21,6 +20,7 @@ use Rattle.worker.specs.declared.State.{State}
 use Rattle.worker.specs.declared.State.the-variants.{Opening, Turn, Drain, Reading, Waiting, Handling, Offering, Ended}
 use Rattle.claims.specs.Happened.{Happened}
 use Rattle.claims.specs.Begins.{isClosed, NoneClosed}
+use Rattle.claims.specs.Tests.{longest}
 use Rattle.claims.specs.Plain.{Msg, Observation, wholeOnes, given, takenOf}
 use Rattle.claims.specs.Trace.{Setup, stateAfter, takenBy}
 use Rattle.claims.specs.Calls.{is-open, runBegun, Call, step, report, Played, playOne, playAll, begun, played, setupOf}
@@ -44,7 +44,7 @@ no-messages (m ∷ ms) h =
     absurd (omega (arith, l, k, h))
 
 module _ (s : Settings) (start : Lsn) (seed n : ℕ) (p : List ℕ) (cs : List Call) (fits : seed < 2 ^ 64) (no-stop : s .«has_stop» ≡ false)
-    (wide : 100 ≤ limitOf (s .«max_message_size»)) (u : Undisturbed cs) where
+    (wide : 100 ≤ longest (s .«max_message_size»)) (u : Undisturbed cs) where
   abbrev bytes : List ℕ
   bytes = streamOf n seed
 
@@ -109,6 +109,7 @@ module _ (s : Settings) (start : Lsn) (seed n : ℕ) (p : List ℕ) (cs : List C
     by-state Ended e h (inr b) = ended e
 
 pub load-is-handed-on : Load-is-handed-on
-load-is-handed-on s start seed n p cs fits no-stop wide u taken h =
+load-is-handed-on s start seed n p cs fits no-stop far u taken h =
+    let wide : 100 ≤ longest (s .«max_message_size») = omega arith in
     by-state s start seed n p cs fits no-stop wide u taken (played s (is-open start) (streamOf n seed) p cs .run .state) refl h
     (held s start seed n p cs fits no-stop wide u .invariant)

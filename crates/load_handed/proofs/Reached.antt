@@ -14,8 +14,6 @@ use Rattle.wire.specs.Bytes.{pick}
 use Rattle.wire.proofs.Laws.{impossible}
 use Rattle.stream.specs.Cut.{header, Cut, cutOf}
 use Rattle.stream.proofs.Frame.{length-framed}
-use Rattle.framing.specs.Read.{Said, more, whole, refused, limitOf}
-use Rattle.framing.specs.Feed.{firstAnswer, span, stored}
 use Rattle.lsn.specs.declared.Lsn.{Lsn}
 use Rattle.moment.specs.declared.Moment.{Moment}
 use Rattle.worker.specs.declared.Input.{Input}
@@ -26,10 +24,10 @@ use Rattle.worker.specs.declared.State.{State}
 use Rattle.worker.specs.declared.State.the-variants.{Opening, Turn, Drain, Reading, Waiting, Handling, Offering, Ended}
 use Rattle.claims.specs.Happened.{Happened}
 use Rattle.claims.specs.Plain.{Msg, Observation, Gives, gives, messageGives, wholeOnes, acceptedOnes, isRefusedEarly, isFull, byQueue}
-use Rattle.claims.specs.Tests.{both, unless}
+use Rattle.claims.specs.Tests.{both, unless, longest}
 use Rattle.claims.specs.Trace.{Setup, boundsOf, Writing, nothing, done, status, Response, Trace, a-step, a-report, stateAfter, takenBy, handedBy, observationsOf}
 use Rattle.claims.specs.Trace.{went, hasSent, pendingOf, signalledOf, drainedOf, readInWait, offersOn, fullBefore, goneOf}
-use Rattle.claims.specs.Table.{respond, enters, writes, limitBy, isPassed, isIdle, statusIf, readResponse, readingResponse, waitingResponse, idleResponse}
+use Rattle.claims.specs.Table.{Found, unfinished, whole, refused, foundBy, usedBy, payloadBy, respond, enters, writes, limitBy, isPassed, isIdle, statusIf, readResponse, readingResponse, waitingResponse, idleResponse}
 use Rattle.claims.specs.Table.{lastOr, lastMessage, lastGives, backOf, handlingResponse, drainResponse, waitingTests, handsOver, drops, offeringResponse}
 use Rattle.claims.specs.Table.{tableOf, isBadMoment, stepResponse, responseOf}
 use Rattle.claims.specs.Calls.{is-open, Call, step, report, Played, played, setupOf}
@@ -159,7 +157,7 @@ Rests Offering = ⊥
 Rests Ended = Unit
 
 module _ (s : Settings) (start : Lsn) (seed n : ℕ) (p : List ℕ) (fits : seed < 2 ^ 64) (no-stop : s .«has_stop» ≡ false)
-    (wide : 100 ≤ limitOf (s .«max_message_size»)) where
+    (wide : 100 ≤ longest (s .«max_message_size»)) where
   abbrev x : Setup
   x = setupOf s (is-open start) (streamOf n seed) (length p)
 
@@ -277,19 +275,19 @@ module _ (s : Settings) (start : Lsn) (seed n : ℕ) (p : List ℕ) (fits : seed
     all-fits : AllFit (past ++ todo)
     all-fits = subst AllFit (sym split) (all-fit n seed fits)
 
-    abbrev answered : List ℕ → List ℕ → Cut → Bool → (Said → Response) → Response
+    abbrev answered : List ℕ → List ℕ → Cut → Bool → (Found → Response) → Response
     answered rest u c ended f =
-        let y : Response = f (firstAnswer (c .items) (c .ending) (length u) ended) in
+        let y : Response = f (foundBy (c .items) (c .ending) (length u) ended) in
         record {
           refusal = y .refusal;
-          taken = span (c .items) (c .ending) (rest ++ u) - length rest;
-          stored = stored (c .items) (c .ending) (rest ++ u);
+          taken = usedBy (c .items) (c .ending) (rest ++ u) - length rest;
+          stored = payloadBy (c .items) (c .ending) (rest ++ u);
           writing = y .writing;
           entered = y .entered;
           event = y .event;
         }
 
-    read-is : (ended : Bool) (f : Said → Response)
+    read-is : (ended : Bool) (f : Found → Response)
         → readResponse (limitBy x) (allBytes past) (allBytes todo) ended f
         ≡ answered [] (allBytes todo) (record { items = itemsOf todo; rest = []; ending = header }) ended f
     read-is ended f =
@@ -299,7 +297,7 @@ module _ (s : Settings) (start : Lsn) (seed n : ℕ) (p : List ℕ) (fits : seed
         ∙ ap (λ (c : Cut). answered [] u c ended f) (stream-cut (limitBy x) wide todo (fit-then past todo all-fits))
 
     -- what was read, where the rest of the stream is t
-    abbrev read-of : List Message → (Said → Response) → Response
+    abbrev read-of : List Message → (Found → Response) → Response
     read-of t f = answered [] (allBytes t) (record { items = itemsOf t; rest = []; ending = header }) (i .ended) f
 
     whole-one : Now Reading → (m : Message) (r : List Message) → todo ≡ m ∷ r → Next Reading (read-of (m ∷ r) readingResponse)
@@ -364,7 +362,7 @@ module _ (s : Settings) (start : Lsn) (seed n : ℕ) (p : List ℕ) (fits : seed
 
     waiting-next : Now Waiting → Next Waiting (waitingTests x h i (allBytes past) (allBytes todo))
     waiting-next b =
-        let f : Said → Response = waitingResponse (isIdle x h i) in
+        let f : Found → Response = waitingResponse (isIdle x h i) in
         wait-by (i .stop) (both (pendingOf start h) (isPassed x h i)) (unless (pendingOf start h) (signalledOf start h))
         (pick (eqb (length (allBytes todo)) 0) (i .ended) true)
         (readResponse (limitBy x) (allBytes past) (allBytes todo) (i .ended) f) (idleResponse (isIdle x h i)) quiet
@@ -526,7 +524,8 @@ module _ (s : Settings) (start : Lsn) (seed n : ℕ) (p : List ℕ) (fits : seed
       (a .taken ∙ ap (λ (t : List Message). length (allBytes t)) whole, r .1 ∙ ap eventsOf whole, r .2)
 
 pub load-is-reached : Load-is-reached
-load-is-reached s start seed n p cs fits no-stop wide u l c =
+load-is-reached s start seed n p cs fits no-stop far u l c =
+    let wide : 100 ≤ longest (s .«max_message_size») = omega arith in
     let y : Setup = setupOf s (is-open start) (streamOf n seed) (length p) in
     let f = played-preserved s (is-open start) (streamOf n seed) p cs .follows in
     let h : Trace = traceOf y cs in

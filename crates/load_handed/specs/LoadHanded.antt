@@ -6,7 +6,6 @@ use mathlib.Core.List.{List, [], _∷_}
 use Prim.Native.Nat.{ℕ, _≤_, _<_, _^_}
 use lib.ListN.{length, replicate}
 use lib.IntN.{pos}
-use Rattle.framing.specs.Read.{limitOf}
 use Rattle.lsn.specs.declared.Lsn.{Lsn}
 use Rattle.worker.specs.declared.Queue.the-variants.{Free}
 use Rattle.worker.specs.declared.Settings.{Settings}
@@ -57,6 +56,6 @@ holdsBack Ended = false
 abbrev pub Load-is-handed-on : Type 0
 Load-is-handed-on =
     (s : Settings) (start : Lsn) (seed n : ℕ) (payload : List ℕ) (cs : List Call)
-    → seed < 2 ^ 64 → s .«has_stop» ≡ false → 100 ≤ limitOf (s .«max_message_size») → Undisturbed cs
+    → seed < 2 ^ 64 → s .«has_stop» ≡ false → 100 ≤ s .«max_message_size» → Undisturbed cs
     → let z : Played = played s (is-open start) (streamOf n seed) payload cs in
     z .taken ≡ length (streamOf n seed) → holdsBack (z .run .state) ≡ false → z .events ≡ listOf n seed

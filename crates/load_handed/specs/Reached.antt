@@ -6,7 +6,6 @@ use mathlib.Core.List.{List, [], _∷_}
 use Prim.Native.Nat.{ℕ, _+_, _*_, _≤_, _<_, _^_}
 use mathlib.Core.Bool.{false}
 use lib.ListN.{length}
-use Rattle.framing.specs.Read.{limitOf}
 use Rattle.lsn.specs.declared.Lsn.{Lsn}
 use Rattle.worker.specs.declared.Settings.{Settings}
 use Rattle.claims.specs.Plain.{acceptedOnes}
@@ -33,5 +32,5 @@ pub record Reached (n seed : ℕ) (z : Played) : Type 0 where
 abbrev pub Load-is-reached : Type 0
 Load-is-reached =
     (s : Settings) (start : Lsn) (seed n : ℕ) (payload : List ℕ) (cs : List Call)
-    → seed < 2 ^ 64 → s .«has_stop» ≡ false → 100 ≤ limitOf (s .«max_message_size») → Undisturbed cs → AllUnread (length (streamOf n seed)) cs
+    → seed < 2 ^ 64 → s .«has_stop» ≡ false → 100 ≤ s .«max_message_size» → Undisturbed cs → AllUnread (length (streamOf n seed)) cs
     → let z : Played = played s (is-open start) (streamOf n seed) payload cs in enough n ≤ length (acceptedOnes (z .observed)) → Reached n seed z

@@ -8,7 +8,7 @@ use Rattle.lsn.specs.declared.Lsn.{Lsn}
 use Rattle.page.specs.declared.Page.{Page}
 use Rattle.worker.specs.declared.Settings.{Settings}
 use Rattle.worker.specs.declared.State.the-variants.{Handling, Offering}
-use Rattle.worker.specs.Run.{stateNumber, lsn}
+use Rattle.claims.specs.Tests.{placeOf, lsn}
 use Rattle.claims.specs.Calls.{Beginning, Call, played, setupOf}
 use Rattle.claims.specs.Counters.{endAfter, stallCount, wrapped}
 use Rattle.claims.specs.Table.{lastMessage, limitBy}
@@ -34,7 +34,7 @@ pageAfter s h =
       server = serverOf s h;
       events = wrapped (length (handedBy h));
       stalls = wrapped (stallCount h);
-      state = stateNumber (stateAfter (s .opening) h);
+      state = placeOf (stateAfter (s .opening) h);
     }
 
 -- after any list of calls, whatever queue closes, also where the run has ended

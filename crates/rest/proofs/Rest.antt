@@ -39,7 +39,7 @@ use Rattle.worker.specs.Streaming.{isCopyDone}
 use Rattle.worker.specs.Step.{Lent, Outcome, afterEvent, back, badMoment, boundaryBy, copyDataBy, doneWith, drainOf, drops, endedWith, handing, handsOn, handlingOf, having, idleOf, intervalPassed, isEnded, isStoppedAt, moved, nextEvent, offeringOf, offers, openingBy, openingOf, reaches, readingBy, readingOf, stallEnded, stalledOf, stalls, stepIn, statusDue, feedbackOf, stepOf, turnOf, waitingOf, waits}
 use Rattle.schedule.specs.NextStep.{Next, atOnce, byClock, dueOf, idleMoment, beyond, isWhole, nextStepOf, offeringNext, openingNext, readingNext, stateNext, statusMoment, waitingNext}
 use Rattle.schedule.specs.Promise.{quiet, noByte, quietStep, Accepts}
-use Rattle.schedule.proofs.Clock.{in-range, passed-by}
+use Rattle.schedule.proofs.Clock.{good-moment, in-range, passed-by}
 use Rattle.schedule.proofs.Read.{quietRead, read-quietly}
 use Rattle.rest.specs.Rest.{NotNow, AtRest, Rests, Comes-to-rest}
 
@@ -77,18 +77,18 @@ module _ (m : Moment) (time : ℤ) (q : Queue) (p out : List ℕ) where
     -- a run of the same settings whose last accepted moment is this one
     again : (s : Run) → s .settings ≡ r .settings → s .clock .last ≡ m → Fit s
     again s hs hc =
-        let ok : inRange m ≡ true = first (inRange m) _ (f .accepts .good-moment) in
-        let now : isBefore m m ≡ false = le-ltb (m .0) (m .0) (omega arith) in
         record {
           status = rw hs (f .status);
           idle = rw hs (f .idle);
           accepts =
-              record { payload-fits = rw hs (f .accepts .payload-fits); status-fits = f .accepts .status-fits; good-moment = rw (hc, ok, now) refl };
+              record {
+                payload-fits = rw hs (f .accepts .payload-fits);
+                status-fits = f .accepts .status-fits;
+                not-early = f .accepts .not-early;
+                not-late = f .accepts .not-late;
+                not-before = rw hc (omega arith);
+              };
         }
-      where
-        first : (a b : Bool) → pick a b true ≡ false → a ≡ true
-        first true b h = refl
-        first false b h = sym h
 
     -- a step in a state
     stepped : (n : ℕ) (x : State) → r .state ≡ x → isEnded x ≡ false → Rest n (after x r) → Rest (suc n) r
@@ -97,10 +97,10 @@ module _ (m : Moment) (time : ℤ) (q : Queue) (p out : List ℕ) where
         let a = f .accepts in
         let g : isEnded (r .state) ≡ false = ap isEnded h ∙ e in
         let o = ap (λ (y : State). stepIn y (accepted m r) i l) h in
-        inr (simp (g, le-ltb _ _ (a .payload-fits), le-ltb _ _ (a .status-fits), a .good-moment) (subst (λ (y : Outcome). Rest n (y .run)) (sym o) k))
+        inr (simp (g, le-ltb _ _ (a .payload-fits), le-ltb _ _ (a .status-fits), good-moment r m p out a) (subst (λ (y : Outcome). Rest n (y .run)) (sym o) k))
 
     within : m .0 < beyond
-    within = in-range r m (f .accepts .good-moment)
+    within = in-range r m p out (f .accepts)
 
     -- the status interval has not passed, or the idle interval
     status-ahead : leb (r .settings .«status_interval») (sinceOf m (r .status .at)) ≡ false → m .0 < statusMoment r
@@ -148,8 +148,9 @@ module _ (m : Moment) (time : ℤ) (q : Queue) (p out : List ℕ) where
             record {
               payload-fits = rw hs (f .accepts .payload-fits);
               status-fits = f .accepts .status-fits;
-              good-moment = rw hc
-                  (f .accepts .good-moment);
+              not-early = f .accepts .not-early;
+              not-late = f .accepts .not-late;
+              not-before = rw hc (f .accepts .not-before);
             };
       }
 

@@ -1,19 +1,20 @@
 -- An interval has passed from its due moment on.
 use Prim.Native.Nat.{ℕ, _+_, _-_, _<_, _≤_, min}
 use native.Mathlib.Omega.{arith}
-use borrow.Author.Tests.{ltb-false, leb-true, leb-false, eqb-true, eqb-false, le-leb, lt-leb}
+use borrow.Author.Tests.{ltb-false, leb-true, leb-false, eqb-true, eqb-false, le-ltb, le-leb, lt-leb}
 use mathlib.Core.Bool.{Bool, true, false}
+use mathlib.Core.List.{List}
 use mathlib.Core.Path.{_≡_, refl, sym, _∙_}
 use lib.Dec.{ltb, leb, eqb}
 use Rattle.wire.specs.Bytes.{pick}
 use Rattle.wire.proofs.Laws.{by-test, impossible}
 use Rattle.moment.specs.declared.Moment.{Moment}
-use Rattle.moment.specs.Moment.{last, inRange, sinceOf}
+use Rattle.moment.specs.Moment.{last, sinceOf}
 use Rattle.worker.specs.declared.Queue.{Queue}
 use Rattle.worker.specs.declared.Run.{Run}
 use Rattle.worker.specs.Step.{Outcome, badMoment}
 use Rattle.schedule.specs.NextStep.{beyond, byClock, dueOf}
-use Rattle.schedule.specs.Promise.{Moves, Stays, Promised}
+use Rattle.schedule.specs.Promise.{Accepts, Moves, Stays, Promised}
 
 -- the one law of intervals
 pub passed-by : (interval : ℕ) (at m : Moment) → m .0 < beyond → leb interval (sinceOf m at) ≡ leb (dueOf interval at) (m .0)
@@ -25,20 +26,13 @@ passed-by interval at m h =
     (λ k. let a : interval ≤ m .0 - at .0 = leb-true interval (m .0 - at .0) k in let b : min (at .0 + interval) beyond ≤ m .0 = omega arith in rw (t, k) (sym (le-leb _ _ b)))
     (λ k. let a : m .0 - at .0 < interval = leb-false interval (m .0 - at .0) k in let b : m .0 < min (at .0 + interval) beyond = omega arith in rw (t, k) (sym (lt-leb _ _ b))))
 
-first : (a b : Bool) → pick a b true ≡ false → a ≡ true
-first true b h = refl
-first false b h = sym h
+-- a moment that is accepted is none that 5 refuses
+pub good-moment : (r : Run) (m : Moment) (p out : List ℕ) → Accepts r m p out → badMoment r m ≡ false
+good-moment r m p out a = simp (le-ltb _ _ (a .not-early), le-leb _ _ (a .not-late), le-ltb _ _ (a .not-before))
 
-second : (a b : Bool) → pick a false b ≡ true → b ≡ true
-second true b h = impossible cc
-second false b h = h
-
--- an accepted moment is a moment
-pub in-range : (r : Run) (m : Moment) → badMoment r m ≡ false → m .0 < beyond
-in-range r m h =
-    let a : inRange m ≡ true = first (inRange m) _ h in
-    let b : m .0 ≤ last = leb-true (m .0) last (second (ltb (m .0) 1) _ a) in
-    omega arith
+-- .. and a moment
+pub in-range : (r : Run) (m : Moment) (p out : List ℕ) → Accepts r m p out → m .0 < beyond
+in-range r m p out a = let b : m .0 ≤ last = a .not-late in omega arith
 
 -- ---- outcomes that move from a moment on
 

@@ -34,7 +34,7 @@ use Rattle.worker.specs.Streaming.{isCopyDone}
 use Rattle.worker.specs.Step.{Lent, Outcome, back, afterEvent, boundaryBy, copyDataBy, doneWith, drainOf, endedWith, handing, handlingOf, having, idleOf, intervalPassed, isEnded, isStoppedAt, moved, offeringOf, offers, openingBy, openingOf, readingBy, readingOf, refusedWith, stallEnded, stalledOf, stalls, stepIn, statusDue, feedbackOf, stepOf, turnOf, waitingOf}
 use Rattle.schedule.specs.NextStep.{Next, atOnce, onInput, never, beyond, byClock, idleMoment, isWhole, nextStepOf, offeringNext, openingNext, readingNext, stateNext, statusMoment, waitingNext}
 use Rattle.schedule.specs.Promise.{Moves, leaves, writes, passes, Stays, Not-both, Promised, quiet, noByte, Next-step-promised, Never-is-ended, Ended-is-never}
-use Rattle.schedule.proofs.Clock.{Timed, by-clock, in-range, one-clock, passed-by, two-clocks}
+use Rattle.schedule.proofs.Clock.{Timed, by-clock, good-moment, in-range, one-clock, passed-by, two-clocks}
 use Rattle.schedule.proofs.Read.{quietRead, read-quietly}
 
 -- one of two outcomes
@@ -255,8 +255,8 @@ module _ (r : Run) (p out : List ℕ) (time : ℤ) (m : Moment) where
 pub next-step-promised : Next-step-promised
 unfolding stepOf nextStepOf
 next-step-promised r q p out time m a =
-    simp (le-ltb _ _ (a .payload-fits), le-ltb _ _ (a .status-fits), a .good-moment)
-    (state-promised r p out time m q (r .state) refl (a .payload-fits) (in-range r m (a .good-moment)))
+    simp (le-ltb _ _ (a .payload-fits), le-ltb _ _ (a .status-fits), good-moment r m p out a)
+    (state-promised r p out time m q (r .state) refl (a .payload-fits) (in-range r m p out a))
 
 -- ---- never
 

@@ -1,18 +1,18 @@
 -- What the answer promises of a step that brings nothing new, for every run value. SCOPE 5.9.
-use Prim.Native.Nat.{ℕ, _<_, _≤_}
+use Prim.Native.Nat.{ℕ, _<_, _≤_, min}
 use mathlib.Core.Bool.{false}
 use mathlib.Core.Path.{_≡_}
 use mathlib.Core.List.{List, []}
+use mathlib.Core.Option.{none}
 use lib.ListN.{length}
 use lib.IntN.{ℤ}
-use Rattle.framing.specs.Read.{limitOf}
 use Rattle.moment.specs.declared.Moment.{Moment}
 use Rattle.worker.specs.declared.Input.{Input}
 use Rattle.worker.specs.declared.Queue.{Queue}
 use Rattle.worker.specs.declared.Run.{Run}
 use Rattle.worker.specs.declared.State.the-variants.{Ended}
 use Rattle.worker.specs.Events as E
-use Rattle.worker.specs.Step.{Lent, Outcome, badMoment, refusedWith, stepOf}
+use Rattle.worker.specs.Step.{Lent, Outcome, stepOf}
 use Rattle.schedule.specs.NextStep.{Next, atOnce, from, onInput, never, nextStepOf}
 
 -- no stop request, no end of the input, and the queue as it is
@@ -27,11 +27,21 @@ noByte p out = record { unread = []; payload = p; out = out }
 abbrev pub quietStep : Run → Moment → ℤ → Queue → List ℕ → List ℕ → Outcome
 quietStep r m time q p out = stepOf r (quiet m time q) (noByte p out)
 
--- the step is refused with none of 3, 4 and 5
+-- the step is refused with none of 3, 4 and 5, in the numbers of 01
 pub record Accepts (r : Run) (m : Moment) (p out : List ℕ) : Type 0 where
-  pub payload-fits : limitOf (r .settings .«max_message_size») ≤ length p
+  -- 3: the payload buffer is as long as the setting, and at most 1 GiB is asked
+  pub payload-fits : min (r .settings .«max_message_size») 1073741824 ≤ length p
+  -- 4: a status update has 39 bytes
   pub status-fits : 39 ≤ length out
-  pub good-moment : badMoment r m ≡ false
+  -- 5: the moment is one, and not before the last accepted
+  pub not-early : 1 ≤ m .0
+  pub not-late : m .0 ≤ 9223372036854775807
+  pub not-before : r .clock .last .0 ≤ m .0
+
+-- a step that is refused with a number and changes nothing
+abbrev pub unchanged : ℕ → Run → Lent → Outcome
+unchanged n r l =
+    record { run = r; refusal = n; taken = 0; event = E.nothing; written = 0; waited = none; payload = l .payload; out = l .out }
 
 -- the run leaves its state, or writes bytes, or offers another event: StoppedAt, after one that was handed on or dropped
 pub data Moves (r : Run) (o : Outcome) : Type 0 where
@@ -74,4 +84,4 @@ Never-is-ended = (r : Run) (n : ℕ) (q : Queue) → nextStepOf r n q ≡ never 
 abbrev pub Ended-is-never : Type 0
 Ended-is-never =
     (r : Run) (n : ℕ) (q : Queue) → r .state ≡ Ended
-    → (nextStepOf r n q ≡ never) × ((i : Input) (l : Lent) → stepOf r i l ≡ refusedWith 2 r l)
+    → (nextStepOf r n q ≡ never) × ((i : Input) (l : Lent) → stepOf r i l ≡ unchanged 2 r l)

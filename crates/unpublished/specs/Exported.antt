@@ -4,7 +4,7 @@ use mathlib.Core.Path.{_≡_}
 use mathlib.Core.List.{List, [], _∷_}
 use Prim.Native.Nat.{ℕ}
 use lib.ListN.{length, getD, take}
-use Rattle.framing.specs.Read.{limitOf}
+use Rattle.claims.specs.Tests.{longest}
 use Rattle.words.specs.Words.{settingsOf}
 use Rattle.claims.specs.Calls.{Beginning}
 use Rattle.worker.specs.Step.{stepOf}
@@ -49,6 +49,6 @@ heldFirst words payload = record { words = words; payload = payload; taken = 0; 
 abbrev pub Exported-indistinct : Type 0
 Exported-indistinct =
     (settings before before' words words' : List ℕ) (c d : Beginning) → Opened settings before words c → Opened settings before' words' d
-    → AlikeBeginning c d → (a b p q : List ℕ) → DifferHidden (limitOf (settingsOf settings .«max_message_size»)) a b → length p ≡ length q
+    → AlikeBeginning c d → (a b p q : List ℕ) → DifferHidden (longest (settingsOf settings .«max_message_size»)) a b → length p ≡ length q
     → (cs ds : List HostCall) → AlikeHostCalls cs ds → (g g' : Held) → CalledAll a (heldFirst words p) cs g → CalledAll b (heldFirst words' q) ds g'
     → HeldAlike a b g g'

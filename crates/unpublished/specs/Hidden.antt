@@ -5,15 +5,14 @@ use mathlib.Core.Bool.{Bool, false}
 use mathlib.Core.List.{List, [], _∷_}
 use Prim.Native.Nat.{ℕ, _+_, _-_}
 use lib.ListN.{length, getD}
-use lib.Dec.{ltb, leb}
+use lib.Dec.{ltb, leb, eqb}
 use Rattle.wire.specs.Bytes.{pick, at}
 use Rattle.stream.specs.Cut.{Item, message, refused, cutOf}
-use Rattle.stream.specs.Tag.{isCopyData}
 use Rattle.replication.specs.CopyData.{copyDataOf}
 use Rattle.replication.specs.CopyData as C
 use Rattle.pgoutput.specs.Boundary.{boundaryOf}
 use Rattle.pgoutput.specs.Boundary as B
-use Rattle.worker.specs.Rows.{both}
+use Rattle.claims.specs.Tests.{both}
 
 -- place j of data, by their boundary
 abbrev pub hiddenBy : B.Said → ℕ → Bool
@@ -29,9 +28,9 @@ hiddenByPayload p (C.w start end time from len) j = both (leb from j) (hiddenBy 
 hiddenByPayload p (C.k end time reply) j = false
 hiddenByPayload p (C.refused n) j = false
 
--- place j of a message, whose header has five bytes
+-- place j of a message, whose header has five bytes: only a CopyData, `d`, byte 100, has hidden places
 abbrev pub hiddenInMessage : ℕ → List ℕ → ℕ → Bool
-hiddenInMessage tag p j = both (isCopyData tag) (both (leb 5 j) (hiddenByPayload p (copyDataOf p) (j - 5)))
+hiddenInMessage tag p j = both (eqb tag 100) (both (leb 5 j) (hiddenByPayload p (copyDataOf p) (j - 5)))
 
 -- place j of the bytes of whole messages and bad headers
 unfoldable pub hiddenIn : List Item → ℕ → Bool

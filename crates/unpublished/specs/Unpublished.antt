@@ -7,7 +7,6 @@ use mathlib.Core.Option.{some}
 use Prim.Native.Nat.{ℕ}
 use denote.Ref.{RefT}
 use lib.ListN.{length, getD, take}
-use Rattle.framing.specs.Read.{limitOf}
 use Rattle.lsn.specs.declared.Lsn.{Lsn}
 use Rattle.moment.specs.declared.Moment.{Moment}
 use Rattle.worker.specs.declared.Input.{Input}
@@ -21,6 +20,7 @@ use Rattle.advance.specs.Advance.{advanceOf}
 use Rattle.schedule.specs.NextStep.{nextStepOf}
 use Rattle.run_page.specs.RunPage.{shownBy}
 use Rattle.words.specs.Words.{wordsOf}
+use Rattle.claims.specs.Tests.{longest}
 use Rattle.claims.specs.Calls.{Played, lentTo, begun, runBegun, Beginning}
 use Rattle.claims.specs.Calls as C
 use Rattle.host_calls.specs.Mixed.{Call, mixAll}
@@ -77,13 +77,13 @@ pub record Indistinct (a b : List ℕ) (z y : Played) : Type 0 where
 -- any list of calls, of the wider relation
 abbrev pub Alike-indistinct : Type 0
 Alike-indistinct =
-    (s : Settings) (c d : Beginning) (a b p q : List ℕ) → AlikeBeginning c d → Alike (limitOf (s .«max_message_size»)) a b → length p ≡ length q
+    (s : Settings) (c d : Beginning) (a b p q : List ℕ) → AlikeBeginning c d → Alike (longest (s .«max_message_size»)) a b → length p ≡ length q
     → (cs ds : List Call) → AlikeCalls cs ds → Indistinct a b (mixAll a (begun (runBegun s c) p) cs) (mixAll b (begun (runBegun s d) q) ds)
 
 -- .. and of streams that differ in hidden places alone
 abbrev pub Wordings-hidden : Type 0
 Wordings-hidden =
-    (s : Settings) (c d : Beginning) (a b p q : List ℕ) → AlikeBeginning c d → DifferHidden (limitOf (s .«max_message_size»)) a b
+    (s : Settings) (c d : Beginning) (a b p q : List ℕ) → AlikeBeginning c d → DifferHidden (longest (s .«max_message_size»)) a b
     → length p ≡ length q → (cs ds : List Call) → AlikeCalls cs ds
     → Indistinct a b (mixAll a (begun (runBegun s c) p) cs) (mixAll b (begun (runBegun s d) q) ds)
 
