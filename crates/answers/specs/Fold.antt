@@ -4,7 +4,7 @@ use mathlib.Core.List.{List, [], _∷_}
 use mathlib.Core.Path.{_≡_}
 use lib.ListN.{getD}
 use Rattle.query.specs.declared.simple.SimpleQuery.{SimpleQuery}
-use Rattle.query.specs.Fold.{Said, more, row, ready, failed, refused}
+use Rattle.query.specs.Fold.{Said, more, row, ready, failed, refused, messageOf}
 use Rattle.words.specs.Words.{flagOf, flagWord}
 
 -- every list is read, whatever its words are; the fourth is ignored
@@ -23,9 +23,21 @@ foldWords ready = 2 ∷ 0 ∷ 0 ∷ []
 foldWords (failed kept len) = 3 ∷ kept ∷ len ∷ []
 foldWords (refused number) = 4 ∷ number ∷ 0 ∷ []
 
--- query, answer and error buffer after a message
-abbrev pub foldedWords : SimpleQuery × Said × List ℕ → List ℕ × List ℕ × List ℕ
-foldedWords x = (queryWords (x .0), foldWords (x .1), x .2)
+-- words, and the query that they stand for
+abbrev pub QueryStanding : Type 0
+QueryStanding = List ℕ × SimpleQuery
+
+-- any words stand for some query
+abbrev pub queryStanding : List ℕ → QueryStanding
+queryStanding w = (w, simpleQueryOf w)
+
+-- query, answer and error buffer after a message; the query's words stand for it
+abbrev pub foldLeft : SimpleQuery × Said × List ℕ → QueryStanding × List ℕ × List ℕ
+foldLeft x = ((queryWords (x .0), x .0), foldWords (x .1), x .2)
+
+-- `rufflesquash_query_message`, with a message's tag and payload and a buffer for an error
+abbrev pub queryMessageCall : List ℕ → ℕ → List ℕ → List ℕ → QueryStanding × List ℕ × List ℕ
+queryMessageCall w tag payload error = foldLeft (messageOf (simpleQueryOf w) tag payload error)
 
 -- the words of a query stand for it
 abbrev pub Query-round-trip : Type 0

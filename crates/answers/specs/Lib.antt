@@ -3,3 +3,4 @@ pub mod Next
 pub mod Read
 pub mod Fold
 pub mod Kinds
+pub mod Texts

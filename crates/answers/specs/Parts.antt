@@ -5,8 +5,12 @@ use mathlib.Core.List.{List, [], _∷_}
 use mathlib.Core.Option.{Option, some, none}
 use lib.IntN.{ℤ}
 use Rattle.messages.specs.declared.Field.{Field}
+use Rattle.messages.specs.Auth.{authOf}
+use Rattle.messages.specs.Fields.{fieldsOf, indexed}
+use Rattle.query.specs.Row.{columnsOf, countOf, columnOf}
 use Rattle.wire.specs.Int.{value}
-use Rattle.words.specs.Words.{flagWord}
+use Rattle.worker.specs.Answer.{errorPartOf}
+use Rattle.words.specs.Words.{flagWord, runOf}
 
 -- the refusal's number, 0 for none; the code in two's complement; where the rest begins and how long it is
 abbrev pub authWords : ℕ × ℤ × ℕ × ℕ → List ℕ
@@ -24,3 +28,25 @@ fieldWords f = flagWord (f .given) ∷ f .from ∷ f .len ∷ []
 abbrev pub errorWords : Option ℕ → ℕ → List ℕ
 errorWords none n = 0 ∷ 0 ∷ []
 errorWords (some len) n = 1 ∷ min len n ∷ []
+
+-- `rufflesquash_error_part`, with a payload buffer's length
+abbrev pub errorPartCall : List ℕ → ℕ → List ℕ
+errorPartCall w n = errorWords (errorPartOf (runOf w)) n
+
+-- ---- calls over a payload
+
+-- `rufflesquash_auth_request`
+abbrev pub authRequestCall : List ℕ → List ℕ
+authRequestCall payload = authWords (authOf payload)
+
+-- `rufflesquash_data_row`: the refusal's number, 0 for none, and how many columns there are
+abbrev pub dataRowCall : List ℕ → ℕ × ℕ
+dataRowCall payload = countOf (columnsOf payload)
+
+-- `rufflesquash_column`, with a column's number
+abbrev pub dataColumnCall : List ℕ → ℕ → ℕ × List ℕ
+dataColumnCall payload i = columnReply (columnOf (columnsOf payload) i)
+
+-- `rufflesquash_error_field`, with a field's number
+abbrev pub errorFieldCall : List ℕ → ℕ → List ℕ
+errorFieldCall payload i = fieldWords (indexed (fieldsOf payload) i)

@@ -17,7 +17,7 @@ use Rattle.claims.specs.Condition3.{Condition-3}
 use Rattle.claims.proofs.Beginnings.{beginnings-answer}
 use Rattle.claims.proofs.Confirms.{confirms-smallest, no-file-behind}
 use Rattle.claims.proofs.Counters.{counters-traced}
-use Rattle.claims.proofs.Failed.{error-shown}
+use Rattle.claims.proofs.Failed.{error-shown, error-traced}
 use Rattle.claims.proofs.HandsOn.{hands-on, events-begin}
 use Rattle.claims.proofs.Preserved.{step-next, refused-leaves, played-preserved}
 use Rattle.claims.proofs.Views.{views-traced}
@@ -53,6 +53,7 @@ condition-3 =
       refused = calls-refused;
       reports = reports-answer;
       error = error-shown;
+      error-stays = error-traced;
       views = views-traced;
       counters = counters-traced;
       events = hands-on;

@@ -37,7 +37,7 @@ use Rattle.claims.specs.Calls.{Beginning, startOf, runBegun}
 use Rattle.claims.specs.Confirms.{AnyCall, step, report, Writes, nothing, done, status, Reached, reachedWith, leastOf, Confirmed}
 use Rattle.claims.specs.Confirms.{Confirms-smallest, NotAbove, NoneBehind, No-file-behind}
 
-length-update : (position : ℕ) (time : ℤ) (reply : Bool) → length (statusUpdate position time reply) ≡ 39
+pub length-update : (position : ℕ) (time : ℤ) (reply : Bool) → length (statusUpdate position time reply) ≡ 39
 unfolding statusUpdate copyData
 length-update position time reply =
     length-framed 100 (statusBody position time reply) ∙ ap (λ (n : ℕ). n + 5) (length-status position time reply)
@@ -63,7 +63,7 @@ as-read {b} {i} {l} {o} (W.status reply a c d) =
     (ap (λ (n : ℕ). statusOf (take n (o .out))) a ∙ ap (λ (x : List ℕ). statusOf (take 39 x)) e
     ∙ reads-back (smallest (b .files) .0) (i .«client_time») reply (l .out))
 
-length-done : length copyDone ≡ 5
+pub length-done : length copyDone ≡ 5
 unfolding copyDone
 length-done = length-framed 99 []
 

@@ -1,8 +1,8 @@
--- Condition 3, whole: one claim about every list of calls, in eleven parts. Each part's statement stands in the file named beside it. SCOPE 8; 01,
+-- Condition 3, whole: one claim about every list of calls, in twelve parts. Each part's statement stands in the file named beside it. SCOPE 8; 01,
 -- "Events and confirmations".
 use Rattle.claims.specs.Beginnings.{Beginnings-answer}
 use Rattle.claims.specs.Confirms.{Confirms-smallest, No-file-behind}
-use Rattle.claims.specs.Failed.{Error-shown}
+use Rattle.claims.specs.Failed.{Error-shown, Error-traced}
 use Rattle.claims.specs.Refused.{Refused-leaves, Reports-answer}
 use Rattle.claims.specs.Traced.{Calls-traced}
 use Rattle.claims.specs.Counters.{Counters-traced}
@@ -26,6 +26,8 @@ pub record Condition-3 : Type 0 where
   pub reports : Reports-answer
   -- Failed: after 19 the run shows the server's error, the payload of the last whole message
   pub error : Error-shown
+  -- Failed: so after any list in which a step was refused with 19
+  pub error-stays : Error-traced
   -- Views: the last status, and no error without 19, also after the run's end
   pub views : Views-traced
   -- Counters: the numbers of `metrics` are those that the calls and the server's bytes give

@@ -1,6 +1,7 @@
 -- Condition 3, errors of the server: after a step that is refused with 19, in Opening too, `error_part` names the payload of the last whole
 -- message, which stands at the front of the payload buffer, whatever calls follow. SCOPE 5.8, 8.9; 01, "Where each call turns back", 19.
 use mathlib.Core.Path.{_≡_}
+use mathlib.Core.Bool.{true}
 use mathlib.Core.List.{List, [], _∷_, _++_}
 use Prim.Native.Nat.{ℕ, _+_}
 use lib.ListN.{length, take}
@@ -13,6 +14,7 @@ use Rattle.claims.specs.Trace.{Setup, Trace, Response, takenBy}
 use Rattle.claims.specs.Calls.{Beginning, Call, step, Played, played, setupOf}
 use Rattle.claims.specs.Table.{limitBy, lastMessage, responseOf}
 use Rattle.claims.specs.Traced.{traceOf}
+use Rattle.claims.specs.Views.{hasFailed}
 
 -- a run with this payload buffer shows a message's payload
 pub record Shows (payload : List ℕ) (r : Run) (p : List ℕ) : Type 0 where
@@ -28,3 +30,12 @@ Error-shown =
     let y : Response = responseOf x h i n (length out) in
     let z : Played = played s b bytes payload (cs ++ (step i n out ∷ ds)) in
     y .refusal ≡ 19 → Shows (lastMessage (limitBy x) (take (takenBy h + y .taken) bytes) .1) (z .run) (z .payload)
+
+-- so after any list in which a step was refused with 19: no byte is taken from then on
+abbrev pub Error-traced : Type 0
+Error-traced =
+    (s : Settings) (b : Beginning) (bytes payload : List ℕ) (cs : List Call)
+    → let x : Setup = setupOf s b bytes (length payload) in
+    let h : Trace = traceOf x cs in
+    let z : Played = played s b bytes payload cs in
+    hasFailed h ≡ true → Shows (lastMessage (limitBy x) (take (takenBy h) bytes) .1) (z .run) (z .payload)

@@ -4,18 +4,20 @@
 use mathlib.Core.Path.{_≡_}
 use mathlib.Core.Bool.{Bool, true, false}
 use mathlib.Core.List.{List, [], _∷_, _++_}
-use Prim.Native.Nat.{ℕ, _<_, _^_}
-use lib.IntN.{ℤ}
+use Prim.Native.Nat.{ℕ, _+_, _<_, _^_}
+use lib.ListN.{length}
+use lib.IntN.{ℤ, pos}
 use lib.Signed.{mag}
-use Rattle.wire.specs.Bytes.{pick, beBytes}
+use Rattle.wire.specs.Bytes.{pick, be, beBytes}
 use Rattle.wire.specs.Int.{int, value}
 use Rattle.wire.specs.Cases.{OrderLaws, SignedLaws, FindLawsOf}
+use Rattle.stream.specs.Message.{framed, frontOf}
 use Rattle.stream.specs.Cut.{cutOf}
-use Rattle.stream.specs.Frame.{Laid-is-cut, Cut-is-laid}
-use Rattle.replication.specs.CopyData.{copyDataOf}
+use Rattle.stream.specs.Frame.{Cut-by-front, Laid-is-cut, Cut-is-laid}
+use Rattle.replication.specs.CopyData.{copyDataOf, xlogData, keepAlive}
 use Rattle.replication.specs.CopyDataLayout.{XLogData-is-read, Read-is-XLogData, KeepAlive-is-read, Read-is-KeepAlive}
 use Rattle.replication.specs.CopyDataCases.{CopyDataLaws}
-use Rattle.pgoutput.specs.Boundary.{boundaryOf}
+use Rattle.pgoutput.specs.Boundary.{boundaryOf, beginBytes, commitBytes, messageBytes}
 use Rattle.pgoutput.specs.BoundaryLayout.{Begin-is-read, Read-is-Begin, Commit-is-read, Read-is-Commit, Message-is-read, Read-is-Message}
 use Rattle.pgoutput.specs.BoundaryCases.{LetterLaws, BeginRefusals, CommitRefusals, MessageRefusals}
 use Rattle.frontend.specs.Frontend.{statusUpdate, copyDone, query}
@@ -24,18 +26,43 @@ use Rattle.frontend.specs.ReadBack.{Status-read-back, Status-read-back-modulo, 
 use Rattle.request.specs.Request.{startReplication}
 use Rattle.request.specs.ReadBack.{Request-read-back}
 
+-- each is below 256
+abbrev pub AllBytes : List ℕ → Type 0
+AllBytes [] = Unit {0}
+AllBytes (x ∷ xs) = (x < 256) × AllBytes xs
+
 pub record Shared-held : Type 1 where
   -- `pick`: the first value where the test holds, else the second
   pub pick-first : (A : Type 0) (a b : A) → pick true a b ≡ a
   pub pick-second : (A : Type 0) (a b : A) → pick false a b ≡ b
+  -- `be` and `beBytes`: no byte is 0, the first byte is the highest (`order`), and a number has so many bytes, each below 256, which spell it
+  pub no-byte : be [] ≡ 0
+  pub order : OrderLaws
+  pub number-bytes : (n v : ℕ) → v < 256 ^ n → (length (beBytes n v) ≡ n) × AllBytes (beBytes n v) × (be (beBytes n v) ≡ v)
+  -- `int` and `value`: two's complement, and each undoes the other
+  pub sign : SignedLaws
+  pub not-negative : (n k : ℕ) → value n (pos k) ≡ k
+  pub time-back : (time : ℤ) → mag time < 2 ^ 63 → int 8 (value 8 time) ≡ time
+  pub word-back : (v : ℕ) → v < 2 ^ 64 → value 8 (int 8 v) ≡ v
+  -- the search for a zero byte
+  pub search-byte : FindLawsOf
+  -- the encoders of messages, field by field, so that none changes alike with its reader
+  pub frame-bytes : (tag : ℕ) (p : List ℕ) → framed tag p ≡ tag ∷ (beBytes 4 (length p + 4) ++ p)
+  pub xlog-bytes : (start end : ℕ) (time : ℤ) (d : List ℕ)
+      → xlogData start end time d ≡ 119 ∷ (beBytes 8 start ++ (beBytes 8 end ++ (beBytes 8 (value 8 time) ++ d)))
+  pub keepalive-bytes : (end : ℕ) (time : ℤ) (reply : ℕ) → keepAlive end time reply ≡ 107 ∷ (beBytes 8 end ++ (beBytes 8 (value 8 time) ++ (reply ∷ [])))
+  pub begin-bytes : (final : ℕ) (time : ℤ) (xid : ℕ)
+      → beginBytes final time xid ≡ 66 ∷ (beBytes 8 final ++ (beBytes 8 (value 8 time) ++ beBytes 4 xid))
+  pub commit-bytes : (flags position end : ℕ) (time : ℤ)
+      → commitBytes flags position end time ≡ 67 ∷ flags ∷ (beBytes 8 position ++ (beBytes 8 end ++ beBytes 8 (value 8 time)))
+  pub message-bytes : (flags position : ℕ) (prefix content : List ℕ)
+      → messageBytes flags position prefix content
+      ≡ 77 ∷ flags ∷ (beBytes 8 position ++ (prefix ++ (0 ∷ (beBytes 4 (length content) ++ content))))
   -- `cutOf`, with the tags of messages: what is framed is cut so, and what is cut so was framed
   pub framed-cut : Laid-is-cut
   pub cut-framed : Cut-is-laid
-  -- fields: the first byte is the highest; two's complement, and a number of 64 bits is read back from its value; the search for a zero byte
-  pub order : OrderLaws
-  pub sign : SignedLaws
-  pub time-back : (time : ℤ) → mag time < 2 ^ 63 → int 8 (value 8 time) ≡ time
-  pub search-byte : FindLawsOf
+  -- `frontOf`: what stands at the front is what the cut finds first
+  pub front-cut : Cut-by-front
   -- `copyDataOf`: what is sent is read, what is read was sent, and which refusal anything else gets
   pub xlog-sent : XLogData-is-read
   pub xlog-read : Read-is-XLogData

@@ -9,41 +9,35 @@ use Rattle.progress.specs.declared.ProgressCell.{ProgressCell}
 use Rattle.progress.specs.declared.Raised.{Raised}
 use Rattle.progress.specs.declared.Reported.{Reported}
 use Rattle.progress.specs.Progress.{raiseOf, lookedOf, reportedOf, carriedOf}
-use Rattle.words.specs.Cells.{raisedWords, lookedWords, reportedWords}
+use Rattle.words.specs.Cells.{cellStanding, cellWritten, raisedLeft, lookedLeft, reportedLeft}
 use Rattle.words.specs.Words.{flagWord, cellOf, cellWords}
 
 -- the words that a cell leaves, for an equal cell
-pub made : {c z : ProgressCell} {ws : List ℕ} → c ≡ z → (ws ≡ cellWords c) × (cellOf ws ≡ c) → (ws ≡ cellWords z) × (cellOf ws ≡ z)
-made e pw = (pw .0 ∙ ap cellWords e, pw .1 ∙ e)
+pub made : {c z : ProgressCell} {ws : List ℕ} → c ≡ z → (ws ≡ cellWords c) × (cellOf ws ≡ c) → cellStanding ws ≡ cellWritten z
+made e pw = rw (pw .1, pw .0, e)
 
 module _ {r z : ProgressCell} (pr : r ≡ z) where
   pub raised : (p : Lsn) (m : Moment) (x : Raised) {w : ℕ} {ws : List ℕ}
       → x ≡ raiseOf r p m
       → (ws ≡ cellWords (x .cell)) × (cellOf ws ≡ x .cell)
       → w ≡ flagWord (x .wake)
-      → ((w, ws) ≡ raisedWords (raiseOf z p m)) × (cellOf ws ≡ raiseOf z p m .cell)
-  raised p m x e pw pf =
-      let h : x ≡ raiseOf z p m = e ∙ ap (λ (y : ProgressCell). raiseOf y p m) pr in
-      (rw (← h, pw .0, pf), pw .1 ∙ ap (λ (y : Raised). y .cell) h)
+      → (w, cellStanding ws) ≡ raisedLeft (raiseOf z p m)
+  raised p m x e pw pf = let h : x ≡ raiseOf z p m = e ∙ ap (λ (y : ProgressCell). raiseOf y p m) pr in rw (← h, pw .1, pw .0, pf)
 
   pub looked : (x : Looked) {ws : List ℕ}
       → x ≡ lookedOf r
       → (ws ≡ cellWords (x .cell)) × (cellOf ws ≡ x .cell)
-      → ((x .applied .0, ws) ≡ lookedWords (lookedOf z)) × (cellOf ws ≡ lookedOf z .cell)
-  looked x e pw =
-      let h : x ≡ lookedOf z = e ∙ ap lookedOf pr in
-      (rw (← h, pw .0), pw .1 ∙ ap (λ (y : Looked). y .cell) h)
+      → (x .applied .0, cellStanding ws) ≡ lookedLeft (lookedOf z)
+  looked x e pw = let h : x ≡ lookedOf z = e ∙ ap lookedOf pr in rw (← h, pw .1, pw .0)
 
   pub reported : (p : Lsn) (m : Moment) (x : Reported) {ws : List ℕ}
       → x ≡ reportedOf r p m
       → (ws ≡ cellWords (x .cell)) × (cellOf ws ≡ x .cell)
-      → ((x .since .0, ws) ≡ reportedWords (reportedOf z p m)) × (cellOf ws ≡ reportedOf z p m .cell)
-  reported p m x e pw =
-      let h : x ≡ reportedOf z p m = e ∙ ap (λ (y : ProgressCell). reportedOf y p m) pr in
-      (rw (← h, pw .0), pw .1 ∙ ap (λ (y : Reported). y .cell) h)
+      → (x .since .0, cellStanding ws) ≡ reportedLeft (reportedOf z p m)
+  reported p m x e pw = let h : x ≡ reportedOf z p m = e ∙ ap (λ (y : ProgressCell). reportedOf y p m) pr in rw (← h, pw .1, pw .0)
 
   pub carried : (m : Moment) {x : ProgressCell} {ws : List ℕ}
       → x ≡ carriedOf r m
       → (ws ≡ cellWords x) × (cellOf ws ≡ x)
-      → (ws ≡ cellWords (carriedOf z m)) × (cellOf ws ≡ carriedOf z m)
+      → cellStanding ws ≡ cellWritten (carriedOf z m)
   carried m e pw = made (e ∙ ap (λ (y : ProgressCell). carriedOf y m) pr) pw

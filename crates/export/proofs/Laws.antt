@@ -1,18 +1,15 @@
 -- What an exported call leaves, of what the calls in it answered. Over variables, so that no rewriting meets the code.
-use mathlib.Core.Path.{_≡_, sym, ap, _∙_}
+use mathlib.Core.Path.{_≡_, ap, _∙_}
 use mathlib.Core.List.{List}
 use mathlib.Core.Option.{Option}
 use Prim.Native.Nat.{ℕ}
 use lib.ListN.{length}
-use borrow.Author.Tests.{ltb-true, ltb-false, ne-eqb}
+use borrow.Author.Tests.{ne-eqb}
 use denote.Ref.{RefT}
-use Rattle.wire.proofs.Laws.{by-test}
 use Rattle.error.specs.Writer.{outcome}
 use Rattle.lsn.specs.declared.Lsn.{Lsn}
 use Rattle.moment.specs.declared.Moment.{Moment}
-use Rattle.progress.specs.declared.files.Progress.{Progress}
-use Rattle.progress.specs.Files.{fileVerdict, noFile}
-use Rattle.progress.proofs.FileLaws.{refused-at, accepted-at}
+use Rattle.progress.specs.Files.{fileVerdict}
 use Rattle.schedule.specs.declared.NextStep.{NextStep}
 use Rattle.schedule.specs.NextStep.{nextBy, nextStepOf}
 use Rattle.worker.specs.declared.AlreadyOpen.{AlreadyOpen}
@@ -28,9 +25,9 @@ use Rattle.worker.specs.Answer.{verdictNumber, waitedOption, outcomeBy, openedB
 use Rattle.worker.specs.Events.{saidBy}
 use Rattle.worker.specs.Opening as O
 use Rattle.worker.specs.Opening.{openOf, alreadyOpenOf, reportOf}
-use Rattle.worker.specs.Run.{withProgress}
 use Rattle.worker.specs.Step.{Lent, Outcome}
-use Rattle.words.specs.Step.{clipped, answerWords, steppedWords, openedWords, alreadyOpenWords, reportWords}
+use Rattle.words.specs.Step.{clipped, answerWords}
+use Rattle.words.specs.Calls.{standing, stepLeft, openLeft, runLeft}
 use Rattle.words.specs.Words.{runOf, wordsOf}
 use Rattle.answers.specs.Next.{nextWords}
 use Rattle.answers.specs.Parts.{errorWords}
@@ -42,10 +39,10 @@ module _ {r z : Run} (pr : r ≡ z) where
       → outcomeBy s p o ≡ f r i l
       → (ws ≡ wordsOf (s .run)) × (runOf ws ≡ s .run)
       → answer ≡ answerWords (verdictNumber (s .verdict)) (s .taken) (s .written) (waitedOption (s .waited)) (clipped (length p) (saidBy (s .event)))
-      → ((ws, answer, p, o) ≡ steppedWords (f z j l)) × (runOf ws ≡ f z j l .run)
+      → (standing ws, answer, p, o) ≡ stepLeft (f z j l)
   made f {i} {j} l s {p} {o} pi e pw pa =
       let h : outcomeBy s p o ≡ f z j l = e ∙ ap (λ (x : Run). f x i l) pr ∙ ap (λ (x : Input). f z x l) pi in
-      (rw (← h, pw .0, pa), pw .1 ∙ ap (λ (x : Outcome). x .run) h)
+      rw (← h, pw .1, pw .0, pa)
 
   pub next : (n : ℕ) {q k : Queue} (x : NextStep) {ws : List ℕ}
       → q ≡ k
@@ -70,29 +67,21 @@ module _ (a : Opened) {n v : ℕ} {o : List ℕ} {y : O.Opened} (e : openedBy a 
   pub opened : (before : List ℕ) {ws : List ℕ}
       → n ≡ 0
       → (ws ≡ wordsOf (a .run)) × (runOf ws ≡ a .run)
-      → ((n, ws, v, o) ≡ openedWords before y) × (n ≡ 0 → runOf ws ≡ y .run)
-  opened before z pw = (rw (← e, ← p, z, pw .0), λ _. pw .1 ∙ ap (λ (x : O.Opened). x .run) e)
+      → (n, standing ws, v, o) ≡ openLeft before y
+  opened before z pw = rw (← e, ← p, z, pw .1, pw .0)
 
-  pub not-opened : {before : List ℕ} → (n ≡ 0 → ⊥) → ((n, before, v, o) ≡ openedWords before y) × (n ≡ 0 → runOf before ≡ y .run)
-  not-opened z = (rw (← e, ← p, ne-eqb _ _ z), λ h. absurd (z h))
+  pub not-opened : {before : List ℕ} → (n ≡ 0 → ⊥) → (n, standing before, v, o) ≡ openLeft before y
+  not-opened z = rw (← e, ← p, ne-eqb _ _ z)
 
 module _ (a : AlreadyOpen) {n : ℕ} {y : ℕ × Run} (e : alreadyOpenBy a ≡ y) (p : n ≡ verdictNumber (a .verdict)) where
   pub already : (before : List ℕ) {ws : List ℕ}
       → n ≡ 0
       → (ws ≡ wordsOf (a .run)) × (runOf ws ≡ a .run)
-      → ((n, ws) ≡ alreadyOpenWords before y) × (n ≡ 0 → runOf ws ≡ y .1)
-  already before z pw = (rw (← e, ← p, z, pw .0), λ _. pw .1 ∙ ap (λ (x : ℕ × Run). x .1) e)
+      → (n, standing ws) ≡ runLeft before y
+  already before z pw = rw (← e, ← p, z, pw .1, pw .0)
 
-  pub not-already : {before : List ℕ} → (n ≡ 0 → ⊥) → ((n, before) ≡ alreadyOpenWords before y) × (n ≡ 0 → runOf before ≡ y .1)
-  not-already z = (rw (← e, ← p, ne-eqb _ _ z), λ h. absurd (z h))
-
--- a report that is refused leaves the run
-kept : (r : Run) (file : ℕ) (p : Lsn) (m : Moment) → (reportOf r file p m .0 ≡ 0 → ⊥) → reportOf r file p m .1 ≡ r
-unfolding reportOf
-kept r file p m h =
-    by-test (noFile file)
-    (λ t. ap (λ (a : ℕ × Progress). withProgress (a .1) r) (refused-at (r .progress) file p m (ltb-true 3 file t)))
-    (λ t. absurd (h (accepted-at (r .progress) file p m (ltb-false 3 file t))))
+  pub not-already : {before : List ℕ} → (n ≡ 0 → ⊥) → (n, standing before) ≡ runLeft before y
+  not-already z = rw (← e, ← p, ne-eqb _ _ z)
 
 -- from what a report gives; refused, the run's words are as they were
 module _ (a : Reporting) {n : ℕ} {r z : Run} (file : ℕ) (p : Lsn) (m : Moment) (pr : r ≡ z) (e : reportingBy a ≡ reportOf r file p m)
@@ -103,15 +92,11 @@ module _ (a : Reporting) {n : ℕ} {r z : Run} (file : ℕ) (p : Lsn) (m : Momen
   pub reported : (before : List ℕ) {ws : List ℕ}
       → n ≡ 0
       → (ws ≡ wordsOf (a .run)) × (runOf ws ≡ a .run)
-      → ((n, ws) ≡ reportWords before (reportOf z file p m)) × (runOf ws ≡ reportOf z file p m .1)
-  reported before k pw = (rw (← same-report, ← v, k, pw .0), pw .1 ∙ ap (λ (x : ℕ × Run). x .1) same-report)
+      → (n, standing ws) ≡ runLeft before (reportOf z file p m)
+  reported before k pw = rw (← same-report, ← v, k, pw .1, pw .0)
 
-  pub not-reported : (before : List ℕ) → runOf before ≡ z → (n ≡ 0 → ⊥)
-      → ((n, before) ≡ reportWords before (reportOf z file p m)) × (runOf before ≡ reportOf z file p m .1)
-  not-reported before same k = (
-    rw (← same-report, ← v, ne-eqb _ _ k),
-    same ∙ sym (kept z file p m (λ q. k (v ∙ ap (λ (x : ℕ × Run). x .0) same-report ∙ q))),
-  )
+  pub not-reported : (before : List ℕ) → (n ≡ 0 → ⊥) → (n, standing before) ≡ runLeft before (reportOf z file p m)
+  not-reported before k = rw (← same-report, ← v, ne-eqb _ _ k)
 
 -- the settings of their words for the settings that a call was given
 module _ {s z : Settings} (ps : s ≡ z) where

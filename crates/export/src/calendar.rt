@@ -1,8 +1,6 @@
 // Opening hours. SCOPE 9.8.
 ghost use mathlib.Core.Path.{_≡_};
-ghost use Rattle.hours.specs.Answer.{hoursOf};
-ghost use Rattle.hours.specs.Calendar.{hours};
-ghost use Rattle.hours.specs.Words.{answerWords};
+ghost use Rattle.hours.specs.Words.{hoursCall};
 use hours::Hours;
 use hours::layout;
 use hours::words::reply_of;
@@ -17,7 +15,7 @@ pub extern "C" fn rufflesquash_hours(
     moment: i64,
     answer: &mut [u64; layout::HOURS_WORDS],
 ) -> u64
-    ensures { λ r. ⌜ (r, now (answer .exit)) ≡ answerWords (hoursOf (hours (now (opens .entry)) (now (closes .entry)) «offset») «moment») ⌝ }
+    ensures { λ r. ⌜ (r, now (answer .exit)) ≡ hoursCall (now (opens .entry)) (now (closes .entry)) «offset» «moment» ⌝ }
 {
     let asked = Hours {
         opens: *opens,

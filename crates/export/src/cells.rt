@@ -1,11 +1,8 @@
 // A progress cell for a host: four lent words. Any words are the words of some cell. SCOPE 9.3, 4.1.
-// `preserved`: the words at exit stand for the cell that the call leaves.
+// Beside the words at exit a contract has the cell that they stand for, so that calls over words are calls over cells.
 ghost use mathlib.Core.Path.{_≡_};
-ghost use mathlib.Core.Bool.{false};
-ghost use Rattle.progress.specs.Progress.{cell as cellBy, cellPosition, cellPending, noMoment, raiseOf, lookedOf, reportedOf, carriedOf};
-ghost use Rattle.worker.specs.Run.{lsn};
-ghost use Rattle.words.specs.Cells.{raisedWords, lookedWords, reportedWords};
-ghost use Rattle.words.specs.Words.{moment as momentOf, cellOf, cellWords};
+ghost use Rattle.words.specs.Cells.{cellStanding, cellNewCall, cellLoadCall, cellPendingSinceCall};
+ghost use Rattle.words.specs.Cells.{cellRaiseCall, cellTakeSignalCall, cellTakePendingCall, cellCarryPendingCall};
 use lsn::Lsn;
 use moment::Moment;
 use progress::ProgressCell;
@@ -21,8 +18,7 @@ pub extern "C" fn rufflesquash_cell_new(
     timed: bool,
     cell: &mut [u64; layout::CELL_WORDS],
 )
-    ensures { λ _. ⌜ now (cell .exit) ≡ cellWords (cellBy (lsn start) false noMoment timed) ⌝ }
-    ensures preserved { λ _. ⌜ cellOf (now (cell .exit)) ≡ cellBy (lsn start) false noMoment timed ⌝ }
+    ensures { λ _. ⌜ cellStanding (now (cell .exit)) ≡ cellNewCall start timed ⌝ }
 {
     let new = ProgressCell::new(Lsn(start), timed);
     *cell = cell_words(new);
@@ -31,7 +27,7 @@ pub extern "C" fn rufflesquash_cell_new(
 // The position.
 #[no_mangle]
 pub extern "C" fn rufflesquash_cell_load(cell: &[u64; layout::CELL_WORDS]) -> u64
-    ensures { λ r. ⌜ r ≡ cellPosition (cellOf (now (cell .entry))) .0 ⌝ }
+    ensures { λ r. ⌜ r ≡ cellLoadCall (now (cell .entry)) ⌝ }
 {
     let c = cell_of(*cell);
     c.load().0
@@ -40,7 +36,7 @@ pub extern "C" fn rufflesquash_cell_load(cell: &[u64; layout::CELL_WORDS]) -> u6
 // The pending moment, 0 for none.
 #[no_mangle]
 pub extern "C" fn rufflesquash_cell_pending_since(cell: &[u64; layout::CELL_WORDS]) -> u64
-    ensures { λ r. ⌜ r ≡ cellPending (cellOf (now (cell .entry))) .0 ⌝ }
+    ensures { λ r. ⌜ r ≡ cellPendingSinceCall (now (cell .entry)) ⌝ }
 {
     let c = cell_of(*cell);
     c.pending_since().0
@@ -53,8 +49,7 @@ pub extern "C" fn rufflesquash_cell_raise(
     position: u64,
     moment: u64,
 ) -> u64
-    ensures { λ r. ⌜ (r, now (cell .exit)) ≡ raisedWords (raiseOf (cellOf (now (cell .entry))) (lsn position) (momentOf moment)) ⌝ }
-    ensures preserved { λ _. ⌜ cellOf (now (cell .exit)) ≡ raiseOf (cellOf (now (cell .entry))) (lsn position) (momentOf moment) .cell ⌝ }
+    ensures { λ r. ⌜ (r, cellStanding (now (cell .exit))) ≡ cellRaiseCall (now (cell .entry)) position moment ⌝ }
 {
     let before = cell_of(*cell);
     let raised = before.raise(Lsn(position), Moment(moment));
@@ -66,8 +61,7 @@ pub extern "C" fn rufflesquash_cell_raise(
 // Clears the signal; the position.
 #[no_mangle]
 pub extern "C" fn rufflesquash_cell_take_signal(cell: &mut [u64; layout::CELL_WORDS]) -> u64
-    ensures { λ r. ⌜ (r, now (cell .exit)) ≡ lookedWords (lookedOf (cellOf (now (cell .entry)))) ⌝ }
-    ensures preserved { λ _. ⌜ cellOf (now (cell .exit)) ≡ lookedOf (cellOf (now (cell .entry))) .cell ⌝ }
+    ensures { λ r. ⌜ (r, cellStanding (now (cell .exit))) ≡ cellTakeSignalCall (now (cell .entry)) ⌝ }
 {
     let before = cell_of(*cell);
     let looked = before.take_signal();
@@ -83,8 +77,7 @@ pub extern "C" fn rufflesquash_cell_take_pending(
     sent: u64,
     loaded_at: u64,
 ) -> u64
-    ensures { λ r. ⌜ (r, now (cell .exit)) ≡ reportedWords (reportedOf (cellOf (now (cell .entry))) (lsn sent) (momentOf «loaded_at»)) ⌝ }
-    ensures preserved { λ _. ⌜ cellOf (now (cell .exit)) ≡ reportedOf (cellOf (now (cell .entry))) (lsn sent) (momentOf «loaded_at») .cell ⌝ }
+    ensures { λ r. ⌜ (r, cellStanding (now (cell .exit))) ≡ cellTakePendingCall (now (cell .entry)) sent «loaded_at» ⌝ }
 {
     let before = cell_of(*cell);
     let reported = before.take_pending(Lsn(sent), Moment(loaded_at));
@@ -96,8 +89,7 @@ pub extern "C" fn rufflesquash_cell_take_pending(
 // A pending moment from an earlier session: the older one counts.
 #[no_mangle]
 pub extern "C" fn rufflesquash_cell_carry_pending(cell: &mut [u64; layout::CELL_WORDS], since: u64)
-    ensures { λ _. ⌜ now (cell .exit) ≡ cellWords (carriedOf (cellOf (now (cell .entry))) (momentOf since)) ⌝ }
-    ensures preserved { λ _. ⌜ cellOf (now (cell .exit)) ≡ carriedOf (cellOf (now (cell .entry))) (momentOf since) ⌝ }
+    ensures { λ _. ⌜ cellStanding (now (cell .exit)) ≡ cellCarryPendingCall (now (cell .entry)) since ⌝ }
 {
     let before = cell_of(*cell);
     let after = before.carry_pending(Moment(since));

@@ -1,9 +1,6 @@
 // The messages that a host sends outside the stream. Refused, the output is as it was and nothing was written. SCOPE 9.4, 3.5, 3.6, 3.7.
 ghost use mathlib.Core.Path.{_≡_};
-ghost use lib.ListN.{length};
-ghost use Rattle.error.specs.Inputs.{total};
-ghost use Rattle.error.specs.Writer.{writing};
-ghost use Rattle.frontend.specs.Frontend.{query, copyDone, terminate, statusUpdate, startup};
+ghost use Rattle.answers.specs.Texts.{startupCall, queryCall, copyDoneCall, terminateCall, statusCall};
 use answers::reply::written_reply;
 use lsn::Lsn;
 
@@ -15,7 +12,7 @@ pub extern "C" fn rufflesquash_write_startup(
     out: &mut [u8],
     written: &mut u64,
 ) -> u64
-    ensures { λ r. ⌜ ((r, now (written .exit)), now (out .exit)) ≡ writing (total (now (texts .entry))) (startup version (now (texts .entry))) (now (out .entry)) ⌝ }
+    ensures { λ r. ⌜ ((r, now (written .exit)), now (out .exit)) ≡ startupCall version (now (texts .entry)) (now (out .entry)) ⌝ }
 {
     let reply = written_reply(frontend::write_startup(version, texts, out));
     *written = reply.value;
@@ -24,7 +21,7 @@ pub extern "C" fn rufflesquash_write_startup(
 
 #[no_mangle]
 pub extern "C" fn rufflesquash_write_query(text: &[u8], out: &mut [u8], written: &mut u64) -> u64
-    ensures { λ r. ⌜ ((r, now (written .exit)), now (out .exit)) ≡ writing (length (now (text .entry))) (query (now (text .entry))) (now (out .entry)) ⌝ }
+    ensures { λ r. ⌜ ((r, now (written .exit)), now (out .exit)) ≡ queryCall (now (text .entry)) (now (out .entry)) ⌝ }
 {
     let reply = written_reply(frontend::write_query(text, out));
     *written = reply.value;
@@ -33,7 +30,7 @@ pub extern "C" fn rufflesquash_write_query(text: &[u8], out: &mut [u8], written:
 
 #[no_mangle]
 pub extern "C" fn rufflesquash_write_copy_done(out: &mut [u8], written: &mut u64) -> u64
-    ensures { λ r. ⌜ ((r, now (written .exit)), now (out .exit)) ≡ writing 0 copyDone (now (out .entry)) ⌝ }
+    ensures { λ r. ⌜ ((r, now (written .exit)), now (out .exit)) ≡ copyDoneCall (now (out .entry)) ⌝ }
 {
     let reply = written_reply(frontend::write_copy_done(out));
     *written = reply.value;
@@ -42,7 +39,7 @@ pub extern "C" fn rufflesquash_write_copy_done(out: &mut [u8], written: &mut u64
 
 #[no_mangle]
 pub extern "C" fn rufflesquash_write_terminate(out: &mut [u8], written: &mut u64) -> u64
-    ensures { λ r. ⌜ ((r, now (written .exit)), now (out .exit)) ≡ writing 0 terminate (now (out .entry)) ⌝ }
+    ensures { λ r. ⌜ ((r, now (written .exit)), now (out .exit)) ≡ terminateCall (now (out .entry)) ⌝ }
 {
     let reply = written_reply(frontend::write_terminate(out));
     *written = reply.value;
@@ -58,7 +55,7 @@ pub extern "C" fn rufflesquash_write_status(
     out: &mut [u8],
     written: &mut u64,
 ) -> u64
-    ensures { λ r. ⌜ ((r, now (written .exit)), now (out .exit)) ≡ writing 0 (statusUpdate position «client_time» reply) (now (out .entry)) ⌝ }
+    ensures { λ r. ⌜ ((r, now (written .exit)), now (out .exit)) ≡ statusCall position «client_time» reply (now (out .entry)) ⌝ }
 {
     let answer = written_reply(frontend::write_status_update(
         Lsn(position),

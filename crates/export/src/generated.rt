@@ -1,7 +1,6 @@
 // A bench load. SCOPE 9.9.
 ghost use mathlib.Core.Path.{_≡_};
-ghost use Rattle.load.specs.Load.{madeOf, loading};
-ghost use Rattle.load.specs.Words.{madeWords};
+ghost use Rattle.load.specs.Words.{loadCall, loadEventCall};
 use load::layout;
 use load::words::event_words;
 use load::words::reply_of;
@@ -14,7 +13,7 @@ pub extern "C" fn rufflesquash_load(
     out: &mut [u8],
     written: &mut u64,
 ) -> u64
-    ensures { λ r. ⌜ ((r, now (written .exit)), now (out .exit)) ≡ loading seed messages (now (out .entry)) ⌝ }
+    ensures { λ r. ⌜ ((r, now (written .exit)), now (out .exit)) ≡ loadCall seed messages (now (out .entry)) ⌝ }
 {
     let reply = reply_of(load::write_load(seed, messages, out));
     *written = reply.written;
@@ -24,7 +23,7 @@ pub extern "C" fn rufflesquash_load(
 // The event of the message that is drawn from a state, of which the first is the seed. Answers the next state.
 #[no_mangle]
 pub extern "C" fn rufflesquash_load_event(state: u64, event: &mut [u64; layout::LOAD_WORDS]) -> u64
-    ensures { λ r. ⌜ (r, now (event .exit)) ≡ madeWords (madeOf state) ⌝ }
+    ensures { λ r. ⌜ (r, now (event .exit)) ≡ loadEventCall state ⌝ }
 {
     let made = load::message_from(state);
     let message = made.message;

@@ -1,6 +1,6 @@
 // Functions for a host in Rust or C: a run is 64 lent words, bytes are lent slices. No words are refused: any are the words of some run.
 // SCOPE 9. Each function converts words, calls one function of a crate below, and converts what that answers.
-// `preserved`: the words at exit stand for the run that the call leaves, so calls over words are calls over runs.
+// Beside a run's words at exit a contract has the run that they stand for, so that calls over words are calls over runs.
 mod abi;
 mod calendar;
 mod cells;
@@ -12,28 +12,15 @@ mod server;
 mod touched_files;
 
 ghost use mathlib.Core.Path.{_≡_};
-ghost use lib.ListN.{length};
-ghost use Rattle.error.specs.Writer.{writing};
-ghost use Rattle.lossy.specs.Lossy.{lossyOf};
-ghost use Rattle.lossy.specs.Marks.{marksOf, withMarks};
-ghost use Rattle.lossy.specs.Stretch.{stretchOf};
-ghost use Rattle.lsn.specs.Position.{displayOf, positionOf};
-ghost use Rattle.messages.specs.ErrorText.{errorText, errorMarks};
-ghost use Rattle.messages.specs.Fields.{fieldsOf};
-ghost use Rattle.page.specs.Page.{pageOf};
-ghost use Rattle.progress.specs.Progress.{cellPosition};
-ghost use Rattle.run_page.specs.RunPage.{shownBy};
-ghost use Rattle.schedule.specs.NextStep.{nextStepOf};
+ghost use Rattle.run_page.specs.RunPage.{pageCall};
 ghost use Rattle.advance.specs.Advance.{advanceOf};
-ghost use Rattle.worker.specs.Answer.{errorPartOf, lent};
-ghost use Rattle.worker.specs.Opening.{alreadyOpenOf, openOf, reportOf};
-ghost use Rattle.worker.specs.Run.{stateNumber, lsn, cellIn};
+ghost use Rattle.worker.specs.Answer.{lent};
 ghost use Rattle.worker.specs.Step.{stepOf};
-ghost use Rattle.words.specs.Step.{queueOf, inputOf, steppedWords, openedWords, alreadyOpenWords, reportWords};
-ghost use Rattle.words.specs.Words.{moment as momentOf, settingsOf, metricsWords, lastStatusWords, runOf};
-ghost use Rattle.answers.specs.Next.{nextWords};
-ghost use Rattle.answers.specs.Parts.{errorWords};
-ghost use Rattle.export.specs.Abi.{abi};
+ghost use Rattle.words.specs.Calls.{standing, stepCall, openCall, alreadyOpenCall, reportCall, stateCall, metricsCall, positionCall, lastSentCall};
+ghost use Rattle.answers.specs.Next.{nextStepCall};
+ghost use Rattle.answers.specs.Parts.{errorPartCall};
+ghost use Rattle.export.specs.Abi.{abiCall};
+ghost use Rattle.answers.specs.Texts.{lossyCall, wellFormedPrefixCall, errorTextCall, parsePositionCall, displayPositionCall};
 use answers::next::next_words;
 use answers::part::error_words;
 use answers::reply::lossy_reply;
@@ -70,8 +57,7 @@ pub extern "C" fn rufflesquash_open(
     out: &mut [u8],
     written: &mut u64,
 ) -> u64
-    ensures { λ r. ⌜ (r, now (run .exit), now (written .exit), now (out .exit)) ≡ openedWords (now (run .entry)) (openOf (settingsOf (now (settings .entry))) (now (slot .entry)) (now (publications .entry)) (lsn position) (lsn start) (now (out .entry))) ⌝ }
-    ensures preserved { λ r. ⌜ (r ≡ 0 → runOf (now (run .exit)) ≡ openOf (settingsOf (now (settings .entry))) (now (slot .entry)) (now (publications .entry)) (lsn position) (lsn start) (now (out .entry)) .run) ⌝ }
+    ensures { λ r. ⌜ (r, standing (now (run .exit)), now (written .exit), now (out .exit)) ≡ openCall (now (run .entry)) (now (settings .entry)) (now (slot .entry)) (now (publications .entry)) position start (now (out .entry)) ⌝ }
 {
     let s = settings_of(*settings);
     let o = worker::session::open(s, slot, publications, Lsn(position), Lsn(start), out);
@@ -92,8 +78,7 @@ pub extern "C" fn rufflesquash_already_open(
     start: u64,
     run: &mut [u64; layout::RUN_WORDS],
 ) -> u64
-    ensures { λ r. ⌜ (r, now (run .exit)) ≡ alreadyOpenWords (now (run .entry)) (alreadyOpenOf (settingsOf (now (settings .entry))) (lsn start)) ⌝ }
-    ensures preserved { λ r. ⌜ (r ≡ 0 → runOf (now (run .exit)) ≡ alreadyOpenOf (settingsOf (now (settings .entry))) (lsn start) .1) ⌝ }
+    ensures { λ r. ⌜ (r, standing (now (run .exit))) ≡ alreadyOpenCall (now (run .entry)) (now (settings .entry)) start ⌝ }
 {
     let s = settings_of(*settings);
     let o = worker::session::already_open(s, Lsn(start));
@@ -109,7 +94,7 @@ pub extern "C" fn rufflesquash_already_open(
 // The number of the list of words and of these functions.
 #[no_mangle]
 pub extern "C" fn rufflesquash_abi() -> u64
-    ensures { λ r. ⌜ r ≡ abi ⌝ }
+    ensures { λ r. ⌜ r ≡ abiCall ⌝ }
 {
     abi::ABI
 }
@@ -129,8 +114,7 @@ pub extern "C" fn rufflesquash_step(
     out: &mut [u8],
     answer: &mut [u64; layout::ANSWER_WORDS],
 )
-    ensures { λ _. ⌜ (now (run .exit), now (answer .exit), now (payload .exit), now (out .exit)) ≡ steppedWords (stepOf (runOf (now (run .entry))) (inputOf moment «client_time» stop queue ended) (lent (now (unread .entry)) (now (payload .entry)) (now (out .entry)))) ⌝ }
-    ensures preserved { λ _. ⌜ runOf (now (run .exit)) ≡ stepOf (runOf (now (run .entry))) (inputOf moment «client_time» stop queue ended) (lent (now (unread .entry)) (now (payload .entry)) (now (out .entry))) .run ⌝ }
+    ensures { λ _. ⌜ (standing (now (run .exit)), now (answer .exit), now (payload .exit), now (out .exit)) ≡ stepCall stepOf (now (run .entry)) moment «client_time» stop queue ended (lent (now (unread .entry)) (now (payload .entry)) (now (out .entry))) ⌝ }
 {
     let before = run_of(*run);
     let input = input_of(moment, client_time, stop, queue, ended);
@@ -155,8 +139,7 @@ pub extern "C" fn rufflesquash_advance(
     out: &mut [u8],
     answer: &mut [u64; layout::ANSWER_WORDS],
 )
-    ensures { λ _. ⌜ (now (run .exit), now (answer .exit), now (payload .exit), now (out .exit)) ≡ steppedWords (advanceOf (runOf (now (run .entry))) (inputOf moment «client_time» stop queue ended) (lent (now (unread .entry)) (now (payload .entry)) (now (out .entry)))) ⌝ }
-    ensures preserved { λ _. ⌜ runOf (now (run .exit)) ≡ advanceOf (runOf (now (run .entry))) (inputOf moment «client_time» stop queue ended) (lent (now (unread .entry)) (now (payload .entry)) (now (out .entry))) .run ⌝ }
+    ensures { λ _. ⌜ (standing (now (run .exit)), now (answer .exit), now (payload .exit), now (out .exit)) ≡ stepCall advanceOf (now (run .entry)) moment «client_time» stop queue ended (lent (now (unread .entry)) (now (payload .entry)) (now (out .entry))) ⌝ }
 {
     let before = run_of(*run);
     let input = input_of(moment, client_time, stop, queue, ended);
@@ -174,8 +157,7 @@ pub extern "C" fn rufflesquash_report(
     position: u64,
     moment: u64,
 ) -> u64
-    ensures { λ r. ⌜ (r, now (run .exit)) ≡ reportWords (now (run .entry)) (reportOf (runOf (now (run .entry))) file (lsn position) (momentOf moment)) ⌝ }
-    ensures preserved { λ _. ⌜ runOf (now (run .exit)) ≡ reportOf (runOf (now (run .entry))) file (lsn position) (momentOf moment) .1 ⌝ }
+    ensures { λ r. ⌜ (r, standing (now (run .exit))) ≡ reportCall (now (run .entry)) file position moment ⌝ }
 {
     let before = run_of(*run);
     let a = worker::session::report(before, file, Lsn(position), Moment(moment));
@@ -197,7 +179,7 @@ pub extern "C" fn rufflesquash_next_step(
     queue: u64,
     next: &mut [u64; layout::NEXT_WORDS],
 )
-    ensures { λ _. ⌜ now (next .exit) ≡ nextWords (nextStepOf (runOf (now (run .entry))) «payload_len» (queueOf queue)) ⌝ }
+    ensures { λ _. ⌜ now (next .exit) ≡ nextStepCall (now (run .entry)) «payload_len» queue ⌝ }
 {
     let r = run_of(*run);
     let q = queue_of(queue);
@@ -207,7 +189,7 @@ pub extern "C" fn rufflesquash_next_step(
 // 0 Opening, 1 Turn, 2 Drain, 3 Reading, 4 Waiting, 5 Handling, 6 Offering, 7 Ended.
 #[no_mangle]
 pub extern "C" fn rufflesquash_state(run: &[u64; layout::RUN_WORDS]) -> u64
-    ensures { λ r. ⌜ r ≡ stateNumber (runOf (now (run .entry)) .state) ⌝ }
+    ensures { λ r. ⌜ r ≡ stateCall (now (run .entry)) ⌝ }
 {
     let w = *run;
     state_word(state_of(w[layout::RUN_STATE]))
@@ -219,7 +201,7 @@ pub extern "C" fn rufflesquash_metrics(
     run: &[u64; layout::RUN_WORDS],
     counters: &mut [u64; layout::METRICS_WORDS],
 )
-    ensures { λ _. ⌜ now (counters .exit) ≡ metricsWords (runOf (now (run .entry)) .metrics) ⌝ }
+    ensures { λ _. ⌜ now (counters .exit) ≡ metricsCall (now (run .entry)) ⌝ }
 {
     let m = metrics_of(*run);
     *counters = metrics_words(m);
@@ -228,7 +210,7 @@ pub extern "C" fn rufflesquash_metrics(
 // What a status would confirm now.
 #[no_mangle]
 pub extern "C" fn rufflesquash_position(run: &[u64; layout::RUN_WORDS]) -> u64
-    ensures { λ r. ⌜ r ≡ cellPosition (cellIn (runOf (now (run .entry)))) .0 ⌝ }
+    ensures { λ r. ⌜ r ≡ positionCall (now (run .entry)) ⌝ }
 {
     let progress = progress_of(*run);
     let position = progress.position();
@@ -241,7 +223,7 @@ pub extern "C" fn rufflesquash_last_sent(
     run: &[u64; layout::RUN_WORDS],
     status: &mut [u64; layout::STATUS_WORDS],
 )
-    ensures { λ _. ⌜ now (status .exit) ≡ lastStatusWords (runOf (now (run .entry)) .status) ⌝ }
+    ensures { λ _. ⌜ now (status .exit) ≡ lastSentCall (now (run .entry)) ⌝ }
 {
     let s = last_status_of(*run);
     *status = last_status_words(s);
@@ -254,7 +236,7 @@ pub extern "C" fn rufflesquash_error_part(
     payload_len: usize,
     part: &mut [u64; layout::ERROR_WORDS],
 )
-    ensures { λ _. ⌜ now (part .exit) ≡ errorWords (errorPartOf (runOf (now (run .entry)))) «payload_len» ⌝ }
+    ensures { λ _. ⌜ now (part .exit) ≡ errorPartCall (now (run .entry)) «payload_len» ⌝ }
 {
     let r = run_of(*run);
     let error = worker::session::error_part(r);
@@ -269,7 +251,7 @@ pub extern "C" fn rufflesquash_lossy(
     written: &mut u64,
     marks: &mut u64,
 ) -> u64
-    ensures { λ r. ⌜ ((r, now (written .exit), now (marks .exit)), now (out .exit)) ≡ withMarks (marksOf (now (text .entry))) (writing (length (now (text .entry))) (lossyOf (now (text .entry))) (now (out .entry))) ⌝ }
+    ensures { λ r. ⌜ ((r, now (written .exit), now (marks .exit)), now (out .exit)) ≡ lossyCall (now (text .entry)) (now (out .entry)) ⌝ }
 {
     let reply = lossy_reply(lossy::write_lossy(text, out));
     *written = reply.written;
@@ -280,7 +262,7 @@ pub extern "C" fn rufflesquash_lossy(
 // How far a text of any length is well-formed.
 #[no_mangle]
 pub extern "C" fn rufflesquash_well_formed_prefix(text: &[u8]) -> u64
-    ensures { λ r. ⌜ r ≡ stretchOf (now (text .entry)) ⌝ }
+    ensures { λ r. ⌜ r ≡ wellFormedPrefixCall (now (text .entry)) ⌝ }
 {
     lossy::well_formed_prefix(text) as u64
 }
@@ -293,7 +275,7 @@ pub extern "C" fn rufflesquash_error_text(
     written: &mut u64,
     marks: &mut u64,
 ) -> u64
-    ensures { λ r. ⌜ ((r, now (written .exit), now (marks .exit)), now (out .exit)) ≡ withMarks (errorMarks (fieldsOf (now (payload .entry))) (now (payload .entry))) (writing (length (now (payload .entry))) (errorText (fieldsOf (now (payload .entry))) (now (payload .entry))) (now (out .entry))) ⌝ }
+    ensures { λ r. ⌜ ((r, now (written .exit), now (marks .exit)), now (out .exit)) ≡ errorTextCall (now (payload .entry)) (now (out .entry)) ⌝ }
 {
     let reply = lossy_reply(messages::parse_error_response(payload, out));
     *written = reply.written;
@@ -304,7 +286,7 @@ pub extern "C" fn rufflesquash_error_text(
 // The position that a text names, 0 where it is refused.
 #[no_mangle]
 pub extern "C" fn rufflesquash_parse_position(text: &[u8], position: &mut u64) -> u64
-    ensures { λ r. ⌜ (r, now (position .exit)) ≡ positionOf (now (text .entry)) ⌝ }
+    ensures { λ r. ⌜ (r, now (position .exit)) ≡ parsePositionCall (now (text .entry)) ⌝ }
 {
     let reply = parsed_reply(Lsn::parse(text));
     *position = reply.value;
@@ -318,7 +300,7 @@ pub extern "C" fn rufflesquash_page(
     out: &mut [u8],
     written: &mut u64,
 ) -> u64
-    ensures { λ r. ⌜ ((r, now (written .exit)), now (out .exit)) ≡ writing 0 (pageOf (shownBy (runOf (now (run .entry))))) (now (out .entry)) ⌝ }
+    ensures { λ r. ⌜ ((r, now (written .exit)), now (out .exit)) ≡ pageCall (now (run .entry)) (now (out .entry)) ⌝ }
 {
     let shown = run_of(*run);
     let reply = written_reply(run_page::write(shown, out));
@@ -333,7 +315,7 @@ pub extern "C" fn rufflesquash_display_position(
     out: &mut [u8],
     written: &mut u64,
 ) -> u64
-    ensures { λ r. ⌜ ((r, now (written .exit)), now (out .exit)) ≡ writing 0 (displayOf position) (now (out .entry)) ⌝ }
+    ensures { λ r. ⌜ ((r, now (written .exit)), now (out .exit)) ≡ displayPositionCall position (now (out .entry)) ⌝ }
 {
     let reply = written_reply(Lsn(position).display(out));
     *written = reply.value;

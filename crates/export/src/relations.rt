@@ -1,10 +1,8 @@
 // A relation cache for a host: what the Relation messages of a stream said of their columns, and rows matched with it. The memory is lent, in fixed
 // arrays, and any content of it is some cache. SCOPE 9.10, 17. Refused, the memory is as it was and all words are 0.
 ghost use mathlib.Core.Path.{_≡_};
-ghost use mathlib.Core.List.{[]};
-ghost use Rattle.relation_cache.specs.Memory.{countHeld};
-ghost use Rattle.packed_cache.specs.Packed.{packed, wordsOf, emptied, columnTold};
-ghost use Rattle.relation_words.specs.Words.{messageCall, countReply, columnWords};
+ghost use Rattle.packed_cache.specs.Packed.{packed, wordsOf};
+ghost use Rattle.relation_words.specs.Words.{clearCall, messageCall, countCall, columnCall};
 use relation_words::answer_reply;
 use relation_words::column_words;
 use relation_words::count_reply;
@@ -19,7 +17,7 @@ pub extern "C" fn rufflesquash_cache_clear(
     words: &mut [u64; layout::CACHE_COLUMNS],
     names: &mut [u8; layout::CACHE_NAMES],
 )
-    ensures { λ _. ⌜ packed (now (held .exit)) (now (ids .exit)) (now (counts .exit)) (wordsOf (now (words .exit)) (now (names .exit))) ≡ emptied ⌝ }
+    ensures { λ _. ⌜ packed (now (held .exit)) (now (ids .exit)) (now (counts .exit)) (wordsOf (now (words .exit)) (now (names .exit))) ≡ clearCall ⌝ }
 {
     packed_cache::clear(held, ids, counts, words, names)
 }
@@ -53,7 +51,7 @@ pub extern "C" fn rufflesquash_cache_count(
     id: u32,
     columns: &mut u64,
 ) -> u64
-    ensures { λ r. ⌜ (r, now (columns .exit)) ≡ countReply (countHeld held (now (ids .entry)) (now (counts .entry)) id) ⌝ }
+    ensures { λ r. ⌜ (r, now (columns .exit)) ≡ countCall held (now (ids .entry)) (now (counts .entry)) id ⌝ }
 {
     let reply = count_reply(packed_cache::columns_held(held, ids, counts, id));
     *columns = reply.columns;
@@ -72,7 +70,7 @@ pub extern "C" fn rufflesquash_cache_column(
     index: usize,
     column: &mut [u64; layout::CACHE_COLUMN_WORDS],
 )
-    ensures { λ _. ⌜ now (column .exit) ≡ columnWords (columnTold (packed held (now (ids .entry)) (now (counts .entry)) (wordsOf (now (words .entry)) [])) id index) ⌝ }
+    ensures { λ _. ⌜ now (column .exit) ≡ columnCall held (now (ids .entry)) (now (counts .entry)) (now (words .entry)) id index ⌝ }
 {
     let told = packed_cache::held_column(held, ids, counts, words, id, index);
     *column = column_words(told);

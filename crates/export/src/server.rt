@@ -1,16 +1,10 @@
 // What a host reads of the server outside the stream: messages, authentication requests, the answers to a simple query, errors; and kinds of
-// refusals. SCOPE 9.4. `preserved`: the words at exit stand for the reader or the query that the call leaves.
+// refusals. SCOPE 9.4. Beside the words at exit a contract has the reader or the query that they stand for.
 ghost use mathlib.Core.Path.{_≡_};
-ghost use Rattle.framing.specs.Read.{readOf};
-ghost use Rattle.messages.specs.Auth.{authOf};
-ghost use Rattle.messages.specs.Fields.{fieldsOf, indexed};
-ghost use Rattle.query.specs.Fold.{messageOf};
-ghost use Rattle.query.specs.Row.{columnsOf, countOf, columnOf};
-ghost use Rattle.words.specs.Words.{readerOf};
-ghost use Rattle.answers.specs.Fold.{simpleQueryOf, foldedWords};
+ghost use Rattle.answers.specs.Fold.{queryStanding, queryMessageCall};
 ghost use Rattle.answers.specs.Kinds.{kindBy, transientAt};
-ghost use Rattle.answers.specs.Parts.{authWords, columnReply, fieldWords};
-ghost use Rattle.answers.specs.Read.{resultWords};
+ghost use Rattle.answers.specs.Parts.{authRequestCall, dataRowCall, dataColumnCall, errorFieldCall};
+ghost use Rattle.answers.specs.Read.{readerStanding, readCall};
 use answers::fold::fold_words;
 use answers::fold::query_of;
 use answers::fold::query_words;
@@ -36,8 +30,7 @@ pub extern "C" fn rufflesquash_read(
     payload: &mut [u8],
     answer: &mut [u64; layout::READ_WORDS],
 )
-    ensures { λ _. ⌜ (now (reader .exit), now (answer .exit), now (payload .exit)) ≡ resultWords (readOf «max_message_size» (readerOf (now (reader .entry))) (now (unread .entry)) ended (now (payload .entry))) ⌝ }
-    ensures preserved { λ _. ⌜ readerOf (now (reader .exit)) ≡ readOf «max_message_size» (readerOf (now (reader .entry))) (now (unread .entry)) ended (now (payload .entry)) .1 ⌝ }
+    ensures { λ _. ⌜ (readerStanding (now (reader .exit)), now (answer .exit), now (payload .exit)) ≡ readCall (now (reader .entry)) «max_message_size» (now (unread .entry)) ended (now (payload .entry)) ⌝ }
 {
     let before = reader_of(*reader);
     let step = before.read(max_message_size, unread, ended, payload);
@@ -56,8 +49,7 @@ pub extern "C" fn rufflesquash_query_message(
     error: &mut [u8],
     answer: &mut [u64; layout::FOLD_WORDS],
 )
-    ensures { λ _. ⌜ (now (query .exit), now (answer .exit), now (error .exit)) ≡ foldedWords (messageOf (simpleQueryOf (now (query .entry))) tag (now (payload .entry)) (now (error .entry))) ⌝ }
-    ensures preserved { λ _. ⌜ simpleQueryOf (now (query .exit)) ≡ messageOf (simpleQueryOf (now (query .entry))) tag (now (payload .entry)) (now (error .entry)) .0 ⌝ }
+    ensures { λ _. ⌜ (queryStanding (now (query .exit)), now (answer .exit), now (error .exit)) ≡ queryMessageCall (now (query .entry)) tag (now (payload .entry)) (now (error .entry)) ⌝ }
 {
     let before = query_of(*query);
     let step = before.message(tag, payload, error);
@@ -70,7 +62,7 @@ pub extern "C" fn rufflesquash_query_message(
 // How many columns a DataRow has, 0 where it is refused.
 #[no_mangle]
 pub extern "C" fn rufflesquash_data_row(payload: &[u8], columns: &mut u64) -> u64
-    ensures { λ r. ⌜ (r, now (columns .exit)) ≡ countOf (columnsOf (now (payload .entry))) ⌝ }
+    ensures { λ r. ⌜ (r, now (columns .exit)) ≡ dataRowCall (now (payload .entry)) ⌝ }
 {
     let reply = row_reply(query::row::parse_data_row(payload));
     *columns = reply.value;
@@ -84,7 +76,7 @@ pub extern "C" fn rufflesquash_column(
     index: usize,
     column: &mut [u64; layout::COLUMN_WORDS],
 ) -> u64
-    ensures { λ r. ⌜ (r, now (column .exit)) ≡ columnReply (columnOf (columnsOf (now (payload .entry))) index) ⌝ }
+    ensures { λ r. ⌜ (r, now (column .exit)) ≡ dataColumnCall (now (payload .entry)) index ⌝ }
 {
     let reply = column_reply(query::row::column(payload, index));
     let words = reply.words;
@@ -95,7 +87,7 @@ pub extern "C" fn rufflesquash_column(
 // An authentication request. The answer: the refusal's number, the code in two's complement, where the rest begins and its length.
 #[no_mangle]
 pub extern "C" fn rufflesquash_auth_request(payload: &[u8], answer: &mut [u64; layout::AUTH_WORDS])
-    ensures { λ _. ⌜ now (answer .exit) ≡ authWords (authOf (now (payload .entry))) ⌝ }
+    ensures { λ _. ⌜ now (answer .exit) ≡ authRequestCall (now (payload .entry)) ⌝ }
 {
     let request = messages::parse_auth_request(payload);
     *answer = auth_words(request);
@@ -108,7 +100,7 @@ pub extern "C" fn rufflesquash_error_field(
     field: usize,
     part: &mut [u64; layout::FIELD_WORDS],
 )
-    ensures { λ _. ⌜ now (part .exit) ≡ fieldWords (indexed (fieldsOf (now (payload .entry))) field) ⌝ }
+    ensures { λ _. ⌜ now (part .exit) ≡ errorFieldCall (now (payload .entry)) field ⌝ }
 {
     let fields = ErrorFields::parse(payload);
     let one = fields.field(field);

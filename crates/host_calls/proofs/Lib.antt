@@ -1,2 +1,7 @@
 pub mod Mixed
-pub mod Exported
+pub mod Reader
+pub mod NextStep
+pub mod Steps
+pub mod Words
+pub mod Told
+pub mod Shared

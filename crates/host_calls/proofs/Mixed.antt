@@ -24,16 +24,16 @@ use Rattle.host_calls.specs.Mixed.{Call, step, advance, report, mixAll, 
 
 -- ---- lists
 
-joined-append : (a b : List (List ℕ)) → joined (a ++ b) ≡ joined a ++ joined b
+pub joined-append : (a b : List (List ℕ)) → joined (a ++ b) ≡ joined a ++ joined b
 unfolding joined
 joined-append [] b = refl
 joined-append (s ∷ a) b = ap (λ (x : List ℕ). s ++ x) (joined-append a b) ∙ sym (append-assoc s (joined a) (joined b))
 
-joined-one : (a : List (List ℕ)) (s : List ℕ) → joined (a ++ (s ∷ [])) ≡ joined a ++ s
+pub joined-one : (a : List (List ℕ)) (s : List ℕ) → joined (a ++ (s ∷ [])) ≡ joined a ++ s
 unfolding joined
 joined-one a s = joined-append a (s ∷ []) ∙ ap (λ (x : List ℕ). joined a ++ x) (append-nil s)
 
-play-append : (bytes : List ℕ) (z : Played) (cs ds : List C.Call) → playAll bytes z (cs ++ ds) ≡ playAll bytes (playAll bytes z cs) ds
+pub play-append : (bytes : List ℕ) (z : Played) (cs ds : List C.Call) → playAll bytes z (cs ++ ds) ≡ playAll bytes (playAll bytes z cs) ds
 unfolding playAll
 play-append bytes z [] ds = refl
 play-append bytes z (c ∷ cs) ds = play-append bytes (playOne bytes z c) cs ds
@@ -81,7 +81,7 @@ quiet-step z i o p q =
     }
 
 -- the next step of the list is lent what the next step of an advance is
-next-lent : (bytes : List ℕ) (z : Played) (i : Input) (n : ℕ) (out : List ℕ) (o : Outcome)
+pub next-lent : (bytes : List ℕ) (z : Played) (i : Input) (n : ℕ) (out : List ℕ) (o : Outcome)
     → lentAfter (lentTo bytes z n out) o ≡ lentTo bytes (stepped z i o) (n - o .taken) (o .out)
 next-lent bytes z i n out o =
     ap (λ (u : List ℕ). lent u (o .payload) (o .out))
@@ -91,7 +91,7 @@ same-at : {x y z : Played} → y ≡ z → Same x y → Same x z
 same-at {x} e a = subst (λ (w : Played). Same x w) e a
 
 -- steps that are made together leave what they leave as calls of the list
-together : (bytes : List ℕ) (z : Played) (n : ℕ) (out : List ℕ) {k : ℕ} {r : Run} {i : Input} {l : Lent} {o : Outcome} (s : Several k r i l o)
+pub together : (bytes : List ℕ) (z : Played) (n : ℕ) (out : List ℕ) {k : ℕ} {r : Run} {i : Input} {l : Lent} {o : Outcome} (s : Several k r i l o)
     → r ≡ z .run → l ≡ lentTo bytes z n out → Same (stepped z i o) (playAll bytes z (stepsOf s n out))
 unfolding stepsOf playAll
 together bytes z n out {r = r} {i = i} {l = l} one er el =

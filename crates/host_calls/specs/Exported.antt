@@ -1,135 +1,110 @@
 -- Lists of exported calls, which is what a host in Rust or C makes: a run is words, and so is an answer. The host lends each call the words and the
--- payload buffer as the last call left them, and the server's bytes after those that the answers say were taken. After any such list from an opening
--- that was not refused, the words stand for the run of the same list of steps, advances and reports. So condition 3 is about these calls.
--- Calls that only look at a run (its state, metrics, next step, ..) are lent the words to read, so they may stand anywhere between.
--- SCOPE 8.8, 9.2.
+-- payload buffer as the last call left them, and the server's bytes after those that the answers say were taken. Each call is what its contract in
+-- `export` says, by the same definition. SCOPE 8.8, 9.2.
 use mathlib.Core.Path.{_≡_}
-use mathlib.Core.Bool.{Bool}
 use mathlib.Core.List.{List, [], _∷_, _++_}
 use Prim.Native.Nat.{ℕ, _+_}
 use denote.Ref.{RefT}
-use lib.ListN.{take, drop, getD}
-use lib.IntN.{ℤ}
+use lib.ListN.{take, drop}
 use Rattle.worker.specs.declared.Input.{Input}
 use Rattle.worker.specs.declared.Run.{Run}
-use Rattle.worker.specs.declared.Settings.{Settings}
 use Rattle.worker.specs.Answer.{lent}
-use Rattle.worker.specs.Opening.{openOf, alreadyOpenOf, reportOf}
-use Rattle.worker.specs.Run.{lsn}
 use Rattle.worker.specs.Step.{Lent, Outcome, stepOf}
 use Rattle.advance.specs.Advance.{advanceOf}
-use Rattle.words.specs.Words.{moment, settingsOf, runOf}
-use Rattle.words.specs.Step.{inputOf, steppedWords, openedWords, alreadyOpenWords, reportWords}
-use Rattle.claims.specs.Calls.{Played, lentTo, begun, Beginning, opens, is-open}
-use Rattle.claims.specs.Calls as C
-use Rattle.host_calls.specs.Mixed.{Call, mixOne, mixAll, AsSteps}
+use Rattle.words.specs.Calls.{standing, stepCall, openCall, alreadyOpenCall, reportCall, stateCall, metricsCall, positionCall, lastSentCall}
+use Rattle.answers.specs.Next.{nextStepCall}
+use Rattle.answers.specs.Parts.{errorPartCall}
+use Rattle.run_page.specs.RunPage.{pageCall}
+use Rattle.claims.specs.Tests.{lsn}
+use Rattle.claims.specs.Calls.{Beginning, opens, is-open}
 use Rattle.host_calls.specs.Mixed as M
+use Rattle.host_calls.specs.HostWords.{word, moment, Words, inputBy}
 
--- what a step or an advance is handed beside the lent bytes: moment, client time, stop, queue, whether the input has ended
-pub record Words : Type 0 where
-  pub moment : ℕ
-  pub time : ℤ
-  pub stop : Bool
-  pub queue : ℕ
-  pub ended : Bool
-
--- .. as the input of a step
-abbrev pub inputBy : Words → Input
-inputBy a = inputOf (a .moment) (a .time) (a .stop) (a .queue) (a .ended)
-
--- an exported call: a step or an advance with so many of the next untaken bytes and an output; a report of a file at a position and a moment
+-- an exported call: a step or an advance with so many of the next untaken bytes and an output; a report of a file at a position and a moment; a look
+-- at the state, the metrics, the position, the last status, the error with a payload buffer's length, the next step with that length and the queue's
+-- word, the page with an output
 pub data HostCall : Type 0 where
-  step : Words → ℕ → List ℕ → HostCall
-  advance : Words → ℕ → List ℕ → HostCall
+  step advance : Words → ℕ → List ℕ → HostCall
   report : ℕ → ℕ → ℕ → HostCall
+  state metrics position last-sent : HostCall
+  error-part : ℕ → HostCall
+  next-step : ℕ → ℕ → HostCall
+  page : List ℕ → HostCall
 
--- the call of a run that it is
-abbrev pub callOf : HostCall → Call
-callOf (step a n out) = M.step (inputBy a) n out
-callOf (advance a n out) = M.advance (inputBy a) n out
-callOf (report file p m) = M.report file (lsn p) (moment m)
-
--- .. for each call of a list
-unfoldable pub callsOf : List HostCall → List Call
-callsOf [] = []
-callsOf (c ∷ cs) = callOf c ∷ callsOf cs
-
--- what the host has between two calls: the run's words, the payload buffer, how many bytes were taken, and the answers, the newest last
+-- what the host has between two calls: the run's words, the payload buffer, how many bytes were taken
 pub record Held : Type 0 where
   pub words : List ℕ
   pub payload : List ℕ
   pub taken : ℕ
-  pub answers : List (List ℕ)
 
--- ---- one call, as its contract in `export` has it
-
--- `rufflesquash_step` and `rufflesquash_advance`: both clauses. The second word of the answer is how many bytes were taken
-pub record Stepped (f : Run → Input → Lent → Outcome) (bytes : List ℕ) (h : Held) (a : Words) (n : ℕ) (out : List ℕ) (g : Held) : Type 0 where
+-- what a call gives back: the number that it returns, the words that it answers, the output
+pub record Reply : Type 0 where
+  pub result : ℕ
   pub answer : List ℕ
-  pub left : List ℕ
-  pub ensures :
-      (g .words, answer, g .payload, left)
-      ≡ steppedWords (f (runOf (h .words)) (inputBy a) (lent (take n (drop (h .taken) bytes)) (h .payload) out))
-  pub preserved : runOf (g .words) ≡ f (runOf (h .words)) (inputBy a) (lent (take n (drop (h .taken) bytes)) (h .payload) out) .run
-  pub taken : g .taken ≡ h .taken + getD answer 1 0
-  pub answers : g .answers ≡ h .answers ++ (answer ∷ [])
+  pub out : List ℕ
 
--- `rufflesquash_report`: both clauses. It answers one word
-pub record Reported (h : Held) (file p m : ℕ) (g : Held) : Type 0 where
-  pub answer : ℕ
-  pub ensures : (answer, g .words) ≡ reportWords (h .words) (reportOf (runOf (h .words)) file (lsn p) (moment m))
-  pub preserved : runOf (g .words) ≡ reportOf (runOf (h .words)) file (lsn p) (moment m) .1
+-- ---- one call, by its contract
+
+-- `rufflesquash_step` and `rufflesquash_advance`. The second word of the answer is how many bytes were taken
+pub record Stepped (f : Run → Input → Lent → Outcome) (bytes : List ℕ) (h : Held) (a : Words) (n : ℕ) (out : List ℕ) (g : Held) (y : Reply) : Type 0 where
+  pub ensures :
+      (standing (g .words), y .answer, g .payload, y .out)
+      ≡ stepCall f (h .words) (a .moment) (a .time) (a .stop) (a .queue) (a .ended) (lent (take n (drop (h .taken) bytes)) (h .payload) out)
+  pub taken : g .taken ≡ h .taken + word (y .answer) 1
+
+-- `rufflesquash_report`
+pub record Reported (h : Held) (file p m : ℕ) (g : Held) (y : Reply) : Type 0 where
+  pub ensures : (y .result, standing (g .words)) ≡ reportCall (h .words) file p m
   pub payload : g .payload ≡ h .payload
   pub taken : g .taken ≡ h .taken
-  pub answers : g .answers ≡ h .answers ++ ((answer ∷ []) ∷ [])
 
--- one exported call, from what the host has before to what it has after
-abbrev pub Called : List ℕ → Held → HostCall → Held → Type 0
-Called bytes h (step a n out) g = Stepped stepOf bytes h a n out g
-Called bytes h (advance a n out) g = Stepped advanceOf bytes h a n out g
-Called bytes h (report file p m) g = Reported h file p m g
+-- one exported call, from what the host has before to what it has after, and its reply; a look changes nothing
+abbrev pub Called : List ℕ → Held → HostCall → Held → Reply → Type 0
+Called bytes h (step a n out) g y = Stepped stepOf bytes h a n out g y
+Called bytes h (advance a n out) g y = Stepped advanceOf bytes h a n out g y
+Called bytes h (report file p m) g y = Reported h file p m g y
+Called bytes h state g y = (g ≡ h) × (y .result ≡ stateCall (h .words))
+Called bytes h metrics g y = (g ≡ h) × (y .answer ≡ metricsCall (h .words))
+Called bytes h position g y = (g ≡ h) × (y .result ≡ positionCall (h .words))
+Called bytes h last-sent g y = (g ≡ h) × (y .answer ≡ lastSentCall (h .words))
+Called bytes h (error-part n) g y = (g ≡ h) × (y .answer ≡ errorPartCall (h .words) n)
+Called bytes h (next-step n queue) g y = (g ≡ h) × (y .answer ≡ nextStepCall (h .words) n queue)
+Called bytes h (page out) g y = (g ≡ h) × (((y .result, word (y .answer) 0), y .out) ≡ pageCall (h .words) out)
 
 -- call after call
 pub data CalledAll (bytes : List ℕ) : Held → List HostCall → Held → Type 0 where
   none : {h : Held} → CalledAll bytes h [] h
-  next : {h g k : Held} {c : HostCall} {cs : List HostCall} → Called bytes h c g → CalledAll bytes g cs k → CalledAll bytes h (c ∷ cs) k
+  next : {h g k : Held} {c : HostCall} {cs : List HostCall} (y : Reply) → Called bytes h c g y → CalledAll bytes g cs k
+      → CalledAll bytes h (c ∷ cs) k
+
+-- ---- the same calls without the looks, for theorems about lists that mix steps, advances and reports
+
+abbrev pub mixedIn : HostCall → List M.Call
+mixedIn (step a n out) = M.step (inputBy a) n out ∷ []
+mixedIn (advance a n out) = M.advance (inputBy a) n out ∷ []
+mixedIn (report file p m) = M.report file (lsn p) (moment m) ∷ []
+mixedIn state = []
+mixedIn metrics = []
+mixedIn position = []
+mixedIn last-sent = []
+mixedIn (error-part n) = []
+mixedIn (next-step n queue) = []
+mixedIn (page out) = []
+
+-- of a list
+unfoldable pub mixedOf : List HostCall → List M.Call
+mixedOf [] = []
+mixedOf (c ∷ cs) = mixedIn c ++ mixedOf cs
 
 -- ---- the opening
 
--- `rufflesquash_open` and `rufflesquash_already_open`, not refused: both clauses of each. `before` are the words as they were lent
-pub data Opened (settings before words : List ℕ) : Beginning → Type 0 where
-  by-open : {slot : List ℕ} {publications : List (RefT (List ℕ))} {position start : ℕ} {out left : List ℕ} {written : ℕ}
-      → (0, words, written, left) ≡ openedWords before (openOf (settingsOf settings) slot publications (lsn position) (lsn start) out)
-      → (_≡_ {A = ℕ} 0 0 → runOf words ≡ openOf (settingsOf settings) slot publications (lsn position) (lsn start) out .run)
-      → Opened settings before words (opens slot publications (lsn position) (lsn start) out)
-  already : {start : ℕ} → (0, words) ≡ alreadyOpenWords before (alreadyOpenOf (settingsOf settings) (lsn start))
-      → (_≡_ {A = ℕ} 0 0 → runOf words ≡ alreadyOpenOf (settingsOf settings) (lsn start) .1)
-      → Opened settings before words (is-open (lsn start))
+-- `rufflesquash_open` and `rufflesquash_already_open`, not refused, with these words of settings; `before` are the run's words as they were lent
+pub data Opened (settings words : List ℕ) : Beginning → Type 0 where
+  by-open : (before : List ℕ) {slot : List ℕ} {publications : List (RefT (List ℕ))} {position start : ℕ} {out left : List ℕ} {written : ℕ}
+      → (0, standing words, written, left) ≡ openCall before settings slot publications position start out
+      → Opened settings words (opens slot publications (lsn position) (lsn start) out)
+  already : (before : List ℕ) {start : ℕ} → (0, standing words) ≡ alreadyOpenCall before settings start → Opened settings words (is-open (lsn start))
 
--- ---- the promise
-
--- the answers that a list of calls of a run gives, as words; a report's is the number of its refusal, 0 for none
-abbrev pub answersOne : List ℕ → Played → Call → List (List ℕ)
-answersOne bytes z (M.step i n out) = steppedWords (stepOf (z .run) i (lentTo bytes z n out)) .1 ∷ []
-answersOne bytes z (M.advance i n out) = steppedWords (advanceOf (z .run) i (lentTo bytes z n out)) .1 ∷ []
-answersOne bytes z (M.report file p m) = (reportOf (z .run) file p m .0 ∷ []) ∷ []
-
--- .. and those of a list
-unfoldable pub answersAll : List ℕ → Played → List Call → List (List ℕ)
-answersAll bytes z [] = []
-answersAll bytes z (c ∷ cs) = answersOne bytes z c ++ answersAll bytes (mixOne bytes z c) cs
-
--- the words stand for the run of the list, with its payload buffer, its taken count and its answers; and that list is one of steps and reports
-pub record StandsFor (bytes buffer : List ℕ) (r : Run) (cs : List HostCall) (g : Held) : Type 0 where
-  pub run : runOf (g .words) ≡ mixAll bytes (begun r buffer) (callsOf cs) .run
-  pub payload : g .payload ≡ mixAll bytes (begun r buffer) (callsOf cs) .payload
-  pub taken : g .taken ≡ mixAll bytes (begun r buffer) (callsOf cs) .taken
-  pub answers : g .answers ≡ answersAll bytes (begun r buffer) (callsOf cs)
-  pub steps : AsSteps bytes (begun r buffer) (callsOf cs)
-
--- so after any list of exported calls from an opening that was not refused
-abbrev pub Exported-stand : Type 0
-Exported-stand =
-    (settings before words bytes payload : List ℕ) (b : Beginning) → Opened settings before words b
-    → (cs : List HostCall) (g : Held) → CalledAll bytes (record { words = words; payload = payload; taken = 0; answers = [] }) cs g
-    → StandsFor bytes payload (C.runBegun (settingsOf settings) b) cs g
+-- what the host has before the first call
+abbrev pub heldFirst : List ℕ → List ℕ → Held
+heldFirst words payload = record { words = words; payload = payload; taken = 0 }

@@ -15,7 +15,7 @@ use Rattle.messages.proofs.AuthLayout.{auth-is-within as auth-within}
 use Rattle.messages.proofs.FieldsSent.{field-is-within as field-within}
 use Rattle.query.proofs.RowLayout.{part-is-within as column-within}
 use Rattle.stream.specs.Message.{lengthField}
-use Rattle.meaning.specs.Answers.{Auth-is-within, Column-is-within, Field-is-within, MessageWithin, Message-is-within}
+use Rattle.meaning.specs.Within.{Auth-is-within, Column-is-within, Field-is-within, MessageWithin, Message-is-within}
 
 -- ---- parts of a payload
 

@@ -1,36 +1,36 @@
--- What each word of the answers means, one by one and literally, and that the parts that they name lie in the payload. SCOPE 9.2, 9.4, 9.5.
+-- What each word of the answers about messages outside a stream means, one by one and literally, whatever is answered: messages, simple queries, rows
+-- of data, authentication requests, fields of errors; and of two answers about a run. SCOPE 9.2, 9.4.
 -- The places and values have names in words/src/layout.rt, which host/src/ffi.rs and rufflesquash.h repeat.
-use Prim.Native.Nat.{ℕ, _+_, _≤_}
+use Prim.Native.Char.{code}
+use Prim.Native.Nat.{ℕ, _≤_, _%_}
 use mathlib.Core.Bool.{Bool}
 use mathlib.Core.List.{List, [], _∷_}
 use mathlib.Core.Option.{some, none}
 use mathlib.Core.Path.{_≡_}
-use lib.IntN.{ℤ, pos, negsuc}
-use lib.ListN.{length, getD}
+use lib.IntN.{ℤ}
+use lib.ListN.{length}
+use Rattle.error.specs.declared.Refusal.{Refusal}
+use Rattle.error.specs.Refusal.{numberOf}
 use Rattle.framing.specs.Read as F
 use Rattle.framing.specs.Read.{readOf}
 use Rattle.framing.specs.declared.MessageReader.{MessageReader}
+use Rattle.messages.specs.declared.Field.{Field}
 use Rattle.messages.specs.Auth.{authOf}
-use Rattle.messages.specs.Fields.{fieldsOf, indexed}
+use Rattle.messages.specs.Fields.{fieldsOf, indexed, lastOf, absent, entriesOf}
+use Rattle.query.specs.declared.Column.{Column}
+use Rattle.query.specs.declared.Column.the-variants.{Null, Part, Absent, Refused}
+use Rattle.query.specs.declared.simple.SimpleQuery.{SimpleQuery}
 use Rattle.query.specs.Fold as Q
-use Rattle.query.specs.Row.{columnsOf, columnOf}
-use Rattle.progress.specs.declared.files.FileRefusal.{FileRefusal}
-use Rattle.progress.specs.Files.{fileNumber, fileKind}
-use Rattle.rows.specs.declared.Refusal as Of-rows
-use Rattle.rows.specs.Head as Rows
-use Rattle.hours.specs.declared.Refusal as Of-hours
-use Rattle.hours.specs.Answer as Hours
-use Rattle.relation_cache.specs.declared.Refusal as Of-cache
-use Rattle.relation_cache.specs.Answers as Cache
+use Rattle.query.specs.Fold.{messageOf}
+use Rattle.query.specs.Row.{columnsOf, nth}
 use Rattle.schedule.specs.NextStep.{atOnce, from, onInput, never}
-use Rattle.words.specs.Words.{flagOf, flagWord}
-use Rattle.answers.specs.Fold.{simpleQueryOf, queryWords, foldWords}
-use Rattle.answers.specs.Kinds.{kindBy, transientAt}
+use Rattle.answers.specs.Fold.{simpleQueryOf, queryWords, queryMessageCall}
 use Rattle.answers.specs.Next.{nextWords}
-use Rattle.answers.specs.Parts.{authWords, columnReply, fieldWords, errorWords}
-use Rattle.answers.specs.Read.{readWords}
+use Rattle.answers.specs.Parts.{errorWords, authRequestCall, dataRowCall, dataColumnCall, errorFieldCall}
+use Rattle.answers.specs.Read.{readCall}
+use Rattle.host_calls.specs.HostWords.{word, isSet, flag, twos}
 
--- ---- the words
+-- ---- of a run
 
 -- 0 at once, 1 from the moment in the second word on, 2 when something comes, 3 never
 abbrev pub Next-words : Type 0
@@ -44,85 +44,131 @@ Error-words =
     × ((len : ℕ) → len ≤ n → errorWords (some len) n ≡ 1 ∷ len ∷ [])
     × ((len : ℕ) → n ≤ len → errorWords (some len) n ≡ 1 ∷ n ∷ [])
 
--- refusal, taken, whether a message is whole, its tag, its payload's length
-abbrev pub Read-words : Type 0
-Read-words =
-    (taken : ℕ) → (readWords F.more taken ≡ 0 ∷ taken ∷ 0 ∷ 0 ∷ 0 ∷ [])
-    × ((tag n : ℕ) → readWords (F.whole tag n) taken ≡ 0 ∷ taken ∷ 1 ∷ tag ∷ n ∷ [])
-    × ((number : ℕ) → readWords (F.refused number) taken ≡ number ∷ taken ∷ 0 ∷ 0 ∷ 0 ∷ [])
+-- ---- one read of messages
 
--- 0 go on, 1 a row and its columns, 2 the end, 3 the end with an error: bytes kept, bytes that it had; 4 a refusal's number
-abbrev pub Fold-words : Type 0
-Fold-words =
-    (foldWords Q.more ≡ 0 ∷ 0 ∷ 0 ∷ []) × ((n : ℕ) → foldWords (Q.row n) ≡ 1 ∷ n ∷ 0 ∷ []) × (foldWords Q.ready ≡ 2 ∷ 0 ∷ 0 ∷ [])
-    × ((kept len : ℕ) → foldWords (Q.failed kept len) ≡ 3 ∷ kept ∷ len ∷ []) × ((number : ℕ) → foldWords (Q.refused number) ≡ 4 ∷ number ∷ 0 ∷ [])
+-- the reader that eight words stand for: five bytes of a header, how many bytes came, the payload's length, whether a message over the limit was met
+abbrev pub readerBy : List ℕ → MessageReader
+readerBy w =
+    record {
+      header = word w 0 % 256 ∷ word w 1 % 256 ∷ word w 2 % 256 ∷ word w 3 % 256 ∷ word w 4 % 256 ∷ [];
+      filled = word w 5;
+      «payload_len» = word w 6;
+      refused = isSet (word w 7);
+    }
+
+-- the words of a reader, which stand for it
+abbrev pub readerLeft : MessageReader → List ℕ × MessageReader
+readerLeft r = (
+  word (r .header) 0 ∷ word (r .header) 1 ∷ word (r .header) 2 ∷ word (r .header) 3 ∷ word (r .header) 4 ∷ r .filled ∷ r .«payload_len»
+      ∷ flag (r .refused) ∷ [],
+  r,
+)
+
+-- the reader that is left; refusal, taken, whether a message is whole, its tag, its payload's length; and the payload buffer that is left
+pub record Read-words (w : List ℕ) (limit : ℕ) (unread : List ℕ) (ended : Bool) (payload : List ℕ) : Type 0 where
+  pub more : (r : MessageReader) (taken : ℕ) (left : List ℕ) → readOf limit (readerBy w) unread ended payload ≡ (F.more, r, taken, left)
+      → readCall w limit unread ended payload ≡ (readerLeft r, 0 ∷ taken ∷ 0 ∷ 0 ∷ 0 ∷ [], left)
+  pub whole : (tag n : ℕ) (r : MessageReader) (taken : ℕ) (left : List ℕ)
+      → readOf limit (readerBy w) unread ended payload ≡ (F.whole tag n, r, taken, left)
+      → readCall w limit unread ended payload ≡ (readerLeft r, 0 ∷ taken ∷ 1 ∷ tag ∷ n ∷ [], left)
+  pub refused : (number : ℕ) (r : MessageReader) (taken : ℕ) (left : List ℕ)
+      → readOf limit (readerBy w) unread ended payload ≡ (F.refused number, r, taken, left)
+      → readCall w limit unread ended payload ≡ (readerLeft r, number ∷ taken ∷ 0 ∷ 0 ∷ 0 ∷ [], left)
+
+-- of any words and bytes
+abbrev pub Reads-told : Type 0
+Reads-told = (w : List ℕ) (limit : ℕ) (unread : List ℕ) (ended : Bool) (payload : List ℕ) → Read-words w limit unread ended payload
+
+-- ---- a message of a simple query
 
 -- whether an error came, how many of its bytes are kept, how many it had; words that are all 0 are a query of which no message came
 abbrev pub Query-words : Type 0
 Query-words =
-    ((a b c d : ℕ) → simpleQueryOf (a ∷ b ∷ c ∷ d ∷ []) ≡ record { failed = flagOf a; kept = b; len = c })
-    × ((a : Bool) (b c : ℕ) → queryWords (record { failed = a; kept = b; len = c }) ≡ flagWord a ∷ b ∷ c ∷ 0 ∷ [])
+    ((a b c d : ℕ) → simpleQueryOf (a ∷ b ∷ c ∷ d ∷ []) ≡ record { failed = isSet a; kept = b; len = c })
+    × ((a : Bool) (b c : ℕ) → queryWords (record { failed = a; kept = b; len = c }) ≡ flag a ∷ b ∷ c ∷ 0 ∷ [])
     × (simpleQueryOf (0 ∷ 0 ∷ 0 ∷ 0 ∷ []) ≡ Q.fresh)
 
--- refusal; 0 absent, 1 null, 2 a value; its place; its length
-abbrev pub Column-words : Type 0
-Column-words = (a b c d : ℕ) → columnReply (a, b, c, d) ≡ (a, b ∷ c ∷ d ∷ [])
+-- the query that four words stand for
+abbrev pub queryBy : List ℕ → SimpleQuery
+queryBy w = record { failed = isSet (word w 0); kept = word w 1; len = word w 2 }
 
--- refusal, code in two's complement, place, length: the code -1 is all ones
+-- the words of a query, which stand for it
+abbrev pub queryLeft : SimpleQuery → List ℕ × SimpleQuery
+queryLeft q = (flag (q .failed) ∷ q .kept ∷ q .len ∷ 0 ∷ [], q)
+
+-- the query that is left; 0 go on, 1 a row and its columns, 2 the end, 3 the end with an error: bytes kept, bytes that it had; 4 a refusal's number;
+-- and the error buffer that is left
+pub record Fold-words (w : List ℕ) (tag : ℕ) (payload error : List ℕ) : Type 0 where
+  pub more : (q : SimpleQuery) (left : List ℕ) → messageOf (queryBy w) tag payload error ≡ (q, Q.more, left)
+      → queryMessageCall w tag payload error ≡ (queryLeft q, 0 ∷ 0 ∷ 0 ∷ [], left)
+  pub row : (n : ℕ) (q : SimpleQuery) (left : List ℕ) → messageOf (queryBy w) tag payload error ≡ (q, Q.row n, left)
+      → queryMessageCall w tag payload error ≡ (queryLeft q, 1 ∷ n ∷ 0 ∷ [], left)
+  pub ready : (q : SimpleQuery) (left : List ℕ) → messageOf (queryBy w) tag payload error ≡ (q, Q.ready, left)
+      → queryMessageCall w tag payload error ≡ (queryLeft q, 2 ∷ 0 ∷ 0 ∷ [], left)
+  pub failed : (kept len : ℕ) (q : SimpleQuery) (left : List ℕ) → messageOf (queryBy w) tag payload error ≡ (q, Q.failed kept len, left)
+      → queryMessageCall w tag payload error ≡ (queryLeft q, 3 ∷ kept ∷ len ∷ [], left)
+  pub refused : (number : ℕ) (q : SimpleQuery) (left : List ℕ) → messageOf (queryBy w) tag payload error ≡ (q, Q.refused number, left)
+      → queryMessageCall w tag payload error ≡ (queryLeft q, 4 ∷ number ∷ 0 ∷ [], left)
+
+-- of any words and any message
+abbrev pub Queries-told : Type 0
+Queries-told = (w : List ℕ) (tag : ℕ) (payload error : List ℕ) → Fold-words w tag payload error
+
+-- ---- a row of data
+
+-- 20 and 0 for a malformed row; else 0 and how many columns there are
+pub record Data-row-words : Type 0 where
+  pub malformed : (payload : List ℕ) → columnsOf payload ≡ none → dataRowCall payload ≡ (20, 0)
+  pub columns : (payload : List ℕ) (cs : List Column) → columnsOf payload ≡ some cs → dataRowCall payload ≡ (0, length cs)
+
+-- refusal; and 0 absent, 1 null, 2 a value, its place, its length
+pub record Column-words : Type 0 where
+  pub malformed : (payload : List ℕ) (i : ℕ) → columnsOf payload ≡ none → dataColumnCall payload i ≡ (20, 0 ∷ 0 ∷ 0 ∷ [])
+  pub no-such : (payload : List ℕ) (i : ℕ) (cs : List Column) → columnsOf payload ≡ some cs → nth i cs ≡ Absent
+      → dataColumnCall payload i ≡ (0, 0 ∷ 0 ∷ 0 ∷ [])
+  pub null : (payload : List ℕ) (i : ℕ) (cs : List Column) → columnsOf payload ≡ some cs → nth i cs ≡ Null
+      → dataColumnCall payload i ≡ (0, 1 ∷ 0 ∷ 0 ∷ [])
+  pub value : (payload : List ℕ) (i place len : ℕ) (cs : List Column) → columnsOf payload ≡ some cs → nth i cs ≡ Part place len
+      → dataColumnCall payload i ≡ (0, 2 ∷ place ∷ len ∷ [])
+  pub refused : (payload : List ℕ) (i : ℕ) (cs : List Column) (r : Refusal) → columnsOf payload ≡ some cs → nth i cs ≡ Refused r
+      → dataColumnCall payload i ≡ (numberOf r, 0 ∷ 0 ∷ 0 ∷ [])
+
+-- ---- an authentication request, a field of an error
+
+-- refusal, code in two's complement, place and length of the rest
 abbrev pub Auth-words : Type 0
 Auth-words =
-    ((a c d : ℕ) → authWords (a, pos 10, c, d) ≡ a ∷ 10 ∷ c ∷ d ∷ []) × ((a c d : ℕ) → authWords (a, negsuc 0, c, d) ≡ a ∷ 18446744073709551615 ∷ c ∷ d ∷ [])
+    (payload : List ℕ) (refusal : ℕ) (asked : ℤ) (place len : ℕ) → authOf payload ≡ (refusal, asked, place, len)
+    → authRequestCall payload ≡ refusal ∷ twos asked ∷ place ∷ len ∷ []
 
 -- whether it is given, its place, its length
 abbrev pub Field-words : Type 0
-Field-words = (a : Bool) (b c : ℕ) → fieldWords (record { given = a; from = b; len = c }) ≡ flagWord a ∷ b ∷ c ∷ []
+Field-words =
+    (payload : List ℕ) (i : ℕ) → let f : Field = indexed (fieldsOf payload) i in errorFieldCall payload i ≡ flag (f .given) ∷ f .from ∷ f .len ∷ []
 
--- kinds by number: 0 no refusal, 1 usage, 2 input and output, 3 protocol, 4 server, 5 a message too large, 6 a position that is none
-abbrev pub Kind-words : Type 0
-Kind-words =
-    (kindBy 0 ≡ 0)
-    × (kindBy 1 ≡ 1) × (kindBy 2 ≡ 1) × (kindBy 3 ≡ 1) × (kindBy 4 ≡ 1) × (kindBy 5 ≡ 1)
-    × (kindBy 6 ≡ 3) × (kindBy 7 ≡ 5) × (kindBy 8 ≡ 2) × (kindBy 9 ≡ 2)
-    × (kindBy 10 ≡ 3) × (kindBy 13 ≡ 3) × (kindBy 14 ≡ 3) × (kindBy 18 ≡ 3)
-    × (kindBy 19 ≡ 4) × (kindBy 20 ≡ 3) × (kindBy 21 ≡ 3)
-    × (kindBy 22 ≡ 6) × (kindBy 23 ≡ 6) × (kindBy 24 ≡ 6) × (kindBy 25 ≡ 1)
-    × (kindBy 26 ≡ 3) × (kindBy 27 ≡ 3) × (kindBy 28 ≡ 3) × (kindBy 29 ≡ 3) × (kindBy 30 ≡ 3)
-    × (kindBy 31 ≡ 1) × (kindBy 32 ≡ 1) × (kindBy 33 ≡ 1) × (kindBy 34 ≡ 1) × (kindBy 35 ≡ 1) × (kindBy 36 ≡ 0)
+-- the field that has a letter, which is the last one with it
+abbrev pub lettered : List ℕ → ℕ → Field
+lettered payload letter = lastOf letter absent (entriesOf payload)
 
--- .. and of the refusals that crates beside `error` have, each has the kind that its own crate gives it
-pub record Kinds-agree : Type 0 where
-  pub of-rows : (r : Of-rows.Refusal) → kindBy (Rows.numberOf r) ≡ Rows.kindOf r
-  pub of-files : (r : FileRefusal) → kindBy (fileNumber r) ≡ fileKind r
-  pub of-hours : (r : Of-hours.Refusal) → kindBy (Hours.numberOf r) ≡ Hours.kindOf r
-  pub of-cache : (r : Of-cache.Refusal) → kindBy (Cache.numberOf r) ≡ Cache.kindOf r
+-- the number of each field, by its letter; from 15 on there is none
+pub record Field-numbers (payload : List ℕ) : Type 0 where
+  pub severity : indexed (fieldsOf payload) 0 ≡ lettered payload (code "S")
+  pub sqlstate : indexed (fieldsOf payload) 1 ≡ lettered payload (code "C")
+  pub message : indexed (fieldsOf payload) 2 ≡ lettered payload (code "M")
+  pub detail : indexed (fieldsOf payload) 3 ≡ lettered payload (code "D")
+  pub hint : indexed (fieldsOf payload) 4 ≡ lettered payload (code "H")
+  pub position : indexed (fieldsOf payload) 5 ≡ lettered payload (code "P")
+  pub place : indexed (fieldsOf payload) 6 ≡ lettered payload (code "W")
+  pub schema : indexed (fieldsOf payload) 7 ≡ lettered payload (code "s")
+  pub table : indexed (fieldsOf payload) 8 ≡ lettered payload (code "t")
+  pub column : indexed (fieldsOf payload) 9 ≡ lettered payload (code "c")
+  pub data-type : indexed (fieldsOf payload) 10 ≡ lettered payload (code "d")
+  pub constraint : indexed (fieldsOf payload) 11 ≡ lettered payload (code "n")
+  pub file : indexed (fieldsOf payload) 12 ≡ lettered payload (code "F")
+  pub line : indexed (fieldsOf payload) 13 ≡ lettered payload (code "L")
+  pub routine : indexed (fieldsOf payload) 14 ≡ lettered payload (code "R")
+  pub beyond : (i : ℕ) → 15 ≤ i → errorFieldCall payload i ≡ 0 ∷ 0 ∷ 0 ∷ []
 
--- a new connection may help where the input ended in a message
-abbrev pub Transient-words : Type 0
-Transient-words = (transientAt 8 ≡ 1) × (transientAt 9 ≡ 1) × (transientAt 0 ≡ 0) × (transientAt 2 ≡ 0) × (transientAt 7 ≡ 0) × (transientAt 19 ≡ 0) × (transientAt 26 ≡ 0)
-
--- ---- parts lie in what was lent: the place and the length that a call answers, whatever the payload is
-
-abbrev pub PartWithin : List ℕ → ℕ → ℕ → Type 0
-PartWithin payload place len = place + len ≤ length payload
-
--- the rest of an authentication request
-abbrev pub Auth-is-within : Type 0
-Auth-is-within = (payload : List ℕ) → let w = authWords (authOf payload) in PartWithin payload (getD w 2 0) (getD w 3 0)
-
--- a column's value
-abbrev pub Column-is-within : Type 0
-Column-is-within = (payload : List ℕ) (i : ℕ) → let w = columnReply (columnOf (columnsOf payload) i) .1 in PartWithin payload (getD w 1 0) (getD w 2 0)
-
--- a field of an error
-abbrev pub Field-is-within : Type 0
-Field-is-within = (payload : List ℕ) (i : ℕ) → let w = fieldWords (indexed (fieldsOf payload) i) in PartWithin payload (getD w 1 0) (getD w 2 0)
-
--- a whole message's payload
-abbrev pub MessageWithin : ℕ → F.Said → Type 0
-MessageWithin n F.more = Unit {0}
-MessageWithin n (F.whole tag len) = len ≤ n
-MessageWithin n (F.refused number) = Unit {0}
-
-abbrev pub Message-is-within : Type 0
-Message-is-within =
-    (setting : ℕ) (r : MessageReader) (u : List ℕ) (e : Bool) (p : List ℕ) → MessageWithin (length p) (readOf setting r u e p .0)
+-- of any payload
+abbrev pub Fields-numbered : Type 0
+Fields-numbered = (payload : List ℕ) → Field-numbers payload

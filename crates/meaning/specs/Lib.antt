@@ -1,3 +1,11 @@
 pub mod Words
+pub mod Cells
 pub mod Answers
-pub mod Calls
+pub mod Kinds
+pub mod Within
+pub mod Texts
+pub mod Rows
+pub mod Touched
+pub mod Hours
+pub mod Load
+pub mod Standing

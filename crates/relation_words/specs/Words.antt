@@ -6,7 +6,8 @@ use mathlib.Core.Option.{Option, some, none}
 use Rattle.rows.specs.Rows.{rowSaid}
 use Rattle.row_words.specs.Words.{rowReply}
 use Rattle.relation_cache.specs.Answers.{Told}
-use Rattle.packed_cache.specs.Packed.{Packed, messageOf}
+use Rattle.relation_cache.specs.Memory.{countHeld}
+use Rattle.packed_cache.specs.Packed.{Packed, packed, wordsOf, emptied, messageOf, columnTold}
 
 -- 1 for yes
 abbrev pub flagWord : Bool → ℕ
@@ -23,6 +24,20 @@ abbrev pub columnWords : Option Told → List ℕ
 columnWords none = 0 ∷ 0 ∷ 0 ∷ 0 ∷ 0 ∷ []
 columnWords (some t) = 1 ∷ t .0 .0 ∷ t .0 .1 ∷ flagWord (t .1) ∷ t .2 ∷ []
 
--- what a call answers to data: the refusal's number, 0 for none, and the words of the row's head; and the memory after it
+-- ---- calls: how many relations are held, their identifiers, their counts of columns, the columns' words and the names are the lent memory
+
+-- `rufflesquash_cache_clear`: the whole memory is zero
+abbrev pub clearCall : Packed
+clearCall = emptied
+
+-- `rufflesquash_cache_message`, with data: the refusal's number, 0 for none, and the words of the row's head; and the memory after it
 abbrev pub messageCall : Packed → List ℕ → (ℕ × List ℕ) × Packed
 messageCall m s = (rowReply (messageOf m (rowSaid s) .0), messageOf m (rowSaid s) .1)
+
+-- `rufflesquash_cache_count`, with an identifier; it is lent no columns
+abbrev pub countCall : ℕ → List ℕ → List ℕ → ℕ → ℕ × ℕ
+countCall held ids counts id = countReply (countHeld held ids counts id)
+
+-- `rufflesquash_cache_column`, with an identifier and a column's number; it is lent no names
+abbrev pub columnCall : ℕ → List ℕ → List ℕ → List ℕ → ℕ → ℕ → List ℕ
+columnCall held ids counts words id index = columnWords (columnTold (packed held ids counts (wordsOf words [])) id index)

@@ -6,7 +6,6 @@ use mathlib.Core.List.{List, [], _∷_, _++_}
 use mathlib.Core.Option.{Option, none}
 use Prim.Native.Nat.{ℕ}
 use lib.ListN.{length, take}
-use Rattle.wire.specs.Bytes.{put}
 use Rattle.stream.specs.Cut.{cutOf}
 use Rattle.frontend.specs.Frontend.{copyDone}
 use Rattle.worker.specs.declared.Input.{Input}
@@ -16,6 +15,7 @@ use Rattle.worker.specs.Events as E
 use Rattle.worker.specs.Step.{Outcome, Lent, stepOf}
 use Rattle.claims.specs.Happened.{Happened}
 use Rattle.claims.specs.Plain.{Msg, Observation, wholeOnes, hasOpened, eventsOf, spanOf, afterByte, acceptedOnes, isRefusedEarly}
+use Rattle.claims.specs.Tests.{onto}
 use Rattle.claims.specs.Trace.{Setup, Trace, takenBy, observationsOf}
 use Rattle.claims.specs.Table.{limitBy}
 use Rattle.claims.specs.Calls.{Beginning, Call, step, Played, played, lentTo, setupOf}
@@ -44,7 +44,7 @@ pub record Answered (z : Played) (l : Lent) (o : Outcome) : Type 0 where
   pub taken : o .taken ≡ 0
   pub event : o .event ≡ E.nothing
   pub written : take (o .written) (o .out) ≡ 0x63 ∷ 0 ∷ 0 ∷ 0 ∷ 4 ∷ []
-  pub output : o .out ≡ put (l .out) 0 copyDone
+  pub output : o .out ≡ onto copyDone (l .out)
   pub payload : o .payload ≡ l .payload
   pub waited : o .waited ≡ none
   pub state : o .run .state ≡ Ended

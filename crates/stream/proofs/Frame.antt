@@ -3,21 +3,33 @@ use mathlib.Core.Path.{_≡_, refl, sym, ap, subst, subst⁻¹, _∙_}
 use mathlib.Core.Bool.{Bool, true}
 use mathlib.Core.List.{List, [], _∷_, _++_, append-assoc}
 use mathlib.Core.Logic.{_⊎_, inl, inr}
-use Prim.Native.Nat.{ℕ, zero, suc, _+_, _-_, _≤_, _<_}
+use Prim.Native.Nat.{ℕ, zero, suc, _+_, _-_, _*_, _≤_, _<_}
 use native.Mathlib.Omega.{arith}
 use lib.ListN.{length, take, drop, getD, length-append, length-drop, take-append-drop}
 use lib.Seq.{take-at, drop-at, take-append-seam, drop-append-seam, drop-drop, drop-cons, length-take-le, take-append-le}
 use lib.Pow.{areBytes}
 use borrow.Author.Tests.{le-ltb, lt-leb}
-use Rattle.wire.specs.Bytes.{at, be, beBytes}
+use Rattle.wire.specs.Bytes.{at, be, beFrom, beBytes}
 use Rattle.wire.specs.Int.{half}
 use Rattle.wire.proofs.Laws.{length-beBytes}
 use Rattle.wire.proofs.FieldLaws.{be-beBytes, first-byte, part-there}
 use Rattle.stream.specs.Message.{Front, in-header, in-payload, bad-length, too-large, whole, framed, lengthField, frontOf}
 use Rattle.stream.specs.Cut.{Item, message, refused, Ending, header, payload, over, Cut, behind, ended, cutBy, cutOf}
-use Rattle.stream.specs.Frame.{Laid, all, one, bad, Good, Bad, Stops, Framed-is-cut, Laid-is-cut, Cut-is-laid}
+use Rattle.stream.specs.Frame.{lengthIn, Laid, all, one, bad, Bad, Stops, Cut-by-front, Framed-is-cut, Laid-is-cut, Cut-is-laid}
 use Rattle.stream.proofs.Front.{Shows, cut-header, negative, short, large, cut-payload, complete, shows, header-front, negative-front, short-front, over-front, payload-front, whole-front, length-field-append}
 use Rattle.stream.proofs.Laws.{cut-next, cut-in-header, cut-in-payload, cut-too-large, cut-bad-length, cut-whole}
+
+-- ---- the length in a header
+
+-- five bytes and more, taken apart
+length-is : (s : List ℕ) → 5 ≤ length s → lengthIn s ≡ lengthField s
+unfolding be beFrom
+length-is [] h = absurd (omega arith)
+length-is (a ∷ []) h = absurd (omega arith)
+length-is (a ∷ b ∷ []) h = absurd (omega arith)
+length-is (a ∷ b ∷ c ∷ []) h = absurd (omega arith)
+length-is (a ∷ b ∷ c ∷ d ∷ []) h = absurd (omega arith)
+length-is (a ∷ b ∷ c ∷ d ∷ e ∷ s) h = omega arith
 
 -- ---- from the frame to the cut
 
@@ -53,6 +65,9 @@ module _ (tag : ℕ) (p rest : List ℕ) where
       let e : lengthField s - 4 ≡ length p = omega arith in
       whole-front limit s (omega arith) (omega arith) (omega arith) (omega arith) (omega arith) ∙ rw (tag-back, e)
 
+pub cut-by-front : Cut-by-front
+cut-by-front = cut-next
+
 pub framed-is-cut : Framed-is-cut
 framed-is-cut limit tag p rest h k =
     let s : List ℕ = framed tag p ++ rest in
@@ -75,13 +90,18 @@ bad-is-cut limit h s e b =
 
 stopped : (limit : ℕ) (s : List ℕ) (e : Ending) → Stops limit s e → cutOf limit s ≡ ended s e
 stopped limit s header w = cut-in-header limit s (header-front limit s w)
-stopped limit s payload w = cut-in-payload limit s (payload-front limit s (w .0) (w .1 .0) (w .1 .1) (w .2) (w .3))
-stopped limit s over w = cut-too-large limit s (over-front limit s (w .0) (w .1 .0) (w .1 .1) (w .2))
+stopped limit s payload w =
+    let n : lengthIn s ≡ lengthField s = length-is s (w .0) in
+    cut-in-payload limit s (payload-front limit s (w .0) (rw n at (w .1 .0)) (rw n at (w .1 .1)) (rw n at (w .2)) (rw n at (w .3)))
+stopped limit s over w =
+    let n : lengthIn s ≡ lengthField s = length-is s (w .0) in
+    cut-too-large limit s (over-front limit s (w .0) (rw n at (w .1 .0)) (rw n at (w .1 .1)) (rw n at (w .2)))
 
 pub laid-is-cut : Laid-is-cut
 laid-is-cut limit s [] rest e all w = stopped limit s e w
 laid-is-cut limit s (message tag p ∷ is) rest e (one _ _ {s = t} h k l) w = framed-is-cut limit tag p t h k ∙ ap (behind (message tag p)) (laid-is-cut limit t is rest e l w)
-laid-is-cut limit s (refused ∷ is) rest e (bad h {s = t} n b l) w = bad-is-cut limit h t n b ∙ ap (behind refused) (laid-is-cut limit t is rest e l w)
+laid-is-cut limit s (refused ∷ is) rest e (bad h {s = t} n b l) w =
+    bad-is-cut limit h t n (subst Bad (length-is h (omega arith)) b) ∙ ap (behind refused) (laid-is-cut limit t is rest e l w)
 
 -- ---- from the cut to the frame
 
@@ -121,14 +141,14 @@ module _ (limit : ℕ) (s : List ℕ) (go : (k : ℕ) → 5 ≤ k → k ≤ leng
       let w = split-header s h in
       let c = cutOf limit (drop 5 s) in (
         subst (λ (x : List ℕ). Laid limit x (refused ∷ c .items) (c .rest)) (take-append-drop 5 s)
-            (bad (take 5 s) (w .0) (rw (w .1) b) (g .0)),
+            (bad (take 5 s) (w .0) (rw (length-is (take 5 s) (omega arith), w .1) b) (g .0)),
         g .1,
       )
 
   laid-by : (f : Front) → areBytes s ≡ true → Shows limit s f → LaidBy limit s (cutBy s f (λ k. cutOf limit (drop k s)))
   laid-by in-header e (cut-header h) = (all, h)
-  laid-by in-payload e (cut-payload h a b c d) = (all, (h, (a, b), c, d))
-  laid-by too-large e (large h a b c) = (all, (h, (a, b), c))
+  laid-by in-payload e (cut-payload h a b c d) = (all, rw (length-is s h) (h, (a, b), c, d))
+  laid-by too-large e (large h a b c) = (all, rw (length-is s h) (h, (a, b), c))
   laid-by bad-length e (negative h a) = bad-laid h (inl a)
   laid-by bad-length e (short h a b) = bad-laid h (inr b)
   laid-by (whole tag n) e (complete h a b c d) =

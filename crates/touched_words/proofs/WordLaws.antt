@@ -16,7 +16,7 @@ use Rattle.touched.specs.Walk.{walkOf, leftBy}
 use Rattle.touched.proofs.BitLaws.{bit-laws}
 use Rattle.touched.proofs.Laws.{part-clipped}
 use Rattle.touched.proofs.Walk.{left-is-the-walk}
-use Rattle.touched_words.specs.Words.{toldBy, replyOf, callOf, toldIn, bitsLeft, Answer-tells, Bits-are-the-walk}
+use Rattle.touched_words.specs.Words.{toldBy, replyOf, touchedCall, toldIn, bitsLeft, Answer-tells, Bits-are-the-walk}
 
 -- no refusal has the number 0
 pub refused-reply : (r : FileRefusal) (n bits : ℕ) (b : Files) → n ≡ fileNumber r → (n, bits) ≡ replyOf bits (fileNumber r, b)
@@ -33,7 +33,7 @@ answer-tells refusal taken written waited (E.XLogData start end time from len) p
 answer-tells refusal taken written waited (E.StoppedAt reached) p = refl
 
 module _ (ids fs : List ℕ) (h : hasNoFile (entriesOf ids fs) ≡ false) where
-  bits-after : (b : Files) (w p : List ℕ) → callOf ids fs w p (bitsOf b) .1 ≡ bitsOf (afterOf (entriesOf ids fs) (toldBy w p) b .1)
+  bits-after : (b : Files) (w p : List ℕ) → touchedCall ids fs w p (bitsOf b) .1 ≡ bitsOf (afterOf (entriesOf ids fs) (toldBy w p) b .1)
   unfolding afterOf
   bits-after b w p = rw (bit-laws .back b, h)
 

@@ -26,8 +26,8 @@ abbrev pub replyOf : ℕ → ℕ × Files → ℕ × ℕ
 replyOf bits a = (a .0, pick (eqb (a .0) 0) (bitsOf (a .1)) bits)
 
 -- the refusal's number and the bits after a call with identifiers and files, an answer, a payload buffer and bits; those above the four are not read
-abbrev pub callOf : List ℕ → List ℕ → List ℕ → List ℕ → ℕ → ℕ × ℕ
-callOf ids fs w p bits = replyOf bits (afterOf (entriesOf ids fs) (toldBy w p) (filesBy bits))
+abbrev pub touchedCall : List ℕ → List ℕ → List ℕ → List ℕ → ℕ → ℕ × ℕ
+touchedCall ids fs w p bits = replyOf bits (afterOf (entriesOf ids fs) (toldBy w p) (filesBy bits))
 
 -- ---- theorems
 
@@ -45,7 +45,7 @@ toldIn (c ∷ cs) = toldBy (c .0) (c .1) ∷ toldIn cs
 -- the bits after calls, each with the same list and the bits as the last one left them
 unfoldable pub bitsLeft : List ℕ → List ℕ → ℕ → List (List ℕ × List ℕ) → ℕ
 bitsLeft ids fs bits [] = bits
-bitsLeft ids fs bits (c ∷ cs) = bitsLeft ids fs (callOf ids fs (c .0) (c .1) bits .1) cs
+bitsLeft ids fs bits (c ∷ cs) = bitsLeft ids fs (touchedCall ids fs (c .0) (c .1) bits .1) cs
 
 -- with the same unrefused list, from 0, over any list of answers and payload buffers: they are what a full walk finds
 abbrev pub Bits-are-the-walk : Type 0

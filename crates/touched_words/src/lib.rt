@@ -3,7 +3,7 @@ ghost use mathlib.Core.Path.{_≡_};
 ghost use mathlib.Core.List.{List};
 ghost use Prim.Native.Nat.{ℕ};
 ghost use Rattle.touched.specs.Touched.{tellsBy, answerBy};
-ghost use Rattle.touched_words.specs.Words.{toldBy, callOf, replyOf};
+ghost use Rattle.touched_words.specs.Words.{toldBy, touchedCall, replyOf};
 use touched::Answer;
 use touched::Files;
 use touched::Tells;
@@ -55,7 +55,7 @@ pub fn after_answer(
     payload: &[u8],
     bits: u64,
 ) -> Reply
-    ensures { λ r. ⌜ (r .refusal, r .bits) ≡ callOf (now (identifiers .entry)) (now (files .entry)) answer (now (payload .entry)) bits ⌝ }
+    ensures { λ r. ⌜ (r .refusal, r .bits) ≡ touchedCall (now (identifiers .entry)) (now (files .entry)) answer (now (payload .entry)) bits ⌝ }
 {
     let before = Files::of_bits(bits);
     let tells = tells_in(answer);

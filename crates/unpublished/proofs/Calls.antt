@@ -437,7 +437,7 @@ writes-alike inputs text out out' l = rw (← l) (by (ltb inputLimit inputs) (lt
     by false true = refl
     by false false = refl
 
-writes-over : (inputs : ℕ) (text out out' : List ℕ) → length out ≡ length out' → (j : ℕ) → getD out j 0 ≡ getD out' j 0
+pub writes-over : (inputs : ℕ) (text out out' : List ℕ) → length out ≡ length out' → (j : ℕ) → getD out j 0 ≡ getD out' j 0
     → getD (writing inputs text out .1) j 0 ≡ getD (writing inputs text out' .1) j 0
 unfolding writing
 writes-over inputs text out out' l j e = rw (← l) (by (ltb inputLimit inputs) (ltb (length out) (length text)))

@@ -5,13 +5,13 @@ use mathlib.Core.Bool.{Bool, true, false}
 use mathlib.Core.List.{List, []}
 use Prim.Native.Nat.{ℕ, _+_}
 use lib.ListN.{length, take, drop}
-use Rattle.wire.specs.Bytes.{at}
+use lib.Dec.{eqb}
 use Rattle.stream.specs.Message.{Front, in-header, in-payload, bad-length, too-large, whole, frontOf}
-use Rattle.stream.specs.Tag.{isError, isCopyData}
 use Rattle.replication.specs.CopyData.{copyDataOf}
 use Rattle.replication.specs.CopyData as C
 use Rattle.pgoutput.specs.Boundary.{boundaryOf}
 use Rattle.pgoutput.specs.Boundary as B
+use Rattle.claims.specs.Tests.{part}
 use Rattle.unpublished.specs.Hidden.{hiddenAt, DifferHidden}
 
 -- what is public of a CopyData payload: what it says, the boundary in its data (positions, times, places and lengths), and a Message's prefix
@@ -22,7 +22,7 @@ pub record View : Type 0 where
 
 -- the boundary in the data
 abbrev pub boundaryIn : List ℕ → C.Said → B.Said
-boundaryIn p (C.w start end time from len) = boundaryOf (at p from len)
+boundaryIn p (C.w start end time from len) = boundaryOf (part p from len)
 boundaryIn p (C.k end time reply) = B.no-boundary
 boundaryIn p (C.refused n) = B.no-boundary
 
@@ -30,23 +30,24 @@ boundaryIn p (C.refused n) = B.no-boundary
 abbrev pub prefixBy : List ℕ → B.Said → List ℕ
 prefixBy s (B.begin final time xid) = []
 prefixBy s (B.commit position end time) = []
-prefixBy s (B.message flag position pf pl cf cl) = at s pf pl
+prefixBy s (B.message flag position pf pl cf cl) = part s pf pl
 prefixBy s B.no-boundary = []
 prefixBy s (B.refused n) = []
 
 abbrev pub prefixIn : List ℕ → C.Said → List ℕ
-prefixIn p (C.w start end time from len) = prefixBy (at p from len) (boundaryOf (at p from len))
+prefixIn p (C.w start end time from len) = prefixBy (part p from len) (boundaryOf (part p from len))
 prefixIn p (C.k end time reply) = []
 prefixIn p (C.refused n) = []
 
 abbrev pub viewOf : List ℕ → View
 viewOf p = record { said = copyDataOf p; boundary = boundaryIn p (copyDataOf p); prefix = prefixIn p (copyDataOf p) }
 
--- two payloads of messages with a tag: as long, an error's the same, a CopyData's with the same view; others are free
+-- two payloads of messages with a tag: as long, those of an error, `E`, byte 69, the same, those of a CopyData, `d`, byte 100, with the same view;
+-- others are free
 pub record AlikePayload (tag : ℕ) (p q : List ℕ) : Type 0 where
   pub size : length p ≡ length q
-  pub error : isError tag ≡ true → p ≡ q
-  pub copied : isCopyData tag ≡ true → viewOf p ≡ viewOf q
+  pub error : eqb tag 69 ≡ true → p ≡ q
+  pub copied : eqb tag 100 ≡ true → viewOf p ≡ viewOf q
 
 abbrev pub isWhole : Front → Bool
 isWhole in-header = false
@@ -59,7 +60,7 @@ isWhole (whole tag n) = true
 pub data Alike (limit : ℕ) : List ℕ → List ℕ → Type 0 where
   ends : {a b : List ℕ} → length a ≡ length b → take 5 a ≡ take 5 b → isWhole (frontOf limit a) ≡ false → Alike limit a b
   goes-on : {a b : List ℕ} (tag n : ℕ) → length a ≡ length b → take 5 a ≡ take 5 b → frontOf limit a ≡ whole tag n
-      → AlikePayload tag (at a 5 n) (at b 5 n) → Alike limit (drop (5 + n) a) (drop (5 + n) b) → Alike limit a b
+      → AlikePayload tag (part a 5 n) (part b 5 n) → Alike limit (drop (5 + n) a) (drop (5 + n) b) → Alike limit a b
 
 -- streams that differ in hidden places alone have the same hidden places, so that it does not matter whose are meant
 abbrev pub Hidden-is-mutual : Type 0

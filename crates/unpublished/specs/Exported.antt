@@ -1,54 +1,98 @@
--- The same of lists of exported calls, which is what a host in Rust or C makes: the run's words and every answer, word by word. SCOPE 8.12, 8.8; 02,
--- wish 14.
+-- The same of lists of exported calls, which is what a host in Rust or C makes, looks in between: the run's words and every answer, word by word, and
+-- the service page. SCOPE 8.12, 8.8; 02, wish 14.
 use mathlib.Core.Path.{_≡_}
 use mathlib.Core.List.{List, [], _∷_}
 use Prim.Native.Nat.{ℕ}
 use lib.ListN.{length, getD, take}
 use Rattle.claims.specs.Tests.{longest}
-use Rattle.words.specs.Words.{settingsOf}
 use Rattle.claims.specs.Calls.{Beginning}
-use Rattle.worker.specs.Step.{stepOf}
-use Rattle.advance.specs.Advance.{advanceOf}
-use Rattle.host_calls.specs.Exported.{Words, HostCall, Held, Stepped, CalledAll, Opened}
+use Rattle.host_calls.specs.HostWords.{word, Words, settingsBy}
+use Rattle.host_calls.specs.Exported.{HostCall, Held, Reply, Called, CalledAll, Opened, heldFirst}
 use Rattle.host_calls.specs.Exported as X
+use Rattle.unpublished.specs.Alike.{Alike}
 use Rattle.unpublished.specs.Hidden.{DifferHidden}
 use Rattle.unpublished.specs.Unpublished.{AlikeBeginning}
 
--- the same calls, each with as many unread bytes and an output as long
+-- ---- the same calls
+
+-- a call that is made on both sides, with as many unread bytes and an output as long
+pub data AlikeCall : HostCall → HostCall → Type 0 where
+  step : {a : Words} {n : ℕ} {out out' : List ℕ} → length out ≡ length out' → AlikeCall (X.step a n out) (X.step a n out')
+  advance : {a : Words} {n : ℕ} {out out' : List ℕ} → length out ≡ length out' → AlikeCall (X.advance a n out) (X.advance a n out')
+  report : {file p m : ℕ} → AlikeCall (X.report file p m) (X.report file p m)
+  state : AlikeCall X.state X.state
+  metrics : AlikeCall X.metrics X.metrics
+  position : AlikeCall X.position X.position
+  last-sent : AlikeCall X.last-sent X.last-sent
+  error-part : {n : ℕ} → AlikeCall (X.error-part n) (X.error-part n)
+  next-step : {n queue : ℕ} → AlikeCall (X.next-step n queue) (X.next-step n queue)
+  page : {out out' : List ℕ} → length out ≡ length out' → AlikeCall (X.page out) (X.page out')
+
+-- call by call
 pub data AlikeHostCalls : List HostCall → List HostCall → Type 0 where
   none : AlikeHostCalls [] []
-  step : {a : Words} {n : ℕ} {out out' : List ℕ} {cs ds : List HostCall} → length out ≡ length out' → AlikeHostCalls cs ds
-      → AlikeHostCalls (X.step a n out ∷ cs) (X.step a n out' ∷ ds)
-  advance : {a : Words} {n : ℕ} {out out' : List ℕ} {cs ds : List HostCall} → length out ≡ length out' → AlikeHostCalls cs ds
-      → AlikeHostCalls (X.advance a n out ∷ cs) (X.advance a n out' ∷ ds)
-  report : {file p m : ℕ} {cs ds : List HostCall} → AlikeHostCalls cs ds → AlikeHostCalls (X.report file p m ∷ cs) (X.report file p m ∷ ds)
+  next : {c d : HostCall} {cs ds : List HostCall} → AlikeCall c d → AlikeHostCalls cs ds → AlikeHostCalls (c ∷ cs) (d ∷ ds)
 
--- a step or an advance of each: the same answer, whose third word says how many bytes go to the server, the same such bytes, and the output the same
--- wherever it was
-pub record CallAlike (out out' answer answer' left left' : List ℕ) : Type 0 where
-  pub answers : answer ≡ answer'
-  pub written : take (getD answer 2 0) left ≡ take (getD answer' 2 0) left'
-  pub output : (j : ℕ) → getD out j 0 ≡ getD out' j 0 → getD left j 0 ≡ getD left' j 0
+-- ---- the same replies
 
--- what two hosts have after their calls over the server's bytes a and b: the same words, taken counts and answers, payload buffers as long, and the
--- next step or advance
+-- a call that writes, with the outputs that the two were lent: the same words, of which word k says how many bytes are for the server or for the page,
+-- the same such bytes, and the output the same wherever it was
+pub record Writes (out out' : List ℕ) (k : ℕ) (y y' : Reply) : Type 0 where
+  pub count : word (y .answer) k ≡ word (y' .answer) k
+  pub written : take (word (y .answer) k) (y .out) ≡ take (word (y' .answer) k) (y' .out)
+  pub output : (j : ℕ) → getD out j 0 ≡ getD out' j 0 → getD (y .out) j 0 ≡ getD (y' .out) j 0
+
+-- the output that a call is lent
+abbrev pub outputOf : HostCall → List ℕ
+outputOf (X.step a n out) = out
+outputOf (X.advance a n out) = out
+outputOf (X.report file p m) = []
+outputOf X.state = []
+outputOf X.metrics = []
+outputOf X.position = []
+outputOf X.last-sent = []
+outputOf (X.error-part n) = []
+outputOf (X.next-step n queue) = []
+outputOf (X.page out) = out
+
+-- what the two replies have in common: every number and word that the call answers, and what it writes
+abbrev pub RepliesAlike : HostCall → List ℕ → Reply → Reply → Type 0
+RepliesAlike (X.step a n out) out' y y' = (y .answer ≡ y' .answer) × Writes out out' 2 y y'
+RepliesAlike (X.advance a n out) out' y y' = (y .answer ≡ y' .answer) × Writes out out' 2 y y'
+RepliesAlike (X.report file p m) out' y y' = y .result ≡ y' .result
+RepliesAlike X.state out' y y' = y .result ≡ y' .result
+RepliesAlike X.metrics out' y y' = y .answer ≡ y' .answer
+RepliesAlike X.position out' y y' = y .result ≡ y' .result
+RepliesAlike X.last-sent out' y y' = y .answer ≡ y' .answer
+RepliesAlike (X.error-part n) out' y y' = y .answer ≡ y' .answer
+RepliesAlike (X.next-step n queue) out' y y' = y .answer ≡ y' .answer
+RepliesAlike (X.page out) out' y y' = (y .result ≡ y' .result) × Writes out out' 0 y y'
+
+-- what two hosts have after their calls over the server's bytes a and b: the same words and taken counts, payload buffers as long, the same reply to
+-- whatever call comes next, and the same bytes of an error that is told
 pub record HeldAlike (a b : List ℕ) (g g' : Held) : Type 0 where
   pub words : g .words ≡ g' .words
   pub taken : g .taken ≡ g' .taken
-  pub answers : g .answers ≡ g' .answers
   pub buffer : length (g .payload) ≡ length (g' .payload)
-  pub step : (w : Words) (n : ℕ) (out out' : List ℕ) → length out ≡ length out' → (k k' : Held) (x : Stepped stepOf a g w n out k)
-      (y : Stepped stepOf b g' w n out' k') → CallAlike out out' (x .answer) (y .answer) (x .left) (y .left)
-  pub advance : (w : Words) (n : ℕ) (out out' : List ℕ) → length out ≡ length out' → (k k' : Held) (x : Stepped advanceOf a g w n out k)
-      (y : Stepped advanceOf b g' w n out' k') → CallAlike out out' (x .answer) (y .answer) (x .left) (y .left)
+  pub next : {c d : HostCall} → AlikeCall c d → (k k' : Held) (y y' : Reply) → Called a g c k y → Called b g' d k' y'
+      → RepliesAlike c (outputOf d) y y'
+  pub error : (n : ℕ) (k k' : Held) (y y' : Reply) → Called a g (X.error-part n) k y → Called b g' (X.error-part n) k' y'
+      → take (word (y .answer) 1) (g .payload) ≡ take (word (y' .answer) 1) (g' .payload)
 
--- before the first call
-abbrev pub heldFirst : List ℕ → List ℕ → Held
-heldFirst words payload = record { words = words; payload = payload; taken = 0; answers = [] }
+-- ---- any list of exported calls
 
+-- of the wider relation
+abbrev pub Exported-alike : Type 0
+Exported-alike =
+    (settings words words' : List ℕ) (c d : Beginning) → Opened settings words c → Opened settings words' d → AlikeBeginning c d
+    → (a b p q : List ℕ) → Alike (longest (settingsBy settings .«max_message_size»)) a b → length p ≡ length q
+    → (cs ds : List HostCall) → AlikeHostCalls cs ds → (g g' : Held) → CalledAll a (heldFirst words p) cs g → CalledAll b (heldFirst words' q) ds g'
+    → HeldAlike a b g g'
+
+-- and of streams that differ in hidden places alone
 abbrev pub Exported-indistinct : Type 0
 Exported-indistinct =
-    (settings before before' words words' : List ℕ) (c d : Beginning) → Opened settings before words c → Opened settings before' words' d
-    → AlikeBeginning c d → (a b p q : List ℕ) → DifferHidden (longest (settingsOf settings .«max_message_size»)) a b → length p ≡ length q
+    (settings words words' : List ℕ) (c d : Beginning) → Opened settings words c → Opened settings words' d → AlikeBeginning c d
+    → (a b p q : List ℕ) → DifferHidden (longest (settingsBy settings .«max_message_size»)) a b → length p ≡ length q
     → (cs ds : List HostCall) → AlikeHostCalls cs ds → (g g' : Held) → CalledAll a (heldFirst words p) cs g → CalledAll b (heldFirst words' q) ds g'
     → HeldAlike a b g g'

@@ -6,13 +6,13 @@ use mathlib.Core.List.{List, [], _∷_}
 use Prim.Native.Nat.{ℕ, _+_, _-_}
 use lib.ListN.{length, getD}
 use lib.Dec.{ltb, leb, eqb}
-use Rattle.wire.specs.Bytes.{pick, at}
+use Rattle.wire.specs.Bytes.{pick}
 use Rattle.stream.specs.Cut.{Item, message, refused, cutOf}
 use Rattle.replication.specs.CopyData.{copyDataOf}
 use Rattle.replication.specs.CopyData as C
 use Rattle.pgoutput.specs.Boundary.{boundaryOf}
 use Rattle.pgoutput.specs.Boundary as B
-use Rattle.claims.specs.Tests.{both}
+use Rattle.claims.specs.Tests.{both, part}
 
 -- place j of data, by their boundary
 abbrev pub hiddenBy : B.Said → ℕ → Bool
@@ -24,7 +24,7 @@ hiddenBy (B.refused n) j = false
 
 -- place j of a CopyData payload, by what the payload says: a place of an XLogData's data
 abbrev pub hiddenByPayload : List ℕ → C.Said → ℕ → Bool
-hiddenByPayload p (C.w start end time from len) j = both (leb from j) (hiddenBy (boundaryOf (at p from len)) (j - from))
+hiddenByPayload p (C.w start end time from len) j = both (leb from j) (hiddenBy (boundaryOf (part p from len)) (j - from))
 hiddenByPayload p (C.k end time reply) j = false
 hiddenByPayload p (C.refused n) j = false
 

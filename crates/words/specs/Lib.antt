@@ -1,3 +1,4 @@
 pub mod Words
 pub mod Cells
 pub mod Step
+pub mod Calls

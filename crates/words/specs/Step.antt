@@ -1,21 +1,18 @@
--- What a step is handed as words, and what opening, steps and advances answer. SCOPE 9.2, 5.4, 5.5.
+-- What a step is handed as words, and the words of its answer. SCOPE 9.2, 5.4, 5.5.
 use Prim.Native.Nat.{ℕ, _+_, _-_, _≤_, min}
 use mathlib.Core.Bool.{Bool}
 use mathlib.Core.List.{List, [], _∷_}
 use mathlib.Core.Option.{Option, some, none}
 use mathlib.Core.Path.{_≡_}
 use lib.IntN.{ℤ}
-use lib.ListN.{length, getD}
+use lib.ListN.{getD}
 use lib.Dec.{eqb}
 use Rattle.wire.specs.Bytes.{pick}
 use Rattle.worker.specs.declared.Input.{Input}
 use Rattle.worker.specs.declared.Queue.{Queue}
 use Rattle.worker.specs.declared.Queue.the-variants.{Free, Full, Closed}
-use Rattle.worker.specs.declared.Run.{Run}
 use Rattle.worker.specs.Events.{Said, nothing, keepAlive, begin, commit, message, xlogData, stoppedAt}
-use Rattle.worker.specs.Opening.{Opened}
-use Rattle.worker.specs.Step.{Outcome}
-use Rattle.words.specs.Words.{moment, eventWords, sevenOf, wordsOf}
+use Rattle.words.specs.Words.{moment, eventWords, sevenOf}
 
 -- every other word is a closed queue
 unfoldable pub queueOf : ℕ → Queue
@@ -73,20 +70,3 @@ Within-is-unchanged = (n : ℕ) (e : Said) → Within n e → clipped n e ≡ e
 abbrev pub answerWords : ℕ → ℕ → ℕ → Option ℕ → Said → List ℕ
 answerWords refusal taken written waited e =
     refusal ∷ taken ∷ written ∷ getD (waitedWords waited) 0 0 ∷ getD (waitedWords waited) 1 0 ∷ sevenOf (eventWords e)
-
--- run, answer, payload buffer and output after a step; the event's parts lie in the payload buffer
-abbrev pub steppedWords : Outcome → List ℕ × List ℕ × List ℕ × List ℕ
-steppedWords o =
-    (wordsOf (o .run), answerWords (o .refusal) (o .taken) (o .written) (o .waited) (clipped (length (o .payload)) (o .event)), o .payload, o .out)
-
--- refusal, run and bytes written, and output after opening; refused, the run's words are as they were
-abbrev pub openedWords : List ℕ → Opened → ℕ × List ℕ × ℕ × List ℕ
-openedWords w o = (o .outcome .0, pick (eqb (o .outcome .0) 0) (wordsOf (o .run)) w, o .outcome .1, o .out)
-
--- refusal and run of a stream that has begun
-abbrev pub alreadyOpenWords : List ℕ → ℕ × Run → ℕ × List ℕ
-alreadyOpenWords w o = (o .0, pick (eqb (o .0) 0) (wordsOf (o .1)) w)
-
--- .. and of a report
-abbrev pub reportWords : List ℕ → ℕ × Run → ℕ × List ℕ
-reportWords w o = (o .0, pick (eqb (o .0) 0) (wordsOf (o .1)) w)

@@ -1,4 +1,3 @@
-use mathlib.Core.Path.{refl}
 use Rattle.export.proofs.Laws.{reported, not-reported}
 use borrow.Author.Needs.{needs}
 use Rattle.export.proofs.rufflesquash_report.Statement.{statement}
@@ -15,7 +14,7 @@ returns-2 : tie.Need-returns-2
 returns-2 c =
     let at-report = c .before .before in
     not-reported (at-report .report .result) _ _ _ (at-report .before .run-of .ensures) (at-report .report .ensures) (c .before .file-verdict-word .ensures)
-    _ refl (c .if1 .left)
+    _ (c .if1 .left)
 
 pub rufflesquash-report-spec : {M : Type 1} → statement M
 rufflesquash-report-spec = tie.close (tie.spec (search needs) (search needs) (search needs) (search needs) returns returns-2)
