@@ -24,7 +24,7 @@ use lib.Dec.{eqb}
 use borrow.Author.Tests.{eqb-true, eqb-false}
 use Rattle.wire.proofs.Laws.{by-test}
 use Rattle.column_word.specs.Bits.{bits, packed, unpacked, Fit, Inverse}
-use Rattle.column_word.specs.Word.{widths, keyBit, columnSaid, wordOf, columnIn, Fits, Words}
+use Rattle.column_word.specs.Word.{widths, keyBit, columnSaid, wordOf, columnIn, Fits, Words, Places}
 use Rattle.column_word.specs.declared.Column.{Column}
 
 -- a power of two is not zero
@@ -106,3 +106,26 @@ word w h =
 
 pub words : Words
 words = record { column = column; word = word }
+
+-- where each field stands
+key-places : (oid len place : ℕ) → oid < 2 ^ 32 → len < 2 ^ 7 → place < 2 ^ 24
+    → wordOf (record { key = true; «type_oid» = oid; «name_len» = len; «name_at» = place }) ≡ 2 ^ 63 + oid * 2 ^ 31 + len * 2 ^ 24 + place
+unfolding wordOf packed bits
+key-places oid len place a b c = rw (mod-eq-of-lt b, mod-eq-of-lt c) (omega arith)
+
+no-key-places : (oid len place : ℕ) → oid < 2 ^ 32 → len < 2 ^ 7 → place < 2 ^ 24
+    → wordOf (record { key = false; «type_oid» = oid; «name_len» = len; «name_at» = place }) ≡ oid * 2 ^ 31 + len * 2 ^ 24 + place
+unfolding wordOf packed bits
+no-key-places oid len place a b c = rw (mod-eq-of-lt b, mod-eq-of-lt c) (omega arith)
+
+lowest-bits : (key : Bool) (oid len place : ℕ)
+    → wordOf (record { key = key; «type_oid» = oid; «name_len» = len; «name_at» = place })
+    ≡ wordOf (record { key = key; «type_oid» = oid; «name_len» = len % 2 ^ 7; «name_at» = place % 2 ^ 24 })
+unfolding wordOf
+lowest-bits key oid len place =
+    let a : len % 2 ^ 7 % 2 ^ 7 ≡ len % 2 ^ 7 = mod-eq-of-lt (mod-lt len (positive 7)) in
+    let b : place % 2 ^ 24 % 2 ^ 24 ≡ place % 2 ^ 24 = mod-eq-of-lt (mod-lt place (positive 24)) in
+    rw (a, b)
+
+pub places : Places
+places = record { key = key-places; no-key = no-key-places; lowest = lowest-bits }

@@ -1,5 +1,5 @@
 -- A column in one word of 64 bits: document 02, wish 12.
-use Prim.Native.Nat.{ℕ, _%_, _^_, _<_}
+use Prim.Native.Nat.{ℕ, _+_, _*_, _%_, _^_, _<_}
 use mathlib.Core.Path.{_≡_}
 use lib.ListN.{getD}
 use mathlib.Core.Bool.{Bool, true, false}
@@ -40,3 +40,14 @@ pub record Fits (c : Column) : Type 0 where
 pub record Words : Type 0 where
   pub column : (c : Column) → Fits c → columnIn (wordOf c) ≡ c
   pub word : (w : ℕ) → w < 2 ^ 64 → wordOf (columnIn w) ≡ w
+
+-- Where each field stands: the place in bits 0 to 23, the length in 24 to 30, the type in 31 to 62, and the key flag in bit 63.
+pub record Places : Type 0 where
+  pub key : (oid len place : ℕ) → oid < 2 ^ 32 → len < 2 ^ 7 → place < 2 ^ 24
+      → wordOf (record { key = true; «type_oid» = oid; «name_len» = len; «name_at» = place }) ≡ 2 ^ 63 + oid * 2 ^ 31 + len * 2 ^ 24 + place
+  pub no-key : (oid len place : ℕ) → oid < 2 ^ 32 → len < 2 ^ 7 → place < 2 ^ 24
+      → wordOf (record { key = false; «type_oid» = oid; «name_len» = len; «name_at» = place }) ≡ oid * 2 ^ 31 + len * 2 ^ 24 + place
+  -- of a length and a place that do not fit, the lowest bits stand there
+  pub lowest : (key : Bool) (oid len place : ℕ)
+      → wordOf (record { key = key; «type_oid» = oid; «name_len» = len; «name_at» = place })
+      ≡ wordOf (record { key = key; «type_oid» = oid; «name_len» = len % 2 ^ 7; «name_at» = place % 2 ^ 24 })

@@ -69,7 +69,7 @@ unfolding namesOf
 name-first [] s ns h e = rw e
 name-first (c ∷ name) s ns h e = rw (ne-eqb c 44 (h .0), name-first name s ns (h .1) e)
 
-name-last : (name : List ℕ) → NoComma name → namesOf name ≡ name ∷ []
+pub name-last : (name : List ℕ) → NoComma name → namesOf name ≡ name ∷ []
 unfolding namesOf
 name-last [] h = refl
 name-last (c ∷ name) h = rw (ne-eqb c 44 (h .0), name-last name (h .1))

@@ -1,3 +1,4 @@
 pub mod Code
 pub mod OptionValue
 pub mod ReadBack
+pub mod ValueLaws

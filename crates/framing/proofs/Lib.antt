@@ -1,3 +1,5 @@
 pub mod Laws
 pub mod Feed
 pub mod EveryRead
+pub mod LimitLaws
+pub mod Said

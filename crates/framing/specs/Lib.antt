@@ -1,3 +1,5 @@
 pub mod Read
 pub mod Feed
 pub mod Cases
+pub mod LimitLaws
+pub mod Said

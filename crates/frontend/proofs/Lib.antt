@@ -1,3 +1,4 @@
 pub mod Laws
 pub mod StartupBack
 pub mod ServerReads
+pub mod StartupStrings

@@ -3,19 +3,20 @@ use mathlib.Core.Path.{_≡_, refl, sym, ap, _∙_}
 use mathlib.Core.Bool.{Bool, true, false}
 use mathlib.Core.List.{List, [], _∷_, _++_, append-assoc, append-nil}
 use mathlib.Core.Option.{Option, some, none}
-use Prim.Native.Nat.{ℕ, zero, suc, _+_, _*_, _-_, _/_, _%_, _^_, _≤_, _<_}
-use native.Mathlib.Nat.{div-add-mod', mod-eq-of-lt, mul-add-mod-self-right, mul-assoc, mod-lt, pow-suc, mod-one}
+use Prim.Native.Nat.{ℕ, _+_, _-_, _%_, _^_, _≤_, _<_}
+use native.Mathlib.Nat.{mod-eq-of-lt}
 use native.Mathlib.Omega.{arith}
 use lib.ListN.{length, drop, length-append, length-drop}
 use lib.Seq.{take-at, drop-at, drop-drop}
 use lib.IntN.{ℤ}
 use lib.Signed.{mag}
 use borrow.Author.Tests.{le-ltb, lt-leb, eq-eqb}
-use Rattle.wire.specs.Bytes.{at, be, beFrom, beBytes}
+use Rattle.wire.specs.Bytes.{at, be, beBytes}
 use Rattle.wire.specs.Field.{fieldAt, signed, unsigned}
 use Rattle.wire.specs.Int.{half, int, value, intAt, intBytes}
 use Rattle.wire.specs.Find.{NoZero}
-use Rattle.wire.proofs.Laws.{length-beBytes, be-snoc, below-pow}
+use Rattle.wire.proofs.Laws.{length-beBytes}
+use Rattle.wire.proofs.AllValues.{be-modulo}
 use Rattle.wire.proofs.FieldLaws.{beBytes-one, field-read, field-whole, signed-unsigned, unsigned-below}
 use Rattle.stream.specs.Message.{framed}
 use Rattle.frontend.specs.Frontend.{query, copyData, copyDone, terminate, flag, statusBody, statusUpdate}
@@ -70,27 +71,6 @@ query-cut-at-zero seen hidden rest n h =
     rw (framed-read 81 (t ++ (0 ∷ [])) rest (omega arith) l, append-assoc seen (0 ∷ hidden) (0 ∷ []), string-back seen (hidden ++ (0 ∷ [])) n)
 
 -- ---- status updates
-
-mod-more : (p a : ℕ) → 0 < p → (a / 256) % p * 256 + a % 256 ≡ a % (p * 256)
-mod-more p a h =
-    let q : ℕ = a / 256 / p in
-    let x : ℕ = (a / 256) % p in
-    let y : ℕ = a % 256 in
-    let z : 0 < 256 = omega arith in
-    let lx : x < p = mod-lt (a / 256) h in
-    let ly : y < 256 = mod-lt a z in
-    let e₁ : a / 256 * 256 + y ≡ a = div-add-mod' a 256 in
-    let e₂ : q * p + x ≡ a / 256 = div-add-mod' (a / 256) p in
-    let e₃ : q * p * 256 ≡ q * (p * 256) = mul-assoc q p 256 in
-    let e : a ≡ q * (p * 256) + (x * 256 + y) = omega arith in
-    let l : x * 256 + y < p * 256 = omega arith in
-    sym (ap (λ (v : ℕ). v % (p * 256)) e ∙ mul-add-mod-self-right q (p * 256) (x * 256 + y) ∙ mod-eq-of-lt l)
-
--- the bytes of a number say its lowest bits
-be-modulo : (n v : ℕ) → be (beBytes n v) ≡ v % 256 ^ n
-unfolding be beFrom beBytes
-be-modulo zero v = sym (mod-one v)
-be-modulo (suc n) v = be-snoc (beBytes n (v / 256)) (v % 256) ∙ rw (be-modulo n (v / 256), pow-suc) (mod-more (256 ^ n) v (below-pow n))
 
 field-modulo : (n : ℕ) (s : List ℕ) (i v : ℕ) (rest : List ℕ) → 0 < n → drop i s ≡ beBytes n v ++ rest → (fieldAt n s i ≡ some (v % 256 ^ n)) × (drop (i + n) s ≡ rest)
 field-modulo n s i v rest h e =

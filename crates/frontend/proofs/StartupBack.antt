@@ -69,7 +69,7 @@ module _ (version : ℤ) (texts : List (RefT (List ℕ))) where
       rw (append-assoc (beBytes 4 (length b + 4)) b rest, n) (field-read 4 (beBytes 4 (length b + 4) ++ (b ++ rest)) 0 (length b + 4) (b ++ rest) (omega arith) (omega arith) refl .0)
 
   -- after it stand the version and the texts
-  fields-back : mag version < half 4 → (intAt 4 (startup version texts) 4 ≡ some version) × (drop 8 (startup version texts) ≡ pairs texts)
+  pub fields-back : mag version < half 4 → (intAt 4 (startup version texts) 4 ≡ some version) × (drop 8 (startup version texts) ≡ pairs texts)
   unfolding startup
   fields-back h =
       let b : List ℕ = intBytes 4 version ++ pairs texts in

@@ -3,3 +3,4 @@ pub mod Frontend
 pub mod Startup
 pub mod ReadBack
 pub mod Cases
+pub mod StartupStrings

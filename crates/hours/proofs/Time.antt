@@ -85,7 +85,7 @@ module _ (h : Hours) (t : ℤ) (in-range : isWithin 4611686018427387904 t ≡ tr
             (λ p. let z : i ≡ 0 = omega (arith, ltb-false 0 i p) in rw z start)));
       }
 
-  next-is : NextIs h t (nextOf h t)
+  pub next-is : NextIs h t (nextOf h t)
   unfolding nextOf
   next-is =
       let s : sinceMonday (h .offset) t ≡ clock % week = since-now (h .offset) t (a .n) (a .same) in-range in

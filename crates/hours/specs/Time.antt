@@ -26,5 +26,6 @@ NextIs h t (some u) = ChangesAt h t u
 
 -- every answer that is no refusal says whether the hall is open at the moment, and when that next changes. The moment of the change is any number: it
 -- may lie after the last moment that can be asked for
+-- (which questions are not refused, and that no other answer is given, stands in Reading.antt)
 abbrev pub Answers-are-right : Type 0
 Answers-are-right = (h : Hours) (t : ℤ) (state : Bool) (next : Option ℤ) → hoursOf h t ≡ (0, (state, next)) → (state ≡ isOpen h t) × NextIs h t next

@@ -7,6 +7,8 @@ use Prim.Native.Nat.{ℕ, _-_, _^_}
 use lib.IntN.{ℤ, pos, negsuc}
 use Rattle.wire.specs.Field.{unsigned}
 use Rattle.wire.specs.Int.{value}
+use Rattle.hours.specs.Answer.{hoursOf}
+use Rattle.hours.specs.Calendar.{hours}
 
 -- a flag is 1 or 0
 abbrev pub flagWord : Bool → ℕ
@@ -21,6 +23,10 @@ toldWords state none = flagWord state ∷ 0 ∷ 0 ∷ []
 -- the refusal's number, 0 for none, and the words, all 0 where the question is refused
 abbrev pub answerWords : ℕ × (Bool × Option ℤ) → ℕ × List ℕ
 answerWords a = (a .0, toldWords (a .1 .0) (a .1 .1))
+
+-- `rufflesquash_hours`, with opening and closing minutes, an offset and a moment: the refusal's number, 0 for none, and three words
+abbrev pub hoursCall : List ℕ → List ℕ → ℤ → ℤ → ℕ × List ℕ
+hoursCall opens closes offset moment = answerWords (hoursOf (hours opens closes offset) moment)
 
 -- the words literally
 pub record HoursWords : Type 0 where

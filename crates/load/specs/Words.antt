@@ -6,6 +6,7 @@ use mathlib.Core.List.{List, [], _∷_}
 use Rattle.load.specs.declared.Message.{Message}
 use Rattle.load.specs.declared.Message.the-variants.{KeepAlive, Begin, Data, Commit}
 use Rattle.load.specs.declared.Made.{Made}
+use Rattle.load.specs.Load.{madeOf, loading}
 
 -- a flag is 1 or 0
 abbrev pub flagWord : Bool → ℕ
@@ -22,3 +23,11 @@ eventWords (Commit start end position commit-end) = 3 ∷ position ∷ commit-en
 -- the state after a message's draws, and its event
 abbrev pub madeWords : Made → ℕ × List ℕ
 madeWords m = (m .state, eventWords (m .message))
+
+-- `rufflesquash_load`: refusal and bytes written, and the output
+abbrev pub loadCall : ℕ → ℕ → List ℕ → (ℕ × ℕ) × List ℕ
+loadCall seed n out = loading seed n out
+
+-- `rufflesquash_load_event`: the next state, and the event of the message that is drawn from a state
+abbrev pub loadEventCall : ℕ → ℕ × List ℕ
+loadEventCall s = madeWords (madeOf s)

@@ -3,5 +3,8 @@ pub mod Lists
 pub mod Stream
 pub mod Prefix
 pub mod Reached
+pub mod Reaching
+pub mod Premises
 pub mod Ended
 pub mod LoadHanded
+pub mod Words

@@ -34,8 +34,8 @@ use Rattle.claims.specs.Calls.{is-open, Call, step, report, Played, played, set
 use Rattle.claims.specs.Traced.{traceOne, traceAll, traceOf}
 use Rattle.claims.proofs.Preserved.{played-preserved}
 use Rattle.load.specs.declared.Message.{Message}
-use Rattle.load.specs.Load.{payloadOf, bytesOf, allBytes, messageOf, drawsOf, messagesOf, streamOf}
-use Rattle.load.specs.Xorshift.{drawn}
+use Rattle.load.specs.Load.{payloadOf, bytesOf, allBytes, messagesOf, streamOf}
+use Rattle.load.proofs.Draws.{how-many}
 use Rattle.load_handed.specs.LoadHanded.{eventOf, eventsOf, listOf, Undisturbed, holdsBack}
 use Rattle.load_handed.specs.Reached.{AllUnread, enough, Reached, Load-is-reached}
 use Rattle.load_handed.proofs.Drawn.{Fits, AllFit, all-fit}
@@ -60,11 +60,6 @@ fit-first (m ∷ ks) bs f = (f .0, fit-first ks bs (f .1))
 fit-then : (ks bs : List Message) → AllFit (ks ++ bs) → AllFit bs
 fit-then [] bs f = f
 fit-then (m ∷ ks) bs f = fit-then ks bs (f .1)
-
-how-many : (n s : ℕ) → length (messagesOf n s) ≡ n
-unfolding messagesOf
-how-many zero s = refl
-how-many (suc n) s = ap suc (how-many n (drawn (drawsOf s) s))
 
 long-one : (m : Message) (ms : List Message) → 5 ≤ length (allBytes (m ∷ ms))
 unfolding allBytes bytesOf
@@ -104,7 +99,7 @@ last-whole d (a ∷ ms) m = last-whole (100, payloadOf a) ms m
 
 -- ---- accepted steps
 
-unfoldable countOf : Trace → ℕ
+unfoldable pub countOf : Trace → ℕ
 countOf [] = 0
 countOf (a-step i from y ∷ h) = pick (isRefusedEarly (y .refusal)) (countOf h) (suc (countOf h))
 countOf (a-report file p m ∷ h) = countOf h
@@ -162,18 +157,18 @@ module _ (s : Settings) (start : Lsn) (seed n : ℕ) (p : List ℕ) (fits : seed
   x = setupOf s (is-open start) (streamOf n seed) (length p)
 
   -- nothing is left to read, or the accepted steps so far and what is left to do are within the number
-  abbrev Ahead : List Message → ℕ → ℕ → Type 0
+  abbrev pub Ahead : List Message → ℕ → ℕ → Type 0
   Ahead todo c w = (todo ≡ []) ⊎ (c + (6 * length todo + w) ≤ enough n)
 
   -- the last message is read and its event is not handed on
-  record Holding (past : List Message) (es : List Happened) : Type 0 where
+  pub record Holding (past : List Message) (es : List Happened) : Type 0 where
     before : List Message
     m : Message
     are : past ≡ before ++ (m ∷ [])
     handed : es ≡ eventsOf before
 
   -- by state: d messages are drained, g events of the message gone, c steps accepted, es handed on; the messages read and those to come
-  abbrev Stands : State → ℕ → ℕ → ℕ → List Happened → List Message → List Message → Type 0
+  abbrev pub Stands : State → ℕ → ℕ → ℕ → List Happened → List Message → List Message → Type 0
   Stands Opening d g c es past todo = ⊥
   Stands Turn d g c es past todo = (es ≡ eventsOf past) × Ahead todo c 1
   Stands Drain d g c es past todo = (es ≡ eventsOf past) × Ahead todo c (pick (ltb d 256) 0 2)
@@ -188,12 +183,12 @@ module _ (s : Settings) (start : Lsn) (seed n : ℕ) (p : List ℕ) (fits : seed
   sooner todo c w v l (inl e) = inl e
   sooner todo c w v l (inr k) = inr (omega (arith, k, l))
 
-  record At (h : Trace) : Type 0 where
-    past : List Message
-    todo : List Message
-    split : past ++ todo ≡ messagesOf n seed
-    taken : takenBy h ≡ length (allBytes past)
-    stands : Stands (stateAfter false h) (drainedOf h) (goneOf h) (countOf h) (handedBy h) past todo
+  pub record At (h : Trace) : Type 0 where
+    pub past : List Message
+    pub todo : List Message
+    pub split : past ++ todo ≡ messagesOf n seed
+    pub taken : takenBy h ≡ length (allBytes past)
+    pub stands : Stands (stateAfter false h) (drainedOf h) (goneOf h) (countOf h) (handedBy h) past todo
 
   -- ---- one step
 
@@ -461,13 +456,13 @@ module _ (s : Settings) (start : Lsn) (seed n : ℕ) (p : List ℕ) (fits : seed
 
   -- ---- any list of calls
 
-  first-at : At []
+  pub first-at : At []
   unfolding stateAfter takenBy handedBy drainedOf goneOf countOf allBytes eventsOf
   first-at =
       let l : length (messagesOf n seed) ≡ n = how-many n seed in
       record { past = []; todo = messagesOf n seed; split = refl; taken = refl; stands = (refl, inr (omega (arith, l))) }
 
-  step-at : (h : Trace) (i : Input) (k : ℕ) (out : List ℕ) → At h → i .stop ≡ false → i .queue ≡ Free → length (streamOf n seed) ≤ k
+  pub step-at : (h : Trace) (i : Input) (k : ℕ) (out : List ℕ) → At h → i .stop ≡ false → i .queue ≡ Free → length (streamOf n seed) ≤ k
       → At (traceOne x h (step i k out))
   unfolding stateAfter takenBy handedBy drainedOf goneOf countOf
   step-at h i k out a quiet free l =
@@ -517,9 +512,18 @@ module _ (s : Settings) (start : Lsn) (seed n : ℕ) (p : List ℕ) (fits : seed
   spent Offering d g c es past todo (e, f, k) l = absurd (omega (arith, k, l))
   spent Ended d g c es past todo (e, k) l = (k, e, refl)
 
-  at-end : (h : Trace) → At h → enough n ≤ countOf h → (takenBy h ≡ length (streamOf n seed)) × (handedBy h ≡ listOf n seed) × (holdsBack (stateAfter false h) ≡ false)
+  finished : (st : State) (d g c : ℕ) (es : List Happened) (past todo : List Message) → Stands st d g c es past todo
+      → (enough n ≤ c) ⊎ (st ≡ Ended) → (todo ≡ []) × (es ≡ eventsOf past) × (holdsBack st ≡ false)
+  finished st d g c es past todo b (inl l) = spent st d g c es past todo b l
+  finished st d g c es past todo b (inr e) =
+      let k = subst (λ (a : State). Stands a d g c es past todo) e b in
+      (k .1, k .0, ap holdsBack e)
+
+  -- the end is reached by the number of accepted steps, or since the run has ended
+  pub at-end : (h : Trace) → At h → (enough n ≤ countOf h) ⊎ (stateAfter false h ≡ Ended)
+      → (takenBy h ≡ length (streamOf n seed)) × (handedBy h ≡ listOf n seed) × (holdsBack (stateAfter false h) ≡ false)
   at-end h a l =
-      let r = spent (stateAfter false h) (drainedOf h) (goneOf h) (countOf h) (handedBy h) (a .past) (a .todo) (a .stands) l in
+      let r = finished (stateAfter false h) (drainedOf h) (goneOf h) (countOf h) (handedBy h) (a .past) (a .todo) (a .stands) l in
       let whole : a .past ≡ messagesOf n seed = sym (append-nil (a .past)) ∙ ap (λ (t : List Message). a .past ++ t) (sym (r .0)) ∙ a .split in
       (a .taken ∙ ap (λ (t : List Message). length (allBytes t)) whole, r .1 ∙ ap eventsOf whole, r .2)
 
@@ -532,5 +536,5 @@ load-is-reached s start seed n p cs fits no-stop far u l c =
     let a = all-at s start seed n p fits no-stop wide cs [] (first-at s start seed n p fits no-stop wide) u l in
     let count : length (acceptedOnes (played s (is-open start) (streamOf n seed) p cs .observed)) ≡ countOf h =
     ap (λ (ts : List Observation). length (acceptedOnes ts)) (f .observed) ∙ count-is h in
-    let e = at-end s start seed n p fits no-stop wide h a (rw count at c) in
+    let e = at-end s start seed n p fits no-stop wide h a (inl (rw count at c)) in
     record { taken = f .taken ∙ e .0; none-held = ap holdsBack (f .state) ∙ e .2; events = f .events ∙ e .1 }

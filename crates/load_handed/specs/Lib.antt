@@ -1,2 +1,4 @@
 pub mod LoadHanded
+pub mod Premises
 pub mod Reached
+pub mod Words

@@ -3,7 +3,7 @@
 -- 13; SCOPE 16.2.
 use mathlib.Core.Path.{_≡_}
 use mathlib.Core.List.{List, [], _∷_}
-use Prim.Native.Nat.{ℕ, _+_, _*_, _≤_, _<_, _^_}
+use Prim.Native.Nat.{ℕ, _+_, _*_, _≤_, _<_, _^_, min}
 use mathlib.Core.Bool.{false}
 use lib.ListN.{length}
 use Rattle.lsn.specs.declared.Lsn.{Lsn}
@@ -34,3 +34,18 @@ Load-is-reached =
     (s : Settings) (start : Lsn) (seed n : ℕ) (payload : List ℕ) (cs : List Call)
     → seed < 2 ^ 64 → s .«has_stop» ≡ false → 100 ≤ s .«max_message_size» → Undisturbed cs → AllUnread (length (streamOf n seed)) cs
     → let z : Played = played s (is-open start) (streamOf n seed) payload cs in enough n ≤ length (acceptedOnes (z .observed)) → Reached n seed z
+
+-- calls that reach it: none of them disturbed, and each step lent all bytes
+pub record Reaching (s : Settings) (start : Lsn) (seed n : ℕ) (payload : List ℕ) : Type 0 where
+  pub calls : List Call
+  pub undisturbed : Undisturbed calls
+  pub all-unread : AllUnread (length (streamOf n seed)) calls
+  pub reached : Reached n seed (played s (is-open start) (streamOf n seed) payload calls)
+
+-- there are such calls for every seed and number of messages, so that Load-is-handed-on speaks of each stream: without a stop position, with a limit
+-- of at least 100, and a payload buffer as long as the limit, or 1 GiB
+abbrev pub Load-can-be-reached : Type 0
+Load-can-be-reached =
+    (s : Settings) (start : Lsn) (seed n : ℕ) (payload : List ℕ)
+    → seed < 2 ^ 64 → s .«has_stop» ≡ false → 100 ≤ s .«max_message_size» → min (s .«max_message_size») 1073741824 ≤ length payload
+    → Reaching s start seed n payload

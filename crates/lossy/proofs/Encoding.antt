@@ -15,7 +15,7 @@ use Rattle.lossy.specs.Parts.{Matches, AnyRow, Sequence, AllSequences, c
 use Rattle.lossy.specs.Encoding.{Scalar, trailing, utf8, AllScalars, Scalar-is-sequence, Sequence-is-scalar, Encoded-is-unchanged}
 use Rattle.lossy.proofs.Parts.{well-formed-is-unchanged}
 
-inside : (r : Range) (b : ℕ) → r .low ≤ b → b ≤ r .high → within r b ≡ true
+pub inside : (r : Range) (b : ℕ) → r .low ≤ b → b ≤ r .high → within r b ≡ true
 inside r b h k = simp (le-leb _ _ h, le-leb _ _ k)
 
 -- a byte of six bits
@@ -92,7 +92,7 @@ encoded-is-unchanged cs s = well-formed-is-unchanged (map utf8 cs) (all-sequence
 abbrev to : ℕ → ℕ → Range
 to a b = record { low = a; high = b }
 
-range-of : (r : Range) (b : ℕ) → within r b ≡ true → (r .low ≤ b) × (b ≤ r .high)
+pub range-of : (r : Range) (b : ℕ) → within r b ≡ true → (r .low ≤ b) × (b ≤ r .high)
 range-of r b e = by (leb (r .low) b) refl e
   where
     by : (t : Bool) → leb (r .low) b ≡ t → pick t (leb b (r .high)) false ≡ true → (r .low ≤ b) × (b ≤ r .high)

@@ -8,3 +8,5 @@ pub mod Stretches
 pub mod Marks
 pub mod Encoding
 pub mod Automaton
+pub mod Division
+pub mod Answers

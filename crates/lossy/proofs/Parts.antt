@@ -88,13 +88,13 @@ row-there ((t ∷ ts) ∷ rows) b r rs e =
     (λ q. inl (rw q at e))
     (λ q. inr (row-there rows b r rs (rw q at e)))
 
-any-map : (rows : List (List Range)) (p q : List Range → Type 0) → ((row : List Range) → p row → q row) → AnyRow rows p → AnyRow rows q
+pub any-map : (rows : List (List Range)) (p q : List Range → Type 0) → ((row : List Range) → p row → q row) → AnyRow rows p → AnyRow rows q
 any-map [] p q f w = w
 any-map (row ∷ rows) p q f (inl w) = inl (f row w)
 any-map (row ∷ rows) p q f (inr w) = inr (any-map rows p q f w)
 
 -- some row: which it is
-any-some : (rows : List (List Range)) (p : List Range → Type 0) → AnyRow rows p → (row : List Range) × AnyRow rows (λ x. x ≡ row) × p row
+pub any-some : (rows : List (List Range)) (p : List Range → Type 0) → AnyRow rows p → (row : List Range) × AnyRow rows (λ x. x ≡ row) × p row
 any-some [] p w = absurd w
 any-some (row ∷ rows) p (inl w) = (row, inl refl, w)
 any-some (row ∷ rows) p (inr w) = let v = any-some rows p w in (v .0, inr (v .1), v .2)
@@ -146,7 +146,7 @@ begins-matched [] (b ∷ s) (suc n) h w = absurd w
 begins-matched (r ∷ rs) [] (suc n) h w = absurd (not-suc-le-zero h)
 begins-matched (r ∷ rs) (b ∷ s) (suc n) h w = let i : n ≤ matched rs s = begins-matched rs s n (omega arith) (w .1) in rw (w .0) (omega arith)
 
-matched-front : (row : List Range) (q rest : List ℕ) → Matches row q → (matched row (q ++ rest) ≡ length row) × (length q ≡ length row)
+pub matched-front : (row : List Range) (q rest : List ℕ) → Matches row q → (matched row (q ++ rest) ≡ length row) × (length q ≡ length row)
 unfolding matched
 matched-front [] [] rest w = (refl, refl)
 matched-front [] (b ∷ q) rest w = absurd w

@@ -6,3 +6,5 @@ pub mod Blocks
 pub mod Code
 pub mod Encoding
 pub mod Automaton
+pub mod Division
+pub mod Answers

@@ -62,7 +62,7 @@ half x h =
     let s : length (hexText x) ≤ 8 = hex-short 20 7 x (omega arith) in
     part-number (hexText x) x (sym (part-digits (hexText x) (hex-some 19 x) s) ∙ value-hex 19 x (omega arith))
 
-display-spells : (v : ℕ) → v < 2 ^ 64 → Spells (displayOf v) v
+pub display-spells : (v : ℕ) → v < 2 ^ 64 → Spells (displayOf v) v
 unfolding displayOf
 display-spells v h =
     record {

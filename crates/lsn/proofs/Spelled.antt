@@ -124,7 +124,7 @@ digits-below (c ∷ s) v x =
 number-below : (s : List ℕ) (v : ℕ) → Number s v → v < 2 ^ 32
 number-below s v x = omega (arith, digits-below s v (x .2), power-below (length s) 8 (x .1))
 
-number-part : (s : List ℕ) (v : ℕ) → Number s v → hexPart s ≡ some v
+pub number-part : (s : List ℕ) (v : ℕ) → Number s v → hexPart s ≡ some v
 number-part s v x = sym (part-digits s (x .0) (x .1)) ∙ digits-value s 0 v (x .2) ∙ ap some (omega arith)
 
 pub part-number : (s : List ℕ) (v : ℕ) → hexPart s ≡ some v → Number s v
@@ -167,7 +167,7 @@ unfolding indexOf
 seam [] r x = refl
 seam (c ∷ l) r x = rw (ne-eqb c 47 (x .0), seam l r (x .1)) (ap some (omega arith))
 
-parted : (s : List ℕ) (k : ℕ) → indexOf 47 s ≡ some k → s ≡ take k s ++ (47 ∷ drop (k + 1) s)
+pub parted : (s : List ℕ) (k : ℕ) → indexOf 47 s ≡ some k → s ≡ take k s ++ (47 ∷ drop (k + 1) s)
 unfolding indexOf
 parted [] k e = impossible cc
 parted (c ∷ s) k e =

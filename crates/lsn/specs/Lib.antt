@@ -2,3 +2,4 @@ pub mod Hex
 pub mod Position
 pub mod PositionCases
 pub mod Spelled
+pub mod PositionLaws

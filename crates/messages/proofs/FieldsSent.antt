@@ -50,7 +50,7 @@ last-value payload letter f (e ∷ es) =
     ∙ ap (either x) (entry-value payload letter e f) ∙ either-either x y (valueGiven payload f)
 
 module _ (payload : List ℕ) (fs : List (ℕ × List ℕ)) (l : Laid payload fs) where
-  one-field : (letter : ℕ) → valueGiven payload (lastOf letter absent (entriesOf payload)) ≡ lastValue letter fs
+  pub one-field : (letter : ℕ) → valueGiven payload (lastOf letter absent (entriesOf payload)) ≡ lastValue letter fs
   unfolding fieldsRead
   one-field letter =
       last-value payload letter absent (entriesOf payload) ∙ either-none (lastValue letter (map (said payload) (entriesOf payload)))
@@ -69,7 +69,7 @@ fields-are-sent fs surplus n = fields-are-laid (encode fs ++ (0 ∷ surplus)) fs
 
 -- ---- the text
 
-text-by : (a b : Bool) (m c : List ℕ) → textBy a b m c ≡ textOf (pick a (some m) none) (pick b (some c) none)
+pub text-by : (a b : Bool) (m c : List ℕ) → textBy a b m c ≡ textOf (pick a (some m) none) (pick b (some c) none)
 unfolding coded ascii
 text-by true true m c = refl
 text-by true false m c = refl
@@ -85,7 +85,7 @@ text-is-laid payload fs l =
 
 -- ---- its marks
 
-marks-by : (a : Bool) (s : List ℕ) → pick a (marksOf s) 0 ≡ valueMarks (pick a (some s) none)
+pub marks-by : (a : Bool) (s : List ℕ) → pick a (marksOf s) 0 ≡ valueMarks (pick a (some s) none)
 marks-by true s = refl
 marks-by false s = refl
 

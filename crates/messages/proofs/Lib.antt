@@ -3,3 +3,4 @@ pub mod Text
 pub mod FieldLayout
 pub mod FieldsSent
 pub mod AuthLayout
+pub mod FieldsIndexed

@@ -4,3 +4,4 @@ pub mod ErrorText
 pub mod Auth
 pub mod FieldsSent
 pub mod AuthLayout
+pub mod FieldsIndexed

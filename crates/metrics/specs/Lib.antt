@@ -1,1 +1,2 @@
 pub mod Metrics
+pub mod MetricsLaws

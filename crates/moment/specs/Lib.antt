@@ -1,2 +1,3 @@
 pub mod Moment
 pub mod MomentCases
+pub mod MomentLaws

@@ -1,3 +1,4 @@
 pub mod Alike
 pub mod Cases
 pub mod Leaves
+pub mod Seen

@@ -1,3 +1,4 @@
 pub mod Laws
 pub mod Packed
 pub mod PackedCases
+pub mod Seen

@@ -1,3 +1,4 @@
 pub mod Page
 pub mod PageCases
 pub mod Reader
+pub mod PageLines

@@ -4,3 +4,4 @@ pub mod LayoutFields
 pub mod LayoutBegin
 pub mod LayoutCommit
 pub mod LayoutMessage
+pub mod Said

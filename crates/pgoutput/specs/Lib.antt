@@ -1,3 +1,4 @@
 pub mod Boundary
 pub mod BoundaryCases
 pub mod BoundaryLayout
+pub mod Said

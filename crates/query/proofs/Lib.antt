@@ -1,3 +1,4 @@
 pub mod Laws
 pub mod RowLayout
 pub mod Play
+pub mod Said

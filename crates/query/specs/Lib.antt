@@ -5,3 +5,4 @@ pub mod Fold
 pub mod Played
 pub mod Code
 pub mod Cases
+pub mod Said

@@ -30,7 +30,7 @@ unfolding placeOf
 place-most id [] = omega arith
 place-most id (j ∷ l) = by-test (eqb j id) (λ t. rw t (omega arith)) (λ f. rw f (omega (arith, place-most id l)))
 
-length-relations : (m : Memory) (l : List ℕ) (r : ℕ) → length (relationsFrom m r l) ≡ length l
+pub length-relations : (m : Memory) (l : List ℕ) (r : ℕ) → length (relationsFrom m r l) ≡ length l
 unfolding relationsFrom
 length-relations m [] r = refl
 length-relations m (j ∷ l) r = ap suc (length-relations m l (suc r))

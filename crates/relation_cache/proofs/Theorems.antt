@@ -107,7 +107,7 @@ refused-leaves-all m (refused-by k) n e = refl
 
 -- ---- what is held
 
-held-after : (id j : ℕ) (cs : List Column) (cache : Cache) → columnsOf id (superseded j cs cache) ≡ pick (eqb j id) (some cs) (columnsOf id cache)
+pub held-after : (id j : ℕ) (cs : List Column) (cache : Cache) → columnsOf id (superseded j cs cache) ≡ pick (eqb j id) (some cs) (columnsOf id cache)
 unfolding columnsOf superseded
 held-after id j cs [] = refl
 held-after id j cs (one ∷ others) =
@@ -212,7 +212,7 @@ among s i n k =
     (λ f. rw f (sym (nth-there s n i k (leb-false n k f))))
 
 module _ (m : Memory) (id k : ℕ) where
-  told-column : Sized m → named (m .columns .names) (columnTold m id k) ≡ columnAmong (columnsOf id (cacheOf m)) k
+  pub told-column : Sized m → named (m .columns .names) (columnTold m id k) ≡ columnAmong (columnsOf id (cacheOf m)) k
   told-column z =
       let r : ℕ = slotIn m id in
       by-test (ltb r (length (heldIds m)))

@@ -1,3 +1,4 @@
 pub mod CopyData
 pub mod CopyDataCases
 pub mod CopyDataLayout
+pub mod Said

@@ -23,7 +23,7 @@ use Rattle.request.specs.ReadBack.{restAfter, word, optionsFrom, askedOf
 
 -- ---- words
 
-word-back : (v s : List ℕ) → NoSpace v → word (v ++ (32 ∷ s)) ≡ some (v, s)
+pub word-back : (v s : List ℕ) → NoSpace v → word (v ++ (32 ∷ s)) ≡ some (v, s)
 unfolding word
 word-back [] s n = refl
 word-back (c ∷ v) s n = rw (ne-eqb c 32 (n .0), word-back v s (n .1))
@@ -43,7 +43,7 @@ numeral-no-space (suc n) v =
     (λ t. simp t (glyph-no-space v, tt))
     (λ t. simp t (no-space-append (numeral 16 n (v / 16)) (glyphOf (v % 16) ∷ []) (numeral-no-space n (v / 16)) (glyph-no-space (v % 16), tt)))
 
-display-no-space : (v : ℕ) → NoSpace (displayOf v)
+pub display-no-space : (v : ℕ) → NoSpace (displayOf v)
 unfolding displayOf
 display-no-space v =
     no-space-append (hexText (v / 2 ^ 32)) (47 ∷ hexText (v % 2 ^ 32)) (numeral-no-space 20 (v / 2 ^ 32)) ((λ e. omega arith), numeral-no-space 20 (v % 2 ^ 32))
@@ -51,11 +51,11 @@ display-no-space v =
 -- ---- options
 
 -- the options after the names' closing quote
-abbrev ending : Bool → List ℕ
+abbrev pub ending : Bool → List ℕ
 ending true = ascii ", messages 'true', binary 'true')"
 ending false = ascii ", messages 'true')"
 
-abbrev beginning : List ℕ → List ℕ
+abbrev pub beginning : List ℕ → List ℕ
 beginning s = ascii "proto_version '1', publication_names '" ++ s
 
 options-back : (binary : Bool) (n : ℕ) (names : List (RefT (List ℕ)))
@@ -75,7 +75,7 @@ options-enough binary (suc (suc (suc (suc n)))) names h = options-back binary n 
 -- ---- the query
 
 -- the query in words
-pieces : (binary : Bool) (slot : List ℕ) (names : List (RefT (List ℕ))) (p : Lsn)
+pub pieces : (binary : Bool) (slot : List ℕ) (names : List (RefT (List ℕ))) (p : Lsn)
     → startReplication binary slot names p
     ≡ ascii "START_REPLICATION SLOT " ++ (slot
     ++ (32 ∷ (ascii "LOGICAL " ++ (displayOf (p .0)
@@ -84,11 +84,11 @@ unfolding startReplication ascii
 pieces true slot names p = refl
 pieces false slot names p = refl
 
-after-start : (s : List ℕ) → restAfter (ascii "START_REPLICATION SLOT ") (ascii "START_REPLICATION SLOT " ++ s) ≡ some s
+pub after-start : (s : List ℕ) → restAfter (ascii "START_REPLICATION SLOT ") (ascii "START_REPLICATION SLOT " ++ s) ≡ some s
 unfolding restAfter ascii
 after-start s = refl
 
-after-logical : (s : List ℕ) → restAfter (ascii "LOGICAL ") (ascii "LOGICAL " ++ s) ≡ some s
+pub after-logical : (s : List ℕ) → restAfter (ascii "LOGICAL ") (ascii "LOGICAL " ++ s) ≡ some s
 unfolding restAfter ascii
 after-logical s = refl
 

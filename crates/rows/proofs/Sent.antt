@@ -117,7 +117,7 @@ unfolding bytesOf
 new-bytes (inl v) = ap (λ (l : List ℕ). code "N" ∷ l) (tuple-bytes v)
 new-bytes (inr e) = absurd e
 
-row-bytes : (v : Value rowLayout) → bytesOf rowLayout v ≡ rowBytes (rowOf v)
+pub row-bytes : (v : Value rowLayout) → bytesOf rowLayout v ≡ rowBytes (rowOf v)
 unfolding bytesOf rowBytes
 row-bytes (inl v) = rw (
   length-map (v .1 .1 .1 .1 .1) describedOf,
@@ -182,7 +182,7 @@ map-back f g e (x ∷ xs) = rw (e x, map-back f g e xs)
 cells-back : (cs : List Cell) → map cellOf (map cellValue cs) ≡ cs
 cells-back cs = map-back cellOf cellValue cell-back cs
 
-row-back : (r : Row) → rowOf (rowValue r) ≡ r
+pub row-back : (r : Row) → rowOf (rowValue r) ≡ r
 row-back (relation id space v identity cs) = rw (map-back describedOf describedValue described-back cs)
 row-back (type id space v) = refl
 row-back (origin position v) = refl
@@ -207,7 +207,7 @@ cell-fits unchanged f = tt
 cell-fits (text v) f = f
 cell-fits (binary v) f = f
 
-cell-fitted : (v : Value columnLayout) → Fits columnLayout v → CellFits (cellOf v)
+pub cell-fitted : (v : Value columnLayout) → Fits columnLayout v → CellFits (cellOf v)
 unfolding Fits
 cell-fitted (inl v) f = tt
 cell-fitted (inr (inl v)) f = tt
@@ -219,7 +219,7 @@ pub described-fits : (d : Described) → DescribedFits d → Fits describedLayou
 unfolding Fits
 described-fits (described flags v oid modifier) f = (f .0, (f .1, (f .2, f .3)))
 
-described-fitted : (v : Value describedLayout) → Fits describedLayout v → DescribedFits (describedOf v)
+pub described-fitted : (v : Value describedLayout) → Fits describedLayout v → DescribedFits (describedOf v)
 unfolding Fits
 described-fitted v f = (f .0, f .1 .0, f .1 .1 .0, f .1 .1 .1)
 
@@ -265,7 +265,7 @@ row-fits (delete id Key old) f = (f .0, tuple-fits old (f .1))
 row-fits (delete id Old old) f = (f .0, tuple-fits old (f .1))
 row-fits (truncate options ids) f = (f .1, f .0, f .2)
 
-row-fitted : (v : Value rowLayout) → Fits rowLayout v → RowFits (rowOf v)
+pub row-fitted : (v : Value rowLayout) → Fits rowLayout v → RowFits (rowOf v)
 unfolding Fits
 row-fitted (inl v) f = (
   f .0,

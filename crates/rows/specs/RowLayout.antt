@@ -13,6 +13,7 @@ use Rattle.wire.specs.Find.{NoZero}
 use Rattle.rows.specs.Layout.{Read, got, All, allBytes}
 use Rattle.rows.specs.Rows.{Cell, null, unchanged, text, binary, Described, described, Row, relation, type, origin, insert, update, update-from}
 use Rattle.rows.specs.Rows.{delete, truncate, cellBytes, describedBytes, rowBytes, row, refused-by, rowSaid}
+use Rattle.rows.specs.declared.Which.{Which}
 use Rattle.rows.specs.Head.{columnAt, descriptionAt, identifierAt}
 
 -- ---- rows that can be sent: numbers of their widths, names without a zero byte, counts and lengths that are not negative
@@ -43,6 +44,32 @@ RowFits (update id new) = (id < 2 ^ 32) × TupleFits new
 RowFits (update-from id which old new) = (id < 2 ^ 32) × TupleFits old × TupleFits new
 RowFits (delete id which old) = (id < 2 ^ 32) × TupleFits old
 RowFits (truncate options ids) = (options < 2 ^ 8) × (length ids < 2 ^ 31) × All (λ id. id < 2 ^ 32) ids
+
+-- one holds where the other does
+abbrev pub Both : Type 0 → Type 0 → Type 0
+Both A B = (A → B) × (B → A)
+
+-- what can be sent, with each number written out: no value is left out, and none is added
+pub record FitLaws : Type 0 where
+  pub of-null : CellFits null
+  pub of-unchanged : CellFits unchanged
+  pub of-text : (v : List ℕ) → Both (CellFits (text v)) (length v ≤ 2147483647)
+  pub of-binary : (v : List ℕ) → Both (CellFits (binary v)) (length v ≤ 2147483647)
+  pub of-tuple : (cs : List Cell) → Both (TupleFits cs) ((length cs ≤ 32767) × All CellFits cs)
+  pub of-described : (flags : ℕ) (v : List ℕ) (oid : ℕ) (modifier : ℤ)
+      → Both (DescribedFits (described flags v oid modifier)) ((flags ≤ 255) × NoZero v × (oid ≤ 4294967295) × (mag modifier ≤ 2147483647))
+  pub of-relation : (id : ℕ) (space v : List ℕ) (identity : ℕ) (cs : List Described)
+      → Both (RowFits (relation id space v identity cs))
+      ((id ≤ 4294967295) × NoZero space × NoZero v × (identity ≤ 255) × (length cs ≤ 32767) × All DescribedFits cs)
+  pub of-type : (id : ℕ) (space v : List ℕ) → Both (RowFits (type id space v)) ((id ≤ 4294967295) × NoZero space × NoZero v)
+  pub of-origin : (position : ℕ) (v : List ℕ) → Both (RowFits (origin position v)) ((position ≤ 18446744073709551615) × NoZero v)
+  pub of-insert : (id : ℕ) (new : List Cell) → Both (RowFits (insert id new)) ((id ≤ 4294967295) × TupleFits new)
+  pub of-update : (id : ℕ) (new : List Cell) → Both (RowFits (update id new)) ((id ≤ 4294967295) × TupleFits new)
+  pub of-update-from : (id : ℕ) (which : Which) (old new : List Cell)
+      → Both (RowFits (update-from id which old new)) ((id ≤ 4294967295) × TupleFits old × TupleFits new)
+  pub of-delete : (id : ℕ) (which : Which) (old : List Cell) → Both (RowFits (delete id which old)) ((id ≤ 4294967295) × TupleFits old)
+  pub of-truncate : (options : ℕ) (ids : List ℕ)
+      → Both (RowFits (truncate options ids)) ((options ≤ 255) × (length ids ≤ 2147483647) × All (λ id. id ≤ 4294967295) ids)
 
 -- ---- both directions
 

@@ -1,3 +1,4 @@
 pub mod Clock
 pub mod Read
 pub mod Promise
+pub mod Said

@@ -1,2 +1,3 @@
 pub mod NextStep
 pub mod Promise
+pub mod Said

@@ -1,6 +1,7 @@
 pub mod BitLaws
 pub mod Cases
 pub mod EntryLaws
+pub mod Exact
 pub mod Laws
 pub mod Walk
 pub mod WalkLaws

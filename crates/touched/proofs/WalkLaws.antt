@@ -16,7 +16,7 @@ use Rattle.touched.proofs.Laws.{or-true, among-append}
 use Rattle.touched.proofs.Walk.{begin-append, since-append, changed-append}
 
 -- one or the other is true
-either : (a b : Bool) → pick a true b ≡ true → (a ≡ true) ⊎ (b ≡ true)
+pub either : (a b : Bool) → pick a true b ≡ true → (a ≡ true) ⊎ (b ≡ true)
 either true b h = inl refl
 either false b h = inr h
 
@@ -41,14 +41,14 @@ unfolding fileOf
 entry-later e es id f t w =
     record { front = e ∷ w .front; back = w .back; there = ap (λ (x : List (ℕ × ℕ)). e ∷ x) (w .there); first = rw t (w .first) }
 
-entry-found : (es : List (ℕ × ℕ)) (id f : ℕ) → fileOf es id ≡ some f → FirstEntry es id f
+pub entry-found : (es : List (ℕ × ℕ)) (id f : ℕ) → fileOf es id ≡ some f → FirstEntry es id f
 unfolding fileOf
 entry-found [] id f h = impossible cc
 entry-found (e ∷ es) id f h =
     by-test (eqb (e .0) id) (λ t. entry-here (e .0) (e .1) es id f (eqb-true (e .0) id t) (rw t at h))
     (λ t. entry-later e es id f t (entry-found es id f (rw t at h)))
 
-entry-finds : (front back : List (ℕ × ℕ)) (id f : ℕ) → fileOf front id ≡ none → fileOf (front ++ ((id, f) ∷ back)) id ≡ some f
+pub entry-finds : (front back : List (ℕ × ℕ)) (id f : ℕ) → fileOf front id ≡ none → fileOf (front ++ ((id, f) ∷ back)) id ≡ some f
 unfolding fileOf
 entry-finds [] back id f h = rw (eq-eqb id id refl)
 entry-finds (e ∷ front) back id f h =
@@ -61,14 +61,14 @@ is-file f none h = impossible cc
 is-file f (some g) h = ap (λ (x : ℕ). some x) (eqb-true g f h)
 
 module _ (es : List (ℕ × ℕ)) (f : ℕ) where
-  among-found : (ids : List ℕ) → isAmong es f ids ≡ true → (id : ℕ) × Among id ids × (fileOf es id ≡ some f)
+  pub among-found : (ids : List ℕ) → isAmong es f ids ≡ true → (id : ℕ) × Among id ids × (fileOf es id ≡ some f)
   unfolding isAmong
   among-found [] h = impossible cc
   among-found (x ∷ ids) h =
       by-either (either (isFile f (fileOf es x)) (isAmong es f ids) h) (λ t. (x, inl refl, is-file f (fileOf es x) t))
       (λ t. let w = among-found ids t in (w .0, inr (w .1), w .2))
 
-  among-finds : (ids : List ℕ) (id : ℕ) → Among id ids → fileOf es id ≡ some f → isAmong es f ids ≡ true
+  pub among-finds : (ids : List ℕ) (id : ℕ) → Among id ids → fileOf es id ≡ some f → isAmong es f ids ≡ true
   unfolding isAmong
   among-finds [] id a e = absurd a
   among-finds (x ∷ ids) id (inl p) e = let t : isFile f (fileOf es x) ≡ true = rw (p, e) (eq-eqb f f refl) in rw t

@@ -1,5 +1,6 @@
 pub mod Bits
 pub mod Code
+pub mod Exact
 pub mod ListLaws
 pub mod Touched
 pub mod TouchedCases

@@ -90,7 +90,7 @@ signed-laws =
 
 -- ---- bytes written over a buffer
 
-there : (d : List ℕ) (i : ℕ) (src : List ℕ) → i + length src ≤ length d → at (put d i src) i (length src) ≡ src
+pub there : (d : List ℕ) (i : ℕ) (src : List ℕ) → i + length src ≤ length d → at (put d i src) i (length src) ≡ src
 unfolding put
 there d i src h =
     let l : length (take i d) ≡ i = simp length-take (omega arith) in

@@ -173,7 +173,7 @@ pub halves : (n : ℕ) → 0 < n → half n * 2 ≡ 256 ^ n
 halves zero h = absurd (omega arith)
 halves (suc n) h = rw pow-suc (omega arith)
 
-value-fits : (n : ℕ) (z : ℤ) → 0 < n → mag z < half n → unsigned (half n) z < 256 ^ n
+pub value-fits : (n : ℕ) (z : ℤ) → 0 < n → mag z < half n → unsigned (half n) z < 256 ^ n
 value-fits n z h b = omega (arith, halves n h, unsigned-below (half n) z b)
 
 module _ (n : ℕ) (s : List ℕ) (i : ℕ) (h : 0 < n) where

@@ -4,3 +4,4 @@ pub mod FieldLaws
 pub mod FindLaws
 pub mod Pieces
 pub mod Cases
+pub mod AllValues

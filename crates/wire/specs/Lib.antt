@@ -3,3 +3,4 @@ pub mod Cases
 pub mod Field
 pub mod Find
 pub mod Int
+pub mod AllValues

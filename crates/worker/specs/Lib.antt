@@ -5,3 +5,4 @@ pub mod Streaming
 pub mod Step
 pub mod Opening
 pub mod Answer
+pub mod Said
