@@ -1,5 +1,5 @@
 //! The model of a run that makes the project's vectors, with what their makers share, as a crate.
-#![allow(dead_code)]
+#![allow(dead_code, clippy::should_implement_trait)]
 
 #[path = "../../../vectors/coverage.rs"]
 mod coverage;

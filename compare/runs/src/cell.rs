@@ -1,5 +1,6 @@
 //! The progress cell compared: lists of calls, on the Rust's and on the project's, short ones and random ones, the first difference.
 
+use crate::classes::{Classes, Wanted};
 use crate::draw::Draw;
 use original::client::worker::reach;
 use rufflesquash::{Lsn, Moment, ProgressCell};
@@ -200,7 +201,8 @@ fn number(draw: &mut Draw) -> u64 {
 fn random(draw: &mut Draw, list: &mut Calls) {
     (list.start, list.timed) = (number(draw), !draw.once_in(4));
     list.calls.clear();
-    for _ in 0..1 + draw.below(12) {
+    let length = if draw.once_in(200) { draw.upto(2_000) } else { 1 + draw.below(12) };
+    for _ in 0..length {
         list.calls.push(match draw.below(8) {
             0..=3 => Call::Raise(number(draw), number(draw)),
             4 => Call::TakeSignal,
@@ -213,27 +215,57 @@ fn random(draw: &mut Draw, list: &mut Calls) {
 /// The length up to which all short lists are compared.
 const SHORT: usize = 4;
 
-/// Compares the short lists, then so many random ones; how many there were, or the first difference.
-pub fn compare_cells<A: Cell, B: Cell>(count: u64, seed: u64) -> Result<u64, String> {
-    let (mut done, mut found) = (0, None);
+/// How many lists were compared, and what was met by them: a line for each kind of size, and the classes that were not met.
+#[derive(Debug)]
+pub struct Compared {
+    pub lists: u64,
+    pub lines: Vec<String>,
+    pub missing: Vec<String>,
+}
+
+const CALLS: &str = "calls in a list";
+const POSITION: &str = "position in a call on a cell";
+const MOMENT: &str = "moment in a call on a cell";
+const ROWS: &[Wanted] =
+    &[Wanted { what: CALLS, from: 0, to: 2_000 }, Wanted { what: POSITION, from: 0, to: u64::MAX }, Wanted { what: MOMENT, from: 0, to: u64::MAX }];
+
+fn count(met: &mut Classes, list: &Calls) {
+    met.count(CALLS, list.calls.len() as u64);
+    for call in &list.calls {
+        match call {
+            Call::Raise(position, moment) | Call::TakePending(position, moment) => {
+                met.count(POSITION, *position);
+                met.count(MOMENT, *moment);
+            }
+            Call::CarryPending(moment) => met.count(MOMENT, *moment),
+            Call::TakeSignal => {}
+        }
+    }
+}
+
+/// Compares the short lists, then so many random ones; what was met, or the first difference.
+pub fn compare_cells<A: Cell, B: Cell>(random_lists: u64, seed: u64) -> Result<Compared, String> {
+    let (mut lists, mut found) = (0, None);
     let mut see = |list: &Calls| {
-        done += 1;
+        lists += 1;
         if found.is_none() && difference::<A, B>(list).is_some() {
             found = Some(list.clone());
         }
     };
     short(SHORT, &mut see);
-    let mut draw = Draw::new(seed);
+    let (mut draw, mut met) = (Draw::new(seed), Classes::default());
     let mut list = Calls { start: 0, timed: false, calls: Vec::new() };
-    for _ in 0..count {
+    for _ in 0..random_lists {
         random(&mut draw, &mut list);
         see(&list);
+        count(&mut met, &list);
     }
-    found.map_or(Ok(done), |list| Err(cut_down::<A, B>(list)))
+    let (lines, missing) = met.print(ROWS);
+    found.map_or(Ok(Compared { lists, lines, missing }), |list| Err(cut_down::<A, B>(list)))
 }
 
-pub fn compare_with_the_project(count: u64, seed: u64) -> Result<u64, String> {
-    compare_cells::<reach::Cell, ProgressCell>(count, seed)
+pub fn compare_with_the_project(random_lists: u64, seed: u64) -> Result<Compared, String> {
+    compare_cells::<reach::Cell, ProgressCell>(random_lists, seed)
 }
 
 #[cfg(test)]
@@ -281,6 +313,6 @@ mod tests {
 
     #[test]
     fn the_project_agrees_with_the_rust() {
-        assert_eq!(compare_with_the_project(1_000, 7).map(|n| n > 900_000), Ok(true));
+        assert_eq!(compare_with_the_project(1_000, 7).map(|compared| compared.lists > 900_000), Ok(true));
     }
 }

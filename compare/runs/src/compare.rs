@@ -30,6 +30,12 @@ pub fn compare(first: &mut dyn Side, second: &mut dyn Side, scenario: &Scenario)
     Some(difference(first.name(), &a, second.name(), &b))
 }
 
+/// Two sides that go step by step, and so agree in all of it; the n-th status of both bears the n-th client time.
+pub fn compare_steps(first: &mut dyn Side, second: &mut dyn Side, scenario: &Scenario, times: &[i64]) -> Option<String> {
+    let (a, b) = (first.run(scenario, times), second.run(scenario, times));
+    (a != b).then(|| difference(first.name(), &a, second.name(), &b))
+}
+
 /// The Rust says nothing of the server's CopyDone. A side that goes step by step must have ended there where it took the whole message, and
 /// nowhere else, with its own CopyDone as the last thing that it did.
 fn wrong_end(scenario: &Scenario, b: &Trace) -> Option<String> {
@@ -46,7 +52,7 @@ fn wrong_end(scenario: &Scenario, b: &Trace) -> Option<String> {
 
 /// Where the first CopyDone after the opening ends, counted from the stream's first byte.
 fn copy_done_in(scenario: &Scenario) -> Option<usize> {
-    let bytes: Vec<u8> = pieces(scenario).flatten().copied().collect();
+    let bytes = scenario.stream();
     let mut messages = messages_of(scenario).into_iter();
     if !scenario.open {
         messages.find(|(from, _)| bytes[*from] == b'W')?;
@@ -133,6 +139,8 @@ impl Shrinking<'_> {
     /// One go at everything; whether anything went.
     fn pass(&mut self) -> bool {
         let before = self.best.clone();
+        // A queue of one place is full after one event.
+        self.with(|s| s.queue = 1);
         self.rounds();
         self.happenings();
         self.during();
@@ -327,12 +335,7 @@ impl Shrinking<'_> {
         self.with(|s| s.slot = plain.slot.clone());
         self.with(|s| s.publications = plain.publications.clone());
         self.with(|s| s.limit = plain.limit);
-        // Of these the first that will do.
-        for queue in [plain.queue, 1] {
-            if self.best.queue == queue || self.with(|s| s.queue = queue) {
-                break;
-            }
-        }
+        self.with(|s| s.queue = plain.queue);
         let intervals = [86_400_000, 1_000, 10, 5, 2, 1];
         for interval in intervals {
             if self.best.status == interval || self.with(|s| s.status = interval) {
@@ -360,14 +363,10 @@ fn earlier(round: &mut Round, less: u64) {
 /// The shortest message that is skipped.
 const SKIPPED: &[u8] = b"N\0\0\0\x04";
 
-fn pieces(s: &Scenario) -> impl Iterator<Item = &Vec<u8>> {
-    s.rounds.iter().flat_map(|round| &round.what).filter_map(|what| if let Happening::Bytes(b) = what { Some(b) } else { None })
-}
-
 /// Where the messages of all the bytes begin and end, whatever the pieces; after a header that is none, or one that is not whole, there are
 /// no more.
 fn messages_of(s: &Scenario) -> Vec<(usize, usize)> {
-    let bytes = pieces(s).flatten().copied().collect::<Vec<u8>>();
+    let bytes = s.stream();
     let (mut at, mut all) = (0, Vec::new());
     while let Some(header) = bytes.get(at..at + 5) {
         let length = u32::from_be_bytes(header[1..].try_into().unwrap()) as usize;
@@ -383,7 +382,7 @@ fn messages_of(s: &Scenario) -> Vec<(usize, usize)> {
 /// Puts other bytes in the place of messages. A cut between two pieces that lies in one stays as far after its beginning as it can; pieces
 /// of which nothing is left go.
 fn replace(s: &mut Scenario, messages: &[(usize, usize)], by: impl Fn(&[u8]) -> Vec<u8>) {
-    let whole: Vec<u8> = pieces(s).flatten().copied().collect();
+    let whole = s.stream();
     let mut done = Vec::with_capacity(whole.len());
     // For each replaced stretch where it began and ended, and where it does now.
     let mut moved: Vec<[usize; 4]> = Vec::new();

@@ -1,11 +1,15 @@
-//! Which tests of the step table, and which refusals, the scenarios reached, as a side that goes step by step shows it.
+//! Which states, tests of the step table and refusals the scenarios reached, as a side that goes step by step shows it, and which sizes they had.
 
+use crate::sizes::Sizes;
 use crate::stepped::Answer;
 use rufflesquash::{Input, Queue, State};
 use std::collections::HashMap;
 
 #[derive(Clone, Default)]
 pub struct Coverage {
+    pub sizes: Sizes,
+    /// Steps that were made in a state, and runs that reached the last one.
+    states: [u64; STATES.len()],
     reached: HashMap<&'static str, u64>,
     refusals: HashMap<String, u64>,
     stalled: bool,
@@ -86,6 +90,8 @@ const ROWS: &[&str] = &[
     "a waiting time of 0",
 ];
 
+const STATES: &[State] = &[State::Opening, State::Turn, State::Drain, State::Reading, State::Waiting, State::Handling, State::Offering, State::Ended];
+
 /// Refusals that a server can provoke, by the state that meets them.
 const REFUSALS: &[(State, &[u8])] = &[
     (State::Opening, &[6, 7, 8, 9, 19]),
@@ -111,7 +117,15 @@ impl Coverage {
         *self.reached.entry(what).or_insert(0) += 1;
     }
 
+    /// A step in a state, and a run that ended.
+    fn in_states(&mut self, before: State, after: State) {
+        for (state, count) in STATES.iter().zip(&mut self.states) {
+            *count += (*state == before || *state == State::Ended && after == State::Ended) as u64;
+        }
+    }
+
     pub fn step(&mut self, before: State, input: &Input, unread: &[u8], answer: &Answer, up: Up) {
+        self.in_states(before, answer.state);
         self.times(before, answer, &up);
         if answer.state == State::Handling && before != State::Handling {
             self.in_wait = before == State::Waiting;
@@ -242,7 +256,7 @@ impl Coverage {
         }
     }
 
-    /// One line for each test and refusal, how often it was reached; then what was not.
+    /// One line for each state, test and refusal, how often it was reached; then what was not.
     pub fn print(&self) -> (String, Vec<String>) {
         let (mut lines, mut missing) = (Vec::new(), Vec::new());
         let mut line = |what: String, count: u64| {
@@ -251,6 +265,9 @@ impl Coverage {
                 missing.push(what);
             }
         };
+        for (state, count) in STATES.iter().zip(self.states) {
+            line(format!("{state:?}"), count);
+        }
         for row in ROWS {
             line(row.to_string(), self.reached.get(row).copied().unwrap_or(0));
         }

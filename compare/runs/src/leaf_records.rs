@@ -1,19 +1,26 @@
 //! The leaves compared: records of the program `leaves`, whoever answers them, and the first difference.
 
+mod archive;
 mod inputs;
+mod large;
 mod lines;
+mod tally;
 
+pub use archive::Archive;
 pub use inputs::{random, short};
 pub use lines::OriginalLeaves;
+pub use tally::Tally;
 
 use crate::draw::Draw;
 use crate::rust_leaves;
 use crate::text::hex;
 use inputs::lengthened;
+use large::{large, Bounds, Input, ARCHIVE, PROGRAM};
 use std::io::{Read, Write};
 use std::path::PathBuf;
 use std::process::{Command, Stdio};
 use std::sync::mpsc::{sync_channel, SyncSender};
+use std::time::{Duration, Instant};
 
 /// Whatever answers records.
 pub trait Leaves {
@@ -22,9 +29,6 @@ pub trait Leaves {
     /// One line for each record.
     fn answer(&mut self, records: &[u8]) -> Vec<u8>;
 }
-
-/// The kinds of records.
-const KINDS: &[u8] = b"pdluwefacbrqytzxosgm";
 
 // ---- records
 
@@ -138,41 +142,51 @@ fn with_texts(line: &str) -> String {
 // ---- comparing
 
 /// The record, both lines, where they differ.
-fn differing(first: &mut dyn Leaves, second: &mut dyn Leaves, kind: u8, input: &[u8]) -> Option<(String, String)> {
+fn differing(first: &mut dyn Leaves, second: &mut dyn Leaves, kind: u8, room: usize, input: &[u8]) -> Option<(String, String)> {
     let mut record = Vec::new();
-    put_record(kind, input, &mut record);
+    put_record_in(kind, room, input, &mut record);
     let line = |leaves: &mut dyn Leaves| String::from_utf8_lossy(&leaves.answer(&record)).trim_end().to_string();
     let (a, b) = (line(first), line(second));
     (a != b && a != with_texts(&b)).then_some((a, b))
 }
 
-/// An input to which two answer differently, cut down, and both answers.
-fn cut_down(first: &mut dyn Leaves, second: &mut dyn Leaves, kind: u8, input: &[u8]) -> String {
-    let fixed = match kind {
+/// How many bytes at an input's beginning are not its own to cut.
+fn fixed(kind: u8, input: &[u8]) -> usize {
+    match kind {
         b'd' | b't' => input.len(),
         b'g' => 7,
         b's' => 4,
         _ => 0,
-    };
+    }
+}
+
+/// Whether both sides take it.
+fn is_usable(kind: u8, input: &[u8]) -> bool {
     let well_formed = |text: &[u8]| std::str::from_utf8(text).is_ok();
+    match kind {
+        b'p' | b'q' => well_formed(input),
+        b'o' | b's' => {
+            let named = &input[fixed(kind, input)..];
+            let all = texts(named);
+            lengthened(all.iter().copied()) == named && all.iter().all(|t| well_formed(t)) && (kind == b'o' || all.len() % 2 == 0)
+        }
+        _ => true,
+    }
+}
+
+/// An input to which two answer differently, cut down, and both answers. The output has its usual length where it had before.
+fn cut_down(first: &mut dyn Leaves, second: &mut dyn Leaves, kind: u8, output: usize, input: &[u8]) -> String {
+    let usual = output == room(kind, input);
+    let room_of = |input: &[u8]| if usual { room(kind, input) } else { output };
+    let until = Instant::now() + Duration::from_secs(60);
     let mut best = input.to_vec();
     let mut size = best.len();
     while size > 0 {
-        let mut from = fixed;
-        while from < best.len() {
+        let mut from = fixed(kind, input);
+        while from < best.len() && Instant::now() < until {
             let mut candidate = best.clone();
             candidate.drain(from..(from + size).min(best.len()));
-            let usable = match kind {
-                b'p' | b'q' => well_formed(&candidate),
-                b'o' | b's' => {
-                    let all = texts(&candidate[fixed..]);
-                    lengthened(all.iter().copied()) == candidate[fixed..]
-                        && all.iter().all(|t| well_formed(t))
-                        && (kind == b'o' || all.len() % 2 == 0)
-                }
-                _ => true,
-            };
-            if usable && differing(first, second, kind, &candidate).is_some() {
+            if is_usable(kind, &candidate) && differing(first, second, kind, room_of(&candidate), &candidate).is_some() {
                 best = candidate;
             } else {
                 from += size;
@@ -180,8 +194,10 @@ fn cut_down(first: &mut dyn Leaves, second: &mut dyn Leaves, kind: u8, input: &[
         }
         size /= 2;
     }
-    let (a, b) = differing(first, second, kind, &best).unwrap_or(("the difference does not come again".to_string(), String::new()));
-    format!("leaf {} {}\n{}: {a}\n{}: {b}", kind as char, hex(&best), first.name(), second.name())
+    let found = differing(first, second, kind, room_of(&best), &best);
+    let (a, b) = found.unwrap_or(("the difference does not come again".to_string(), String::new()));
+    let output = if usual { String::new() } else { format!(" with an output of {output}") };
+    format!("leaf {} {}{output}\n{}: {a}\n{}: {b}", kind as char, hex(&best), first.name(), second.name())
 }
 
 /// The first record whose lines differ.
@@ -212,7 +228,7 @@ struct Gathering<'a> {
     to: SyncSender<Answered>,
     open: bool,
     lot: Vec<u8>,
-    counts: [u64; 256],
+    tally: Tally,
     done: u64,
 }
 
@@ -222,59 +238,103 @@ impl Gathering<'_> {
         if self.open && self.lot.len() >= least {
             let lot = std::mem::take(&mut self.lot);
             let lines = self.first.answer(&lot);
+            self.tally.add(&lot, &lines);
             self.open = self.to.send((lot, lines)).is_ok();
         }
         self.open
     }
 
     fn add(&mut self, kind: u8, input: &[u8]) {
+        self.add_in(kind, room(kind, input), input);
+    }
+
+    fn add_in(&mut self, kind: u8, room: usize, input: &[u8]) {
         if self.hand_on(LOT) {
-            self.counts[kind as usize] += 1;
             self.done += 1;
-            put_record(kind, input, &mut self.lot);
+            put_record_in(kind, room, input, &mut self.lot);
         }
     }
 
-    /// The short inputs, then random ones until there were as many as wished; how many of each kind. Of fewer than there are short ones half are
-    /// short, the first of each kind and one of so many; where none are wished the short ones are played alone.
-    fn all(mut self, count: u64, seed: u64) -> [u64; 256] {
-        let mut there = 0;
-        short(&mut |_, _| there += 1);
-        let every = if count == 0 { 1 } else { (2 * there / count).max(1) };
-        let mut place = seed;
+    /// Inputs of every length, so many.
+    fn large(&mut self, count: u64, seed: u64, bounds: &Bounds) {
+        let mut draw = Draw::new(!seed);
+        for i in 0..count {
+            if !self.open {
+                return;
+            }
+            let Input { kind, room, bytes } = large(&mut draw, i, bounds);
+            self.add_in(kind, room, &bytes);
+        }
+    }
+
+    /// The short inputs, then inputs of every length and random ones until there were as many as wished. Of fewer than there are short ones half
+    /// are short, the first of each kind and one of so many; where none are wished the short ones are played alone.
+    fn all(&mut self, count: u64, seed: u64) {
+        let there = short_inputs();
+        let every = (2 * there).checked_div(count).map_or(1, |every| every.max(1));
+        let (mut place, mut seen) = (seed, [false; 256]);
         short(&mut |kind, input| {
-            if count >= there || place % every == 0 || self.counts[kind as usize] == 0 {
+            if count >= there || place % every == 0 || !seen[kind as usize] {
+                seen[kind as usize] = true;
                 self.add(kind, input);
             }
             place += 1;
         });
+        self.tally.short = self.done;
+        self.large(count.saturating_sub(self.done) / LARGE, seed, &PROGRAM);
         let mut draw = Draw::new(seed);
         while self.done < count && self.open {
             let (kind, input) = random(&mut draw);
             self.add(kind, &input);
         }
-        self.hand_on(1);
-        self.counts
     }
 }
 
-/// Compares short inputs, then random ones until there were as many as wished; how many of each kind, or the first difference. The second
-/// side works beside the first.
-pub fn compare_leaves(first: &mut dyn Leaves, second: &mut (dyn Leaves + Send), count: u64, seed: u64) -> Result<Vec<(u8, u64)>, String> {
-    let (counts, found) = std::thread::scope(|scope| {
+/// Of so many inputs that are not short one has any length.
+const LARGE: u64 = 50;
+
+/// How many short inputs there are.
+pub fn short_inputs() -> u64 {
+    let mut there = 0;
+    short(&mut |_, _| there += 1);
+    there
+}
+
+/// Gathers records on the first side, and compares the second's lines beside it; what was met, or the first difference.
+fn compare_gathered(
+    first: &mut dyn Leaves,
+    second: &mut (dyn Leaves + Send),
+    tally: Tally,
+    gather: impl FnOnce(&mut Gathering),
+) -> Result<Tally, String> {
+    let (tally, found) = std::thread::scope(|scope| {
         let (to, lots) = sync_channel::<Answered>(2);
         let beside = &mut *second;
         let compared = scope.spawn(move || {
             lots.into_iter().find_map(|(lot, lines)| {
                 let differing = first_difference(&lot, &lines, &beside.answer(&lot));
-                differing.map(|record| (record.kind, record.input.to_vec()))
+                differing.map(|record| (record.kind, record.room, record.input.to_vec()))
             })
         });
-        let gathering = Gathering { first: &mut *first, to, open: true, lot: Vec::new(), counts: [0; 256], done: 0 };
-        (gathering.all(count, seed), compared.join().unwrap())
+        let mut gathering = Gathering { first: &mut *first, to, open: true, lot: Vec::new(), tally, done: 0 };
+        gather(&mut gathering);
+        gathering.hand_on(1);
+        let Gathering { to, tally, .. } = gathering;
+        drop(to);
+        (tally, compared.join().unwrap())
     });
     match found {
-        Some((kind, input)) => Err(cut_down(first, second, kind, &input)),
-        None => Ok(KINDS.iter().map(|k| (*k, counts[*k as usize])).collect()),
+        Some((kind, room, input)) => Err(cut_down(first, second, kind, room, &input)),
+        None => Ok(tally),
     }
+}
+
+/// Compares short inputs, inputs of every length and random ones until there were as many as wished.
+pub fn compare_leaves(first: &mut dyn Leaves, second: &mut (dyn Leaves + Send), count: u64, seed: u64) -> Result<Tally, String> {
+    compare_gathered(first, second, Tally::new(false), |gathering| gathering.all(count, seed))
+}
+
+/// Compares so many inputs of every length up to what a call may be lent, and just over it, with the archive.
+pub fn compare_archive(count: u64, seed: u64) -> Result<Tally, String> {
+    compare_gathered(&mut OriginalLeaves, &mut Archive, Tally::new(true), |gathering| gathering.large(count, seed, &ARCHIVE))
 }

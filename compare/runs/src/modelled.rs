@@ -37,16 +37,9 @@ impl Modelled {
 }
 
 impl Steps for Modelled {
-    fn begin(&mut self, s: &Scenario) -> Vec<u8> {
-        let millis = 1_000_000;
-        let settings = model::Settings {
-            status: s.status * millis,
-            idle: s.idle * millis,
-            limit: s.limit,
-            stop_at: s.stop_at,
-            timing: s.timing,
-            binary: s.binary,
-        };
+    fn begin(&mut self, s: &Scenario, unit: u64) -> Vec<u8> {
+        let settings =
+            model::Settings { status: s.status * unit, idle: s.idle * unit, limit: s.limit, stop_at: s.stop_at, timing: s.timing, binary: s.binary };
         let names: Vec<Vec<u8>> = s.publications.iter().map(|p| p.as_bytes().to_vec()).collect();
         let query = if s.open { Vec::new() } else { model::query(&settings, s.slot.as_bytes(), &names, s.query) };
         let state = if s.open { model::State::Turn } else { model::State::Opening };

@@ -304,18 +304,23 @@ impl<'a> Worker<'a> {
         .await
     }
 
-    /// Lets the clock go on to a moment; timers that are due before it are served at their own moments, those due at it are only due.
+    /// Lets the clock go on to a moment. A time that is up before it is met at its own moment, and the run goes on until nothing more can be done
+    /// then, also where time passes in its calls; times that are up at the moment itself are only due.
     async fn until(&mut self, moment: Instant) {
-        if Instant::now() >= moment {
-            return;
+        while Instant::now() < moment && !self.reaches(moment).await {
+            self.settle().await;
         }
+    }
+
+    /// Whether the moment comes before the run can go on.
+    async fn reaches(&mut self, moment: Instant) -> bool {
         let mut timer = Box::pin(tokio::time::sleep_until(moment));
         poll_fn(|cx| {
             if timer.as_mut().poll(cx).is_ready() {
-                return Poll::Ready(());
+                return Poll::Ready(true);
             }
             if self.rung() {
-                self.poll(cx);
+                return Poll::Ready(false);
             }
             Poll::Pending
         })

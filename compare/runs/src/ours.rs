@@ -26,10 +26,10 @@ fn written(text: &[u8], out: &mut Vec<u8>, write: impl Fn(&[u8], &mut [u8]) -> R
 }
 
 impl Steps for Ours {
-    fn begin(&mut self, s: &Scenario) -> Vec<u8> {
+    fn begin(&mut self, s: &Scenario, unit: u64) -> Vec<u8> {
         let settings = Settings {
-            status_interval: Duration::from_millis(s.status),
-            idle_wakeup_interval: Duration::from_millis(s.idle),
+            status_interval: Duration::from_nanos(s.status * unit),
+            idle_wakeup_interval: Duration::from_nanos(s.idle * unit),
             max_message_size: s.limit as usize,
             stop_at_lsn: s.stop_at.map(Lsn),
             timing: s.timing,

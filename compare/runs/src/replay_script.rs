@@ -44,9 +44,9 @@ impl Recorder {
 }
 
 impl Steps for Recorder {
-    fn begin(&mut self, s: &Scenario) -> Vec<u8> {
+    fn begin(&mut self, s: &Scenario, unit: u64) -> Vec<u8> {
         let mut out = vec![b'R', s.open as u8];
-        for n in [s.status * 1_000_000, s.idle * 1_000_000, s.limit, s.query, s.start] {
+        for n in [s.status * unit, s.idle * unit, s.limit, s.query, s.start] {
             out.extend(n.to_be_bytes());
         }
         out.push(s.stop_at.is_some() as u8);
@@ -75,7 +75,7 @@ impl Steps for Recorder {
         (self.script, self.place, self.calls, self.files) = (out, 0, 0, Files::new(s.start));
         self.place = self.script.len();
         self.script.extend([0; 4]);
-        let query = self.model.begin(s);
+        let query = self.model.begin(s, unit);
         self.lines = format!("OPEN 0 {} {}\n", query.len(), sum(&filled(&query, OPENING, FILLS[1])));
         query
     }

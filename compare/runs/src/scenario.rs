@@ -8,6 +8,11 @@ pub const LONGEST_PIECE: usize = 131_072;
 /// The last moment, in milliseconds, that a step takes: moment 0 is a step's millisecond 1.
 pub const LAST_MOMENT: u64 = 9_223_372_036_853;
 
+/// The longest interval, in milliseconds.
+pub const LONGEST_INTERVAL: u64 = 86_400_000;
+/// How many bytes a call may be lent.
+pub const LENT: usize = 1_048_576;
+
 #[derive(Clone, Debug, PartialEq)]
 pub struct Scenario {
     /// Begins after the `W` that accepted the query.
@@ -122,12 +127,15 @@ impl Default for Scenario {
 impl Scenario {
     /// Inside the domain of the comparison, as far as settings and rounds decide it.
     pub fn sound(&self) -> Result<(), String> {
-        let intervals = 1..=86_400_000;
+        let intervals = 1..=LONGEST_INTERVAL;
         if !intervals.contains(&self.status) || !intervals.contains(&self.idle) {
             return Err("an interval is not 1 to 86,400,000 ms".to_string());
         }
         if self.limit >= 131_072 {
             return Err("the limit is not below 131,072".to_string());
+        }
+        if self.names() > LENT {
+            return Err(format!("the names have more than {LENT} bytes"));
         }
         if self.queue == 0 {
             return Err("the queue has no room".to_string());
@@ -147,16 +155,27 @@ impl Scenario {
         Ok(())
     }
 
+    /// How many bytes the slot and the publications have together.
+    pub fn names(&self) -> usize {
+        self.slot.len() + self.publications.iter().map(String::len).sum::<usize>()
+    }
+
+    /// The pieces of the stream, in order.
+    pub fn pieces(&self) -> impl Iterator<Item = &Vec<u8>> {
+        self.rounds.iter().flat_map(|round| &round.what).filter_map(|what| if let Happening::Bytes(b) = what { Some(b) } else { None })
+    }
+
+    /// All of the stream.
+    pub fn stream(&self) -> Vec<u8> {
+        self.pieces().map(Vec::as_slice).collect::<Vec<_>>().concat()
+    }
+
     /// Every opening reply lies within the limit, or is refused whatever the limit: the Rust reads it with a limit of its own.
     pub fn in_domain(&self) -> bool {
         if self.open {
             return true;
         }
-        let pieces = self.rounds.iter().flat_map(|round| &round.what).filter_map(|what| match what {
-            Happening::Bytes(bytes) => Some(bytes.as_slice()),
-            _ => None,
-        });
-        let bytes = pieces.collect::<Vec<_>>().concat();
+        let bytes = self.stream();
         let mut at = 0;
         while let Some(header) = bytes.get(at..at + 5) {
             let length = i32::from_be_bytes(header[1..].try_into().unwrap()) as i64 - 4;

@@ -21,10 +21,27 @@ pub struct Answer {
     pub error: Vec<u8>,
 }
 
+/// What the times of a scenario are to a run, in nanoseconds: how long one of them is, and the moment that 0 stands for.
+#[derive(Clone, Copy)]
+pub struct Clock {
+    pub unit: u64,
+    pub first: u64,
+}
+
+/// Milliseconds, beside the Rust. Moment 0 is a step's millisecond 1; a step takes none below.
+pub const MILLISECONDS: Clock = Clock { unit: 1_000_000, first: 1_000_000 };
+
+impl Clock {
+    fn moment(&self, time: u64) -> Moment {
+        Moment(self.first + time * self.unit)
+    }
+}
+
 /// The calls of a run.
 pub trait Steps {
-    /// Begins a fresh run of the scenario's settings, its names and positions; the bytes of the query, none where it is open.
-    fn begin(&mut self, scenario: &Scenario) -> Vec<u8>;
+    /// Begins a fresh run of the scenario's settings, its names and positions, with intervals of so many times the unit; the bytes of the query,
+    /// none where it is open.
+    fn begin(&mut self, scenario: &Scenario, unit: u64) -> Vec<u8>;
     fn step(&mut self, input: &Input, unread: &[u8]) -> Answer;
     /// A file's report; the number of its refusal, 0 for none.
     fn report(&mut self, file: u64, position: u64, moment: Moment) -> u8;
@@ -33,11 +50,6 @@ pub trait Steps {
         (0..FILES).for_each(|file| assert_eq!(self.report(file, position, moment), 0, "the refusal of a report"));
     }
     fn metrics(&self) -> Metrics;
-}
-
-/// Moment 0 of a scenario, as a step's moment; a step takes none below 1.
-fn moment_of(millis: u64) -> Moment {
-    Moment((millis + 1) * 1_000_000)
 }
 
 /// Every message has 5 bytes at least and takes fewer than 20 steps: a run that makes more at one moment goes round for ever.
@@ -50,6 +62,7 @@ fn most_steps(scenario: &Scenario) -> usize {
 pub struct Stepped<R: Steps> {
     pub name: &'static str,
     pub run: R,
+    pub clock: Clock,
     pub coverage: Coverage,
     /// Steps made, all scenarios together.
     pub steps: u64,
@@ -93,7 +106,7 @@ impl<R: Steps> Side for Stepped<R> {
     }
 
     fn run(&mut self, scenario: &Scenario, client_times: &[i64]) -> Trace {
-        let query = self.run.begin(scenario);
+        let query = self.run.begin(scenario, self.clock.unit);
         let mut host = Host::new(scenario, client_times);
         if !scenario.open {
             host.trace.lines.push((0, Line::Write(query)));
@@ -112,6 +125,7 @@ impl<R: Steps> Side for Stepped<R> {
             self.settle(&mut host);
             host.trace.metrics.push(self.run.metrics());
         }
+        self.coverage.sizes.scenario(scenario, &host.trace);
         self.outside += host.trace.outside.is_some() as u64;
         self.done += host.trace.done.is_some() as u64;
         host.trace
@@ -120,7 +134,7 @@ impl<R: Steps> Side for Stepped<R> {
 
 impl<R: Steps + Default> Stepped<R> {
     pub fn new(name: &'static str) -> Self {
-        Stepped { name, run: R::default(), coverage: Coverage::default(), steps: 0, outside: 0, done: 0 }
+        Stepped { name, run: R::default(), clock: MILLISECONDS, coverage: Coverage::default(), steps: 0, outside: 0, done: 0 }
     }
 }
 
@@ -130,11 +144,11 @@ impl<R: Steps> Stepped<R> {
             Happening::Bytes(bytes) => host.pieces.push_back(bytes),
             Happening::End => host.ended = true,
             Happening::Stop => host.stop = true,
-            Happening::Report(position) => self.report_all(host, *position, moment_of(host.now)),
-            Happening::ReportFrom(position, at) => self.report_all(host, *position, moment_of(*at)),
+            Happening::Report(position) => self.report_all(host, *position, self.clock.moment(host.now)),
+            Happening::ReportFrom(position, at) => self.report_all(host, *position, self.clock.moment(*at)),
             Happening::File(file, position) => {
                 host.files.report(*file, *position);
-                let refusal = self.run.report(*file, *position, moment_of(host.now));
+                let refusal = self.run.report(*file, *position, self.clock.moment(host.now));
                 assert_eq!(refusal, if *file < FILES { 0 } else { 31 }, "the refusal of a report of file {file}");
             }
             Happening::Take(n) => host.queued -= host.queued.min(*n),
@@ -184,7 +198,7 @@ impl<R: Steps> Stepped<R> {
             None => host.held.make_contiguous(),
         };
         let input = Input {
-            moment: moment_of(host.now),
+            moment: self.clock.moment(host.now),
             client_time_micros: host.client_times.get(host.statuses).copied().unwrap_or(0),
             stop: host.stop,
             queue,

@@ -155,7 +155,8 @@ fn an_end_at_another_message_is_shown() {
             trace.done = Some(Done { lines: trace.lines.len() - 2, rounds: 0 });
         }
     });
-    assert!(size(&small) <= 7, "{}", small.print());
+    // A stop, or one message that reaches the stop position and something else.
+    assert!(size(&small) <= 33, "{}", small.print());
 }
 
 /// Misses the slash after a lone plus sign.
@@ -181,6 +182,76 @@ impl Leaves for Lax {
 fn a_leaf_that_differs_is_found() {
     let said = compare_leaves(&mut OriginalLeaves, &mut Lax, 0, 1).unwrap_err();
     assert_eq!(said, "leaf p 2b2f30\nrust: p 23\nlax: p 22");
+}
+
+/// Answers long texts wrongly.
+struct Cut;
+
+impl Leaves for Cut {
+    fn name(&self) -> &'static str {
+        "cut"
+    }
+
+    fn answer(&mut self, records: &[u8]) -> Vec<u8> {
+        let mut lines = OriginalLeaves.answer(records);
+        for (record, line) in leaf_records::records(records).zip(lines.split_mut(|b| *b == b'\n')) {
+            if record.kind == b'w' && record.input.len() > 2_500 {
+                line.reverse();
+            }
+        }
+        lines
+    }
+}
+
+#[test]
+fn a_leaf_that_differs_on_long_inputs_is_found() {
+    let said = compare_leaves(&mut OriginalLeaves, &mut Cut, 100_000, 1).unwrap_err();
+    let (input, _) = said.split_once('\n').unwrap();
+    assert_eq!(input.len(), "leaf w ".len() + 2 * 2_501);
+}
+
+/// A change that shows on long payloads alone, and how many scenarios it takes to show it.
+fn shown_by(change: fn(&mut Trace)) -> u64 {
+    let (mut first, mut second) = (Original::default(), Changed(modelled::side(), change));
+    (1..20_000).find(|seed| compare(&mut first, &mut second, &scenario(*seed)).is_some()).expect("a seed that shows it")
+}
+
+#[test]
+fn changes_that_long_payloads_alone_show_are_found() {
+    let content = shown_by(|trace| {
+        for (_, line) in &mut trace.lines {
+            if let Line::Event(Event::Message { content, .. }) = line {
+                content.truncate(100_000);
+            }
+        }
+    });
+    let prefix = shown_by(|trace| {
+        for (_, line) in &mut trace.lines {
+            if let Line::Event(Event::Message { prefix, .. }) = line {
+                prefix.truncate(100_000);
+            }
+        }
+    });
+    let error = shown_by(|trace| {
+        for (_, line) in &mut trace.lines {
+            if let Line::End(19, text) = line {
+                text.truncate(60_000);
+            }
+        }
+    });
+    let waited = shown_by(|trace| {
+        for (_, line) in &mut trace.lines {
+            if let Line::Waited(time) = line {
+                *time = (*time).min(1 << 62);
+            }
+        }
+    });
+    let pieces = shown_by(|trace| {
+        if trace.lines.iter().filter(|(_, line)| *line == Line::Piece(131_072)).count() > 4 {
+            trace.lines.pop();
+        }
+    });
+    assert!([content, prefix, error, waited, pieces].iter().all(|seeds| *seeds < 10_000), "{content} {prefix} {error} {waited} {pieces}");
 }
 
 /// What both do, without the bytes of statuses.
@@ -231,4 +302,17 @@ fn time_that_passes_during_a_read_is_seen_after_it() {
     let text = "status 5\nidle 100\nat 0\nbytes 64000000166b0000000000000000000000000000000001\nduring 2 pass 7\nat 8\n";
     // Read at 0; its reply, its event and the next turn are at 7.
     assert_eq!(played(text), ["0 write", "0 piece 23", "7 write", "7 event K 0/0 0 1", "metrics 1 2 1 0 0 0/0 0/0"]);
+}
+
+/// A status is due before a round, and time passes in the calls made then, up to the round and past it: the run goes on until it can do nothing
+/// more, and only then the round begins.
+#[test]
+fn a_round_that_time_in_calls_reaches() {
+    let data = "640000001d77000000000000000000000000000000000000000000000000";
+    let pieces = "bytes 48\n".to_string() + &"bytes 00\n".repeat(8);
+    let text =
+        format!("status 5\nidle 10\nqueue 1\nat 0\nbytes {data}{data}000000\n{pieces}at 4\nduring 1 close\nduring 6 pass 1\nduring 9 pass 1\nat 6\n");
+    let lines = played(&text);
+    // The last pieces are read at 7, the moment that the second passing reaches, and not with the round at 6.
+    assert!(lines.iter().any(|line| line == "7 piece 1"), "{lines:?}");
 }

@@ -3,11 +3,13 @@
 //! With --model the runs are compared with the model in `vectors/` instead. LEAVES names the program
 //! `leaves`; unset, it is sought as compare/run leaves it.
 
-use runs::cell::compare_with_the_project;
+use runs::bounds::compare_bounds;
+use runs::cell::{self, compare_with_the_project};
 use runs::compare::{compare, shrink};
 use runs::generate::scenario;
-use runs::leaf_records::{compare_leaves, OriginalLeaves, Program};
+use runs::leaf_records::{compare_archive, compare_leaves, short_inputs, OriginalLeaves, Program, Tally};
 use runs::modelled;
+use runs::nanoseconds::compare_nanoseconds;
 use runs::original::Original;
 use runs::ours;
 use runs::scenario::Scenario;
@@ -40,14 +42,20 @@ fn runs<R: Steps>(mut second: Stepped<R>, scenarios: u64, seed: u64) {
         }
         *ends.entry(first.ended.map_or("none".to_string(), |n| n.to_string())).or_insert(0) += 1;
     }
-    let (reached, missing) = second.coverage.print();
-    println!("{reached}");
+    let ((reached, mut missing), (sizes, not_met)) = (second.coverage.print(), second.coverage.sizes.print());
+    missing.extend(not_met);
+    println!("{reached}\n{}", sizes.join("\n"));
     println!("{scenarios} scenarios, rust and {}, {} steps, in {:.0} s, no difference", second.name, second.steps, begun.elapsed().as_secs_f64());
     println!("{} of them left the domain, by a report or time inside a step: compared up to there", second.outside);
     println!("{} of them ended at the server's CopyDone: compared up to that message", second.done);
     println!("ends: {}", ends.iter().map(|(end, n)| format!("{end}: {n}")).collect::<Vec<_>>().join(", "));
-    if scenarios >= 100_000 && !missing.is_empty() {
-        fails(format!("not reached: {}", missing.join("; ")));
+    complete("scenarios", missing, scenarios >= 20_000);
+}
+
+/// Where there were so many that every class, state, test and refusal must be met, one that was not is a failure.
+fn complete(of: &str, missing: Vec<String>, must: bool) {
+    if must && !missing.is_empty() {
+        fails(format!("never met by these {of}: {}", missing.join("; ")));
     }
 }
 
@@ -69,19 +77,55 @@ fn main() {
         return;
     }
     runs(ours::side(), scenarios, seed);
+    nanoseconds(scenarios / 4, seed);
+    cells(leaves / 5, seed);
+    other_leaves(leaves, seed);
+}
 
+/// The same scenarios in other units of time, on the project and on the model.
+fn nanoseconds(scenarios: u64, seed: u64) {
     let begun = Instant::now();
-    let cells = compare_with_the_project(leaves / 5, seed).unwrap_or_else(|difference| fails(difference));
-    println!("{cells} lists of calls on a progress cell in {:.0} s, no difference", begun.elapsed().as_secs_f64());
+    let (lines, missing) = compare_nanoseconds(scenarios, seed).unwrap_or_else(|difference| fails(difference));
+    println!("{}", lines.join("\n"));
+    println!("{scenarios} scenarios in nanoseconds, model and ours, in {:.0} s, no difference", begun.elapsed().as_secs_f64());
+    complete("scenarios in nanoseconds", missing, scenarios >= 5_000);
+}
 
+fn cells(lists: u64, seed: u64) {
+    let begun = Instant::now();
+    let cell::Compared { lists: all, lines, missing } = compare_with_the_project(lists, seed).unwrap_or_else(|difference| fails(difference));
+    println!("{}", lines.join("\n"));
+    println!("{all} lists of calls on a progress cell in {:.0} s, no difference", begun.elapsed().as_secs_f64());
+    complete("lists", missing, lists >= 200_000);
+}
+
+fn other_leaves(leaves: u64, seed: u64) {
     let begun = Instant::now();
     let mut program = Program { path: std::env::var_os("LEAVES").unwrap_or("../bin/leaves".into()).into() };
-    match compare_leaves(&mut OriginalLeaves, &mut program, leaves, seed) {
-        Err(difference) => fails(difference),
-        Ok(counts) => {
-            let all: u64 = counts.iter().map(|c| c.1).sum();
-            println!("{all} other leaf inputs in {:.0} s, no difference", begun.elapsed().as_secs_f64());
-            println!("kinds: {}", counts.iter().map(|(kind, n)| format!("{}: {n}", *kind as char)).collect::<Vec<_>>().join(", "));
-        }
-    }
+    let tally = compare_leaves(&mut OriginalLeaves, &mut program, leaves, seed).unwrap_or_else(|difference| fails(difference));
+    let must = leaves >= 1_000_000;
+    show_tally(&tally, "other leaf inputs", begun, must);
+    println!("among them {} of the {} short ones", tally.short, short_inputs());
+
+    let begun = Instant::now();
+    let tally = compare_archive(leaves / 500, seed).unwrap_or_else(|difference| fails(difference));
+    show_tally(&tally, "leaf inputs of up to 1,048,576 bytes and just over by exported calls", begun, must);
+
+    let begun = Instant::now();
+    let opened = leaves / 10_000;
+    let met = compare_bounds(opened, seed).unwrap_or_else(|difference| fails(difference));
+    let [accepted, short, over] = met;
+    println!("open, outcomes 0: {accepted}, 4: {short}, 25: {over}");
+    println!("{opened} runs opened with names around 1,048,576 bytes in {:.0} s, no difference", begun.elapsed().as_secs_f64());
+    let names = ["0", "4", "25"].iter().zip(met).filter(|(_, n)| *n == 0).map(|(name, _)| format!("open with {name}"));
+    complete("openings", names.collect(), must);
+}
+
+fn show_tally(tally: &Tally, what: &str, begun: Instant, must: bool) {
+    let (lines, missing) = tally.print();
+    println!("{}", lines.join("\n"));
+    println!("{} {what} in {:.0} s, no difference", tally.all(), begun.elapsed().as_secs_f64());
+    let kinds = tally.kinds.iter().map(|(kind, n)| format!("{}: {n}", *kind as char));
+    println!("kinds: {}", kinds.collect::<Vec<_>>().join(", "));
+    complete("inputs", missing, must);
 }

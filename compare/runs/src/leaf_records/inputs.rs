@@ -123,7 +123,7 @@ fn lossy_text(draw: &mut Draw) -> Vec<u8> {
 }
 
 /// Characters of every length, and with `ill` parts that are none.
-fn text(draw: &mut Draw, ill: bool) -> Vec<u8> {
+pub(super) fn text(draw: &mut Draw, ill: bool) -> Vec<u8> {
     let mut text = Vec::new();
     for _ in 0..draw.below(12) {
         match draw.below(if ill { 9 } else { 6 }) {
@@ -174,7 +174,7 @@ fn position_text(draw: &mut Draw) -> Vec<u8> {
     text
 }
 
-fn marred(draw: &mut Draw, mut bytes: Vec<u8>) -> Vec<u8> {
+pub(super) fn marred(draw: &mut Draw, mut bytes: Vec<u8>) -> Vec<u8> {
     if draw.once_in(2) {
         bytes.truncate(draw.size(bytes.len() + 1));
     }
@@ -214,7 +214,7 @@ fn row(draw: &mut Draw) -> Vec<u8> {
     payload
 }
 
-fn boundary(draw: &mut Draw) -> Vec<u8> {
+pub(super) fn boundary(draw: &mut Draw) -> Vec<u8> {
     let (a, b, time) = (draw.next(), draw.next(), draw.next() as i64);
     match draw.below(4) {
         0 => begin(a, time, b as u32),
@@ -228,7 +228,7 @@ fn boundary(draw: &mut Draw) -> Vec<u8> {
     }
 }
 
-fn copy_data(draw: &mut Draw) -> Vec<u8> {
+pub(super) fn copy_data(draw: &mut Draw) -> Vec<u8> {
     let (a, b, time) = (draw.next(), draw.next(), draw.next() as i64);
     if draw.once_in(2) {
         keepalive(a, time, draw.pick(&[0, 1, 255]))

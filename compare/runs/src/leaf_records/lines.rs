@@ -1,7 +1,9 @@
 //! The Rust's answers, as the lines that the program `leaves` prints.
 
-use super::{records, room, texts, Leaves, Record};
+use super::large::lent;
+use super::{put_record, records, room, texts, Leaves, Record};
 use crate::rust_leaves::{self, Answer, Query, Row, Told};
+use crate::scenario::LENT;
 use crate::text::position;
 use crate::trace::Event;
 use model::sum;
@@ -10,8 +12,10 @@ use std::io::Write;
 #[derive(Default)]
 pub struct OriginalLeaves;
 
-/// The limit of the reader in a simple query.
-const QUERY_LIMIT: usize = 65_536;
+/// The limit of the reader in a simple query: no message is over it where the input is longer than a record of the program.
+pub(super) fn query_limit(server: &[u8]) -> usize {
+    server.len().max(65_536)
+}
 
 impl Leaves for OriginalLeaves {
     fn name(&self) -> &'static str {
@@ -29,11 +33,11 @@ impl Leaves for OriginalLeaves {
     }
 }
 
-fn number_at(bytes: &[u8], at: usize) -> u64 {
+pub(super) fn number_at(bytes: &[u8], at: usize) -> u64 {
     u64::from_be_bytes(bytes[at..at + 8].try_into().unwrap())
 }
 
-fn put_hex(bytes: &[u8], out: &mut Vec<u8>) {
+pub(super) fn put_hex(bytes: &[u8], out: &mut Vec<u8>) {
     const DIGITS: &[u8; 16] = b"0123456789abcdef";
     if bytes.is_empty() {
         out.push(b'-');
@@ -41,7 +45,7 @@ fn put_hex(bytes: &[u8], out: &mut Vec<u8>) {
     bytes.iter().for_each(|b| out.extend_from_slice(&[DIGITS[*b as usize >> 4], DIGITS[*b as usize & 15]]));
 }
 
-fn put_columns(row: &Row, out: &mut Vec<u8>) {
+pub(super) fn put_columns(row: &Row, out: &mut Vec<u8>) {
     for column in row {
         out.push(b' ');
         match column {
@@ -51,15 +55,34 @@ fn put_columns(row: &Row, out: &mut Vec<u8>) {
     }
 }
 
-/// A writer's line, where the output suffices.
-fn put_written(text: &[u8], record: &Record, out: &mut Vec<u8>) {
+/// A writer's line. The Rust writes whatever it is lent; here a writer refuses more bytes than it may be lent (25), then an output that is too
+/// short (4), and the output is as it was.
+fn put_written(text: &[u8], record: &Record, out: &mut Vec<u8>) -> bool {
+    let refusal = match (lent(record.kind, record.input) > LENT, text.len() > record.room) {
+        (true, _) => 25,
+        (_, true) => 4,
+        _ => 0,
+    };
+    let text = if refusal == 0 { text } else { &[] };
     let whole = (text.len()..record.room).fold(sum(text), |h, _| h.wrapping_mul(31).wrapping_add(record.fill as u32));
-    let _ = write!(out, "0 {} {whole} ", text.len());
+    let _ = write!(out, "{refusal} {} {whole} ", text.len());
     put_hex(text, out);
+    refusal == 0
+}
+
+/// How long an output a writer needs.
+pub(super) fn need(kind: u8, input: &[u8]) -> Option<usize> {
+    if !b"dlueqytzxos".contains(&kind) {
+        return None;
+    }
+    let mut record = Vec::new();
+    put_record(kind, input, &mut record);
+    let line = String::from_utf8(OriginalLeaves.answer(&record)).expect("a line is a text");
+    line.split(' ').nth(2)?.parse().ok()
 }
 
 /// An answer that may be refused.
-fn put_answer<T>(answer: Answer<T>, out: &mut Vec<u8>, put: impl FnOnce(T, &mut Vec<u8>)) {
+pub(super) fn put_answer<T>(answer: Answer<T>, out: &mut Vec<u8>, put: impl FnOnce(T, &mut Vec<u8>)) {
     match answer {
         Ok(told) => {
             out.extend_from_slice(b"0 ");
@@ -100,10 +123,10 @@ fn parsed_position(text: &[u8]) -> Answer<u64> {
 
 fn original_line(record: &Record, out: &mut Vec<u8>) {
     let input = record.input;
-    let written = |text: &[u8], out: &mut Vec<u8>| put_written(text, record, out);
+    let written = |text: &[u8], out: &mut Vec<u8>| _ = put_written(text, record, out);
     let marked = |text: &[u8], marks: usize, out: &mut Vec<u8>| {
-        put_written(text, record, out);
-        let _ = write!(out, " {marks}");
+        let wrote = put_written(text, record, out);
+        let _ = write!(out, " {}", if wrote { marks } else { 0 });
     };
     match record.kind {
         b'p' => put_answer(parsed_position(input), out, |p, out| out.extend_from_slice(rust_leaves::display_position(p).as_bytes())),
@@ -112,10 +135,7 @@ fn original_line(record: &Record, out: &mut Vec<u8>) {
         b'l' | b'u' => marked(rust_leaves::lossy(input).as_bytes(), rust_leaves::marks(input), out),
         b'w' => drop(write!(out, "{}", rust_leaves::well_formed_prefix(input))),
         b'e' => marked(&rust_leaves::error_text(input), rust_leaves::error_marks(input), out),
-        b'f' => {
-            out.push(b'0');
-            put_columns(&rust_leaves::error_fields(input).into_iter().map(|f| f.map(String::into_bytes)).collect(), out)
-        }
+        b'f' => fields_line(input, out),
         b'a' => put_answer(rust_leaves::auth_request(input), out, |(code, rest), out| {
             let _ = write!(out, "{code} ");
             put_hex(rest, out);
@@ -139,6 +159,11 @@ fn original_line(record: &Record, out: &mut Vec<u8>) {
         b'm' => query_line(input, out),
         kind => panic!("no kind of leaf: {kind}"),
     }
+}
+
+fn fields_line(input: &[u8], out: &mut Vec<u8>) {
+    out.push(b'0');
+    put_columns(&rust_leaves::error_fields(input).into_iter().map(|f| f.map(String::into_bytes)).collect(), out)
 }
 
 /// What the reader tells of each message; then the sum of a buffer in which every payload was stored at the front as far as it came.
@@ -179,11 +204,12 @@ fn query_line(server: &[u8], out: &mut Vec<u8>) {
         put_columns(row, out);
         out.extend_from_slice(b" | ");
     };
-    let end = rust_leaves::simple_query(server, QUERY_LIMIT);
+    let limit = query_limit(server);
+    let end = rust_leaves::simple_query(server, limit);
     if let Query::Rows(rows) = &end {
         rows.iter().for_each(|row| put_row(row, out));
     } else {
-        for told in rust_leaves::read(server, QUERY_LIMIT, server.len().max(1), false) {
+        for told in rust_leaves::read(server, limit, server.len().max(1), false) {
             match told {
                 Told::Whole(b'D', payload) => match rust_leaves::data_row(&payload) {
                     Ok(row) => put_row(&row, out),
