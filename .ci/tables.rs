@@ -1,5 +1,6 @@
 //! Holds the documents against the repository: the files, names, must-fail edits and sections that they cite are there, every edit and every
-//! crate is named, statements stand in specs/, links lead somewhere. The table of crate `utf8` is what is printed of it. Run in the repository's root.
+//! crate is named, statements stand in specs/, links lead somewhere, each exported function has the contract and the statement that are listed for it.
+//! The table of crate `utf8` is what is printed of it. Run in the repository's root.
 use std::collections::{BTreeMap, BTreeSet};
 use std::fs;
 use std::path::{Path, PathBuf};
@@ -176,6 +177,88 @@ fn wrong_statements(page: &str, wrong: &mut Vec<String>) {
     wrong.extend(cells.filter(|(_, cell)| cell.contains("/proofs/")).map(|(line, _)| format!("{page}:{line}: a statement in specs/")));
 }
 
+/// Whether a name stands in a text as a word of its own.
+fn mentions(text: &str, name: &str) -> bool {
+    text.split(|c: char| !c.is_alphanumeric() && !"-_'".contains(c)).any(|w| w == name)
+}
+
+/// The contract of each function that `export` exports: what stands between its name and its body.
+fn contracts(crates: &Crates) -> BTreeMap<String, String> {
+    let mut all = BTreeMap::new();
+    for (path, text) in &crates["export"] {
+        if path.extension().is_some_and(|x| x == "rt") {
+            for exported in text.split("pub extern \"C\" fn ").skip(1) {
+                let head = exported.split("\n{").next().unwrap_or("");
+                let name = head.split('(').next().unwrap_or("").to_string();
+                let ensures: String = head.lines().filter(|line| line.trim_start().starts_with("ensures ")).collect();
+                all.insert(name, ensures);
+            }
+        }
+    }
+    all
+}
+
+/// The files and names of a cell, in their order: `FILE: `NAME`, `NAME`; FILE: `NAME``. Names in brackets are left out.
+fn cited(cell: &str) -> Vec<(String, String)> {
+    let (mut file, mut all, mut inner) = (String::new(), Vec::new(), false);
+    for (i, part) in cell.split('`').enumerate() {
+        if i % 2 == 0 {
+            inner = part.ends_with('(') || inner && !part.contains(')');
+            if let Some(named) = part.split_whitespace().filter_map(|word| word.strip_suffix(':')).next_back() {
+                file = named.to_string();
+            }
+        } else if !inner {
+            all.push((file.clone(), part.to_string()));
+        }
+    }
+    all
+}
+
+/// The wording of a statement or of what it is made of: from the line that defines its name to the next empty one.
+fn wording(file: &str, name: &str) -> String {
+    let path = Path::new("crates").join(file);
+    let text = fs::read_to_string(&path).unwrap_or_default();
+    let from_there = text.lines().skip_while(|line| !defines(&path, line, name));
+    from_there.take_while(|line| !line.is_empty()).flat_map(|line| [line, "\n"]).collect()
+}
+
+/// What a row about an exported function lacks: the definition in the function's contract, the statement in specs/ with a proof, and the definition in
+/// the wording of the statement or of what else the cell names.
+fn wrong_row(crates: &Crates, contract: &str, definition: &str, statement: &str) -> Vec<String> {
+    let (definitions, statements) = (cited(definition), cited(statement));
+    let ([(_, name)], Some((of, stated))) = (&definitions[..], statements.first()) else { return vec!["one definition, and a statement".into()] };
+    let mut wrong = Vec::new();
+    if !mentions(contract, name) {
+        wrong.push(format!("`{name}` in this function's ensures"));
+    }
+    let proves = |line: &str| line.starts_with("pub ") && line.ends_with(&format!(" : {stated}"));
+    let holds = of.split('/').next().and_then(|name| crates.get(name)).is_some_and(|all| {
+        let in_proofs = |path: &Path| path.components().any(|part| part.as_os_str() == "proofs");
+        all.iter().any(|(path, text)| in_proofs(path) && text.lines().any(proves))
+    });
+    if !of.contains("/specs/") || !holds {
+        wrong.push(format!("a statement in specs/ with a proof of `{stated}`"));
+    }
+    if !statements.iter().any(|(file, stated)| mentions(&wording(file, stated), name)) {
+        wrong.push(format!("`{name}` in the wording of what is stated"));
+    }
+    wrong
+}
+
+/// PROMISES leads from each exported function, once, to its contract's definition and to the statement of its words.
+fn wrong_exports(page: &str, crates: &Crates, wrong: &mut Vec<String>) {
+    let text = read(page);
+    let mut left = contracts(crates);
+    let rows =
+        column(&text, "exported function").into_iter().zip(column(&text, "contract's definition")).zip(column(&text, "statement of its words"));
+    for (((line, function), (_, definition)), (_, statement)) in rows {
+        let name = function.trim_matches('`');
+        let lacks = left.remove(name).map_or(vec![format!("one exported function {name}")], |c| wrong_row(crates, &c, &definition, &statement));
+        wrong.extend(lacks.into_iter().map(|what| format!("{page}:{line}: {what}")));
+    }
+    wrong.extend(left.keys().map(|name| format!("{page}: a row for {name}")));
+}
+
 /// The numbers of SCOPE's sections.
 fn sections() -> BTreeSet<String> {
     let number = |line: &str| {
@@ -306,6 +389,7 @@ fn main() {
     }
     wrong_families("docs/PROMISES.md", &edits, &mut wrong);
     wrong_statements("docs/PROMISES.md", &mut wrong);
+    wrong_exports("docs/PROMISES.md", &crates, &mut wrong);
     wrong_sections(&mut wrong);
     wrong_links(&mut wrong);
     wrong_entries(&mut wrong);
