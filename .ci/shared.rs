@@ -124,6 +124,9 @@ fn held() -> Held {
 fn look(path: &Path, held: &Held, wrong: &mut Vec<String>) -> usize {
     let text = read(path);
     let mut looked = 0;
+    // A definition that stands among a crate's proofs is held by no list.
+    let proofs = text.lines().filter(|line| line.starts_with("use Rattle·") && line.contains(".proofs."));
+    wrong.extend(proofs.map(|line| format!("{}: `{line}`", path.display())));
     for u in text.lines().filter_map(used).filter(|u| !READING.contains(&&*u.krate)) {
         let types = types(&u.krate, &u.module);
         let names = match &u.alias {

@@ -2,15 +2,12 @@
 use mathlib.Core.Path.{_≡_, refl, ap, _∙_}
 use mathlib.Core.Bool.{Bool, true, false}
 use mathlib.Core.List.{List, [], _∷_, _++_}
-use Prim.Native.Nat.{ℕ, zero, suc, _+_, _/_, _%_, _^_, _<_}
-use native.Mathlib.Omega.{arith}
+use Prim.Native.Nat.{ℕ, _+_, _/_, _^_}
 use lib.ListN.{length}
 use lib.IntN.{ℤ}
-use Rattle.wire.specs.Bytes.{pick, be, beFrom, beBytes}
-use Rattle.wire.specs.Int.{half, value}
-use Rattle.wire.specs.Field.{unsigned}
-use Rattle.wire.proofs.Laws.{length-beBytes}
-use Rattle.wire.proofs.FieldLaws.{be-beBytes, signed-unsigned, unsigned-signed}
+use Rattle.wire.specs.Bytes.{pick, beBytes}
+use Rattle.wire.specs.Int.{value}
+use Rattle.wire.proofs.AllValues.{number-laws, int-laws, search-laws}
 use Rattle.wire.proofs.Cases.{order-laws, signed-laws, find-laws}
 use Rattle.stream.specs.Message.{framed}
 use Rattle.stream.proofs.Frame.{cut-by-front, laid-is-cut, cut-is-laid}
@@ -27,17 +24,7 @@ use Rattle.frontend.specs.Frontend.{statusUpdate, statusBody, copyData, copyDon
 use Rattle.frontend.proofs.Laws.{length-status}
 use Rattle.frontend.proofs.ServerReads.{status-read-back, status-read-back-modulo, query-read-back, query-cut-at-zero}
 use Rattle.request.proofs.ReadBack.{request-read-back}
-use Rattle.claims.specs.Shared.{AllBytes, Shared-held}
-
--- each byte of a number is below 256
-some-more : (s : List ℕ) (x : ℕ) → AllBytes s → x < 256 → AllBytes (s ++ (x ∷ []))
-some-more [] x a b = (b, tt)
-some-more (y ∷ s) x a b = (a .0, some-more s x (a .1) b)
-
-all-bytes : (n v : ℕ) → AllBytes (beBytes n v)
-unfolding beBytes
-all-bytes zero v = tt
-all-bytes (suc n) v = some-more (beBytes n (v / 256)) (v % 256) (all-bytes n (v / 256)) (omega arith)
+use Rattle.claims.specs.Shared.{Shared-held}
 
 -- the length field of a status counts its 34 bytes and itself
 status-bytes : (position : ℕ) (time : ℤ) (reply : Bool)
@@ -51,19 +38,17 @@ status-bytes position time false =
     ap (λ (n : ℕ). 100 ∷ (beBytes 4 (n + 4) ++ statusBody position time false)) (length-status position time false)
 
 pub shared-held : Shared-held
-unfolding copyDone framed be beFrom beBytes unsigned xlogData keepAlive beginBytes commitBytes messageBytes
+unfolding copyDone framed beBytes xlogData keepAlive beginBytes commitBytes messageBytes
 shared-held =
     record {
       pick-first = λ A a b. refl;
       pick-second = λ A a b. refl;
-      no-byte = refl;
       order = order-laws;
-      number-bytes = λ n v h. (length-beBytes n v, all-bytes n v, be-beBytes n v h);
+      numbers = number-laws;
       sign = signed-laws;
-      not-negative = λ n k. refl;
-      time-back = λ time h. signed-unsigned (half 8) time h;
-      word-back = λ v h. unsigned-signed (half 8) v h;
+      ints = int-laws;
       search-byte = find-laws;
+      byte-found = search-laws;
       frame-bytes = λ tag p. refl;
       xlog-bytes = λ start end time d. refl;
       keepalive-bytes = λ end time reply. refl;

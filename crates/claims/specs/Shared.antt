@@ -4,12 +4,12 @@
 use mathlib.Core.Path.{_≡_}
 use mathlib.Core.Bool.{Bool, true, false}
 use mathlib.Core.List.{List, [], _∷_, _++_}
-use Prim.Native.Nat.{ℕ, _+_, _<_, _^_}
+use Prim.Native.Nat.{ℕ, _+_}
 use lib.ListN.{length}
-use lib.IntN.{ℤ, pos}
-use lib.Signed.{mag}
+use lib.IntN.{ℤ}
 use Rattle.wire.specs.Bytes.{pick, be, beBytes}
 use Rattle.wire.specs.Int.{int, value}
+use Rattle.wire.specs.AllValues.{NumberLaws, IntLaws, SearchLaws}
 use Rattle.wire.specs.Cases.{OrderLaws, SignedLaws, FindLawsOf}
 use Rattle.stream.specs.Message.{framed, frontOf}
 use Rattle.stream.specs.Cut.{cutOf}
@@ -26,26 +26,19 @@ use Rattle.frontend.specs.ReadBack.{Status-read-back, Status-read-back-modulo, 
 use Rattle.request.specs.Request.{startReplication}
 use Rattle.request.specs.ReadBack.{Request-read-back}
 
--- each is below 256
-abbrev pub AllBytes : List ℕ → Type 0
-AllBytes [] = Unit {0}
-AllBytes (x ∷ xs) = (x < 256) × AllBytes xs
-
 pub record Shared-held : Type 1 where
   -- `pick`: the first value where the test holds, else the second
   pub pick-first : (A : Type 0) (a b : A) → pick true a b ≡ a
   pub pick-second : (A : Type 0) (a b : A) → pick false a b ≡ b
-  -- `be` and `beBytes`: no byte is 0, the first byte is the highest (`order`), and a number has so many bytes, each below 256, which spell it
-  pub no-byte : be [] ≡ 0
+  -- `be` and `beBytes`: the first byte is the highest, and numbers and their bytes, both ways
   pub order : OrderLaws
-  pub number-bytes : (n v : ℕ) → v < 256 ^ n → (length (beBytes n v) ≡ n) × AllBytes (beBytes n v) × (be (beBytes n v) ≡ v)
+  pub numbers : NumberLaws
   -- `int` and `value`: two's complement, and each undoes the other
   pub sign : SignedLaws
-  pub not-negative : (n k : ℕ) → value n (pos k) ≡ k
-  pub time-back : (time : ℤ) → mag time < 2 ^ 63 → int 8 (value 8 time) ≡ time
-  pub word-back : (v : ℕ) → v < 2 ^ 64 → value 8 (int 8 v) ≡ v
-  -- the search for a zero byte
+  pub ints : IntLaws
+  -- the search for a zero byte: what is found stands there first, and what stands there first is found
   pub search-byte : FindLawsOf
+  pub byte-found : SearchLaws
   -- the encoders of messages, field by field, so that none changes alike with its reader
   pub frame-bytes : (tag : ℕ) (p : List ℕ) → framed tag p ≡ tag ∷ (beBytes 4 (length p + 4) ++ p)
   pub xlog-bytes : (start end : ℕ) (time : ℤ) (d : List ℕ)
