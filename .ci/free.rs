@@ -1,17 +1,18 @@
 //! Finds definitions that nothing but the code holds. Run in the repository's root:
 //!
-//!     free [--sample N] [--seed S] [--name NAME] [--own] [--list] [--noticed] CRATE ..
+//!     free [--sample N] [--each N] [--seed S] [--name NAME] [--own] [--list] [--noticed] CRATE ..
 //!
 //! It changes one definition of a crate's specs/ at a time, of those that a public function's contract cites, directly or through definitions, and
 //! checks all theorems, laws and cases again, with no function beside them: the copy below target/free has the declared types, specs/ and the
 //! theorem files of proofs/ alone. So what fails is never a function's own contract. First the crate itself is checked, over what it uses; what is
-//! free there is tried on every library that uses the crate. A change that no statement notices is printed, `free FILE:LINE NAME change`: a program
-//! that is wrong in that way can be proved. `noticed` is no proof of strength, since a proof may fail where the statement still holds; `unfit` is a
-//! change after which the definition has no type. `.ci/free.txt` lists changes that mean the same as before, each with its reason.
+//! free there is tried on each library that uses the crate, one after the other. A change that no statement notices is printed, `free FILE:LINE NAME
+//! change`: a program that is wrong in that way can be proved. `noticed` is no proof of strength, since a proof may fail where the statement still
+//! holds; `unfit` is a change after which the definition has no type. `.ci/free.txt` lists changes that mean the same as before, each with its reason.
 //!
-//! --sample N takes N changes of each crate, drawn by the seed S (1); --name those of one definition; --own leaves the crates above out; --list
-//! prints the changes and checks nothing; --noticed prints by what each change was noticed. The status is 1 where a change is free and not excepted,
-//! where an exception is stale, and where nothing was noticed. FREE_WORK names another folder for the copy, so that two runs can go side by side.
+//! --sample N takes N changes of each crate, --each N of each definition, drawn by the seed S (1); --name takes those of one definition; --own leaves
+//! the crates above out; --list prints the changes and checks nothing; --noticed prints by what each change was noticed. The status is 1 where a
+//! change is free and not excepted, where an exception is stale, and where nothing was noticed. FREE_WORK names another folder for the copy, so that
+//! two runs can go side by side.
 use std::collections::{BTreeMap, BTreeSet};
 use std::fs;
 use std::ops::Range;
@@ -20,7 +21,7 @@ use std::process::{exit, Command};
 
 const EXCEPTIONS: &str = ".ci/free.txt";
 // Libraries without a statement about a promise: the archive's functions, the benchmark and what test programs share.
-const LEFT_OUT: [&str; 4] = ["export", "bench", "lines", "playing"];
+const LEFT_OUT: [&str; 4] = ["ffi_export", "ffi_bench", "test_lines", "test_playing"];
 
 fn read(path: &Path) -> String {
     fs::read_to_string(path).unwrap_or_else(|e| panic!("{}: {e}", path.display()))
@@ -899,8 +900,10 @@ impl Body<'_> {
             } else if let Some(new) = other(&word.text) {
                 found.push(replaced("word", &word.text, word.at.clone(), new.into()));
             } else if word.text.starts_with('"') {
+                let is_letter = i > 0 && self.words[i - 1].text == "code";
+                let other = if word.text == "\"x\"" { "\"y\"".into() } else { "\"x\"".into() };
                 let longer = format!("{}x\"", word.text.trim_end_matches('"'));
-                found.push(replaced("text", &self.words[i].text, word.at.clone(), longer));
+                found.push(replaced("text", &word.text, word.at.clone(), if is_letter { other } else { longer }));
             }
         }
         found
@@ -1138,8 +1141,20 @@ fn changes(spec: &Spec, known: &Known, definition: &Definition) -> Vec<Change> {
 
 // ---- the run
 
-/// An exception: a change that means the same, by library, file, name and change, with its reason.
-fn exceptions() -> BTreeMap<(String, String, String, String), String> {
+/// Whether a change is the one that an exception names, in which `*` stands for any number.
+fn names(exception: &Key, change: &Key) -> bool {
+    let is_what = match exception.3.split_once('*') {
+        None => exception.3 == change.3,
+        Some((before, after)) => change.3.strip_prefix(before).is_some_and(|rest| rest.trim_start_matches(|c: char| c.is_ascii_digit()) == after),
+    };
+    is_what && (&exception.0, &exception.1, &exception.2) == (&change.0, &change.1, &change.2)
+}
+
+/// A change by library, file, name and what it does.
+type Key = (String, String, String, String);
+
+/// The exceptions, changes that mean the same, each with its reason.
+fn exceptions() -> BTreeMap<Key, String> {
     let mut found = BTreeMap::new();
     let text = fs::read_to_string(EXCEPTIONS).unwrap_or_default();
     for line in text.lines().filter(|line| !line.starts_with('#') && !line.trim().is_empty()) {
@@ -1152,7 +1167,7 @@ fn exceptions() -> BTreeMap<(String, String, String, String), String> {
 }
 
 impl Change {
-    fn key(&self) -> (String, String, String, String) {
+    fn key(&self) -> Key {
         (self.library.clone(), self.file.clone(), self.name.clone(), self.what.clone())
     }
 
@@ -1172,12 +1187,40 @@ enum End {
     Unfit,
 }
 
-/// Checks these libraries with a change in one file, and writes the file back.
-fn tried(change: &Change, libraries: &BTreeSet<String>) -> End {
+/// A set of libraries that are checked together, and whether they were seen to be proved without a change.
+struct Set {
+    libraries: BTreeSet<String>,
+    proved: bool,
+}
+
+impl Set {
+    fn prove(&mut self, library: &str) {
+        if !self.proved {
+            proved_first(&self.libraries, library);
+            self.proved = true;
+        }
+    }
+}
+
+/// Checks libraries with a change in one file, set after set until one of them notices it, and writes the file back. The number of that set.
+fn tried(change: &Change, sets: &mut [Set]) -> (End, usize) {
     let old = read(&change.path());
-    write(&change.path(), &change.text);
-    let verdict = check(libraries);
-    write(&change.path(), &old);
+    let mut found = (End::Free, sets.len());
+    for (i, set) in sets.iter_mut().enumerate() {
+        set.prove(&change.library);
+        write(&change.path(), &change.text);
+        let end = ended(change, check(&set.libraries));
+        write(&change.path(), &old);
+        if !matches!(end, End::Free) {
+            found = (end, i);
+            break;
+        }
+    }
+    found
+}
+
+/// How a change ends by a check's verdict.
+fn ended(change: &Change, verdict: Verdict) -> End {
     let own = format!("{}/specs/{}", change.library, change.file);
     let is_own = |file: &str, line: &usize| file == own && (change.lines.contains(line) || change.added.contains(line));
     match verdict {
@@ -1200,9 +1243,23 @@ fn drawn(mut all: Vec<Change>, count: usize, seed: u64) -> Vec<Change> {
     all
 }
 
+/// Draws of each definition as many changes as are asked for.
+fn drawn_each(all: Vec<Change>, asked: &Asked) -> Vec<Change> {
+    let Some(count) = asked.each else { return all };
+    let mut of: Vec<Vec<Change>> = Vec::new();
+    for change in all {
+        match of.last_mut() {
+            Some(last) if last[0].name == change.name && last[0].file == change.file => last.push(change),
+            _ => of.push(vec![change]),
+        }
+    }
+    of.into_iter().flat_map(|changes| drawn(changes, count, asked.seed)).collect()
+}
+
 /// What is asked for.
 struct Asked {
     sample: Option<usize>,
+    each: Option<usize>,
     seed: u64,
     name: Option<String>,
     own: bool,
@@ -1212,12 +1269,13 @@ struct Asked {
 }
 
 fn asked() -> Asked {
-    let mut asked = Asked { sample: None, seed: 1, name: None, own: false, list: false, noticed: false, crates: Vec::new() };
+    let mut asked = Asked { sample: None, each: None, seed: 1, name: None, own: false, list: false, noticed: false, crates: Vec::new() };
     let mut words = std::env::args().skip(1);
     while let Some(word) = words.next() {
         let mut number = || words.next().and_then(|n| n.parse().ok()).unwrap_or_else(|| panic!("{word} takes a number"));
         match word.as_str() {
             "--sample" => asked.sample = Some(number() as usize),
+            "--each" => asked.each = Some(number() as usize),
             "--seed" => asked.seed = number(),
             "--name" => asked.name = words.next(),
             "--own" => asked.own = true,
@@ -1262,28 +1320,24 @@ fn proved_first(libraries: &BTreeSet<String>, library: &str) {
     }
 }
 
+/// The libraries that are checked: the crate over what it uses, then each crate above it, in their order.
+fn sets(library: &str, all: &[Library], asked: &Asked) -> Vec<Set> {
+    let above = closure(all, library, true);
+    let users = all.iter().filter(|user| !asked.own && user.name != library && above.contains(&user.name)).map(|user| user.name.as_str());
+    [library].into_iter().chain(users).map(|name| Set { libraries: closure(all, name, false), proved: false }).collect()
+}
+
 /// Tries the changes of one crate.
 fn run(library: &str, all: &[Library], todo: &[Change], asked: &Asked) -> Count {
     let exceptions = exceptions();
-    let below = closure(all, library, false);
-    let above: BTreeSet<String> = closure(all, library, true).iter().flat_map(|name| closure(all, name, false)).collect();
-    proved_first(&below, library);
+    let mut sets = sets(library, all, asked);
     let mut count = Count::default();
-    let mut above_proved = false;
     for change in todo {
-        let mut end = tried(change, &below);
-        let by_own = matches!(end, End::Noticed(_));
-        if matches!(end, End::Free) && !asked.own && above != below {
-            if !above_proved {
-                proved_first(&above, library);
-                above_proved = true;
-            }
-            end = tried(change, &above);
-        }
-        let excepted = exceptions.get(&change.key());
+        let (end, set) = tried(change, &mut sets);
+        let excepted = exceptions.iter().find(|(key, _)| names(key, &change.key())).map(|(_, reason)| reason);
         match (&end, excepted) {
             (End::Unfit, _) => count.unfit += 1,
-            (End::Noticed(_), _) if by_own => count.own += 1,
+            (End::Noticed(_), _) if set == 0 => count.own += 1,
             (End::Noticed(_), _) => count.above += 1,
             (End::Free, Some(_)) => count.excepted += 1,
             (End::Free, None) => count.free += 1,
@@ -1297,7 +1351,7 @@ fn report(change: &Change, end: &End, excepted: Option<&String>, asked: &Asked, 
     match (end, excepted) {
         (End::Free, None) => println!("free {}", change.shown()),
         (End::Free, Some(reason)) => println!("same {}: {reason}", change.shown()),
-        (_, Some(_)) => {
+        (End::Noticed(_), Some(_)) => {
             count.stale += 1;
             println!("{EXCEPTIONS}: stale, a statement notices it: {}", change.shown());
         }
@@ -1309,8 +1363,8 @@ fn report(change: &Change, end: &End, excepted: Option<&String>, asked: &Asked, 
 
 /// The exceptions that no change has, of the crates in the repository.
 fn without_change(changes: &BTreeMap<String, (usize, Vec<Change>)>) -> usize {
-    let keys: BTreeSet<_> = changes.values().flat_map(|(_, all)| all.iter().map(Change::key)).collect();
-    let stale: Vec<_> = exceptions().into_keys().filter(|key| !keys.contains(key)).collect();
+    let keys: Vec<Key> = changes.values().flat_map(|(_, all)| all.iter().map(Change::key)).collect();
+    let stale: Vec<Key> = exceptions().into_keys().filter(|key| !keys.iter().any(|change| names(key, change))).collect();
     stale.iter().for_each(|(library, file, name, what)| println!("{EXCEPTIONS}: stale, there is no such change: {library} {file} {name} {what}"));
     stale.len()
 }
@@ -1331,7 +1385,7 @@ fn main() {
         let (definitions, mut todo) = changes.remove(name).unwrap_or_else(|| panic!("{name} is no library, or named twice"));
         todo.retain(|change| asked.name.as_ref().is_none_or(|name| change.name == *name));
         let made = todo.len();
-        let todo = drawn(todo, asked.sample.unwrap_or(made), asked.seed);
+        let todo = drawn(drawn_each(todo, &asked), asked.sample.unwrap_or(made), asked.seed);
         if asked.list {
             todo.iter().for_each(|change| println!("{}", change.shown()));
             continue;

@@ -1,11 +1,11 @@
 // The second reading shares nothing with the machine but what Shared names: in the files below a name of another crate is a type or one of its
-// constructors, a definition that claims/specs/Shared.antt or host_calls/specs/Shared.antt holds by theorems, or a call that a statement is about.
+// constructors, a definition that thm_any_calls/specs/Shared.antt or thm_host_calls/specs/Shared.antt holds by theorems, or a call that a statement is about.
 use std::collections::BTreeSet;
 use std::fs;
 use std::path::{Path, PathBuf};
 
 // Crates of the second reading: their own names are free.
-const READING: [&str; 5] = ["claims", "page_shown", "host_calls", "server_done", "unpublished"];
+const READING: [&str; 5] = ["thm_any_calls", "thm_page_shown", "thm_host_calls", "thm_server_done", "thm_unpublished"];
 // Files of them that illustrate by literal cases, list the modules, or are the list itself.
 const LEFT_OUT: [&str; 3] = ["Lib.antt", "Shared.antt", "Mixed.antt"];
 // What the statements are about: calls, and what a host reads of their contracts.

@@ -182,15 +182,16 @@ fn mentions(text: &str, name: &str) -> bool {
     text.split(|c: char| !c.is_alphanumeric() && !"-_'".contains(c)).any(|w| w == name)
 }
 
-/// The contract of each function that `export` exports: what stands between its name and its body.
+/// The contract of each function that `ffi_export` exports: what stands between its name and its body.
 fn contracts(crates: &Crates) -> BTreeMap<String, String> {
     let mut all = BTreeMap::new();
-    for (path, text) in &crates["export"] {
+    for (path, text) in &crates["ffi_export"] {
         if path.extension().is_some_and(|x| x == "rt") {
             for exported in text.split("pub extern \"C\" fn ").skip(1) {
                 let head = exported.split("\n{").next().unwrap_or("");
                 let name = head.split('(').next().unwrap_or("").to_string();
-                let ensures: String = head.lines().filter(|line| line.trim_start().starts_with("ensures ")).collect();
+                let lines: Vec<&str> = head.lines().skip_while(|line| !line.trim_start().starts_with("ensures ")).collect();
+                let ensures = lines.join("\n");
                 all.insert(name, ensures);
             }
         }
@@ -338,6 +339,21 @@ fn wrong_links(wrong: &mut Vec<String>) {
     }
 }
 
+/// A line of prose stands once in a page: one that stands twice is what a merge left.
+fn wrong_twice(wrong: &mut Vec<String>) {
+    let mut pages = vec![(PathBuf::from("README.md"), read("README.md"))];
+    ["docs", "vectors", "compare", "attacks"].iter().for_each(|folder| files(Path::new(folder), &["md"], &mut pages));
+    for (page, text) in &pages {
+        let mut seen = BTreeSet::new();
+        let is_heading = |i: usize| text.lines().nth(i + 1).is_some_and(|next| next.starts_with("|---"));
+        for (i, line) in text.lines().enumerate().filter(|(_, line)| line.chars().filter(|c| c.is_alphabetic()).count() >= 30) {
+            if !seen.insert(line.trim()) && !is_heading(i) {
+                wrong.push(format!("{}:{}: a line that stands once in its page", page.display(), i + 1));
+            }
+        }
+    }
+}
+
 /// The 2,048 numbers that the program `utf8_table` prints are those of the constant of the crate `utf8`.
 fn wrong_entries(wrong: &mut Vec<String>) {
     let page = "crates/utf8/src/lib.rt";
@@ -350,26 +366,12 @@ fn wrong_entries(wrong: &mut Vec<String>) {
     }
 }
 
-/// ARCHITECTURE's table has every crate, at a level above those of all crates that it uses.
-fn wrong_levels(uses: &BTreeMap<String, Vec<String>>, wrong: &mut Vec<String>) {
+/// ARCHITECTURE's table of the floors has every crate.
+fn wrong_floors(uses: &BTreeMap<String, Vec<String>>, wrong: &mut Vec<String>) {
     let page = "docs/ARCHITECTURE.md";
-    let text = read(page);
-    let mut drawn: BTreeMap<String, usize> = BTreeMap::new();
-    let mut last = 0;
-    for ((_, number), (_, cell)) in column(&text, "level").into_iter().zip(column(&text, "crate")) {
-        last = number.parse().unwrap_or(last);
-        drawn.extend(cell.split(',').map(|name| (name.trim().trim_matches('`').to_string(), last)));
-    }
-    for (name, below) in uses {
-        match drawn.get(name) {
-            None => wrong.push(format!("{page}: the crate {name}")),
-            Some(at) => {
-                let high = below.iter().filter(|of| drawn.get(*of).is_some_and(|other| other >= at));
-                wrong.extend(high.map(|of| format!("{page}: {name} at a level above {of}, which it uses,")));
-            }
-        }
-    }
-    wrong.extend(drawn.keys().filter(|name| !uses.contains_key(*name)).map(|name| format!("{page}: a line of crates.txt for {name}")));
+    let told: BTreeSet<String> = column(&read(page), "crate").into_iter().map(|(_, name)| name).collect();
+    wrong.extend(uses.keys().filter(|name| !told.contains(*name)).map(|name| format!("{page}: the crate {name}")));
+    wrong.extend(told.iter().filter(|name| !uses.contains_key(*name)).map(|name| format!("{page}: a line of crates.txt for {name}")));
 }
 
 fn main() {
@@ -392,8 +394,9 @@ fn main() {
     wrong_exports("docs/PROMISES.md", &crates, &mut wrong);
     wrong_sections(&mut wrong);
     wrong_links(&mut wrong);
+    wrong_twice(&mut wrong);
     wrong_entries(&mut wrong);
-    wrong_levels(&uses, &mut wrong);
+    wrong_floors(&uses, &mut wrong);
     wrong.iter().for_each(|line| eprintln!("tables: {line} is not there"));
     std::process::exit(!wrong.is_empty() as i32)
 }

@@ -1,4 +1,4 @@
-//! Makes the records that the program `changes` is run on, and the lines that it must print: rows of pgoutput, read off the PostgreSQL
+//! Makes the records that the program `test_changes` is run on, and the lines that it must print: rows of pgoutput, read off the PostgreSQL
 //! documentation ("Logical Replication Message Formats") with `split_at` and `?` in plain Rust. See README.md beside this file.
 //!
 //! Use: changes STDIN-FILE STDOUT-FILE
@@ -55,7 +55,11 @@ impl<'a> Rest<'a> {
     /// One of the letters that the document lists here.
     fn letter(&mut self, listed: &[u8]) -> Result<char, u8> {
         let [b] = self.array()?;
-        if listed.contains(&b) { Ok(b as char) } else { Err(LETTER) }
+        if listed.contains(&b) {
+            Ok(b as char)
+        } else {
+            Err(LETTER)
+        }
     }
 
     fn tuple(&mut self) -> Result<String, u8> {

@@ -1,4 +1,4 @@
-//! What the program `edges` must print: the kinds of refusals, columns, errors in short buffers, and reads with a short buffer.
+//! What the program `test_edges` must print: the kinds of refusals, columns, errors in short buffers, and reads with a short buffer.
 
 use crate::protocol::{Fields, Reader, Told};
 use crate::shared::sum;

@@ -1,4 +1,4 @@
-//! Makes what the programs `events` and `streams` must print, from an independent reading of SCOPE 6 and 11.4 (model.rs). The streams' own
+//! Makes what the programs `events` and `test_streams` must print, from an independent reading of SCOPE 6 and 11.4 (model.rs). The streams' own
 //! .events files, which come with the recorded bytes, must say the same.
 
 use crate::model::{Event, Input, Queue, Run, Settings, State, MOST_INTERVAL};

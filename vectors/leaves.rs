@@ -1,4 +1,4 @@
-//! Makes the records that the program `leaves` is run on, and the lines that it must print.
+//! Makes the records that the program `test_leaves` is run on, and the lines that it must print.
 //! Nothing here comes from the program: lossy text is String::from_utf8_lossy and its marks are counted with utf8_chunks, Display is `{:X}`,
 //! the rest is read off the PostgreSQL documentation in plain Rust. See README.md beside this file.
 //!
@@ -513,7 +513,7 @@ fn name_lists(v: &mut Vectors, draw: &mut Draw) {
     }
 }
 
-/// Every refusal that a kind's line can begin with is reached, and each that a reader alone can answer. 25 is the program `too_long`'s.
+/// Every refusal that a kind's line can begin with is reached, and each that a reader alone can answer. 25 is the program `test_too_long`'s.
 fn refusals_reached(lines: &str) {
     let readers = [("p", 22..=24), ("a", 21..=21), ("c", 10..=13), ("b", 14..=18), ("r", 20..=20), ("v", 32..=34)];
     let writers = ["d", "l", "u", "e", "o", "q", "y", "t", "z", "x", "s"].map(|kind| (kind, 4..=4));

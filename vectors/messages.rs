@@ -380,7 +380,7 @@ fn streams(v: &mut Vectors, draw: &mut Draw) {
         let bytes = &bytes[..bytes.len().min(65_529)];
         let drawn = 1 + draw.below(60) as u16;
         for size in [1u16, drawn, 4096, 65_535] {
-            // The longest stream leaves room for others: the program `streams` plays it, too.
+            // The longest stream leaves room for others: the program `test_streams` plays it, too.
             if size != drawn && bytes.len() > 60_000 {
                 continue;
             }

@@ -1,5 +1,5 @@
-//! Makes the scripts that the program `replay` is run on, and the lines that it must print, from an independent reading of SCOPE 5 to 7
-//! (model.rs); and likewise for the programs `events`, `streams` and `too_long`. See README.md beside this file.
+//! Makes the scripts that the program `test_replay` is run on, and the lines that it must print, from an independent reading of SCOPE 5 to 7
+//! (model.rs); and likewise for the programs `events`, `test_streams` and `test_too_long`. See README.md beside this file.
 //!
 //! Use: replay FOLDER, where PROGRAM-stdin and PROGRAM-stdout are written, and how often each test was reached
 

@@ -1,4 +1,4 @@
-//! Scripts of the program `replay`: how one is written down, and the lines that playing it must print.
+//! Scripts of the program `test_replay`: how one is written down, and the lines that playing it must print.
 
 use crate::coverage::{seen, seen_in};
 use crate::model::{intervals_refused, query, Input, Queue, Run, Settings, State};

@@ -1,4 +1,4 @@
-//! What the program `too_long` must print: openings and writers whose lent inputs have about 1,048,576 bytes together. An output has 256 bytes, or
+//! What the program `test_too_long` must print: openings and writers whose lent inputs have about 1,048,576 bytes together. An output has 256 bytes, or
 //! 1,048,832, all filled with 7.
 
 use crate::model::{intervals_refused, query, Settings, MOST_INTERVAL};
@@ -46,7 +46,7 @@ fn openings() -> String {
     lines
 }
 
-/// What a writer of a text writes, by the kind that its records have in the program `leaves`.
+/// What a writer of a text writes, by the kind that its records have in the program `test_leaves`.
 fn text_of(kind: &str, text: &[u8]) -> Vec<u8> {
     match kind {
         "q" => framed(b'Q', &[text, &[0]].concat()),

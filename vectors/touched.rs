@@ -1,4 +1,4 @@
-//! Records of kind `j` of the program `changes`: a list of relations and files, bits, and events; after each event the files are found anew by a walk
+//! Records of kind `j` of the program `test_changes`: a list of relations and files, bits, and events; after each event the files are found anew by a walk
 //! over all events so far. Rows are read by `changes.rs`, off the PostgreSQL documentation.
 
 use super::{cell, described, description, letters, messages, of, truncated, tuple, Cell};
@@ -91,8 +91,7 @@ fn truncate(ids: &[u32]) -> Event {
 
 /// One event of each kind on every bits, with lists that are and are not refused.
 fn single(r: &mut Records) {
-    let lists: [&[(u32, u8)]; 6] =
-        [&[], &[(7, 0)], &[(7, 2), (7, 1), (8, 3)], &[(8, 1), (7, 3)], &[(7, 4)], &[(7, 1), (9, 255)]];
+    let lists: [&[(u32, u8)]; 6] = [&[], &[(7, 0)], &[(7, 2), (7, 1), (8, 3)], &[(8, 1), (7, 3)], &[(7, 4)], &[(7, 1), (9, 255)]];
     let kinds = [Begin, Commit, insert(7), insert(9), truncate(&[7, 8]), truncate(&[]), Data(b"C".to_vec()), Data(b"M".to_vec()), Data(vec![])];
     for list in lists {
         for bits in 0..16 {
@@ -146,8 +145,29 @@ fn full(r: &mut Records) {
     let relation = Data(described(1, "public", "a", b'd', &[description(1, "id", 23, -1)]));
     let half = Data([truncated(3, 0, &[1, 2]), vec![0, 0]].concat());
     let events = [
-        relation, insert(1), Commit, insert(2), half.clone(), Begin, truncate(&[4, 3, 2, 1]), insert(1), cut.clone(), wrong, Commit, insert(9),
-        half, Begin, cut, insert(4), insert(3), Begin, Begin, insert(2), Commit, Commit, insert(2),
+        relation,
+        insert(1),
+        Commit,
+        insert(2),
+        half.clone(),
+        Begin,
+        truncate(&[4, 3, 2, 1]),
+        insert(1),
+        cut.clone(),
+        wrong,
+        Commit,
+        insert(9),
+        half,
+        Begin,
+        cut,
+        insert(4),
+        insert(3),
+        Begin,
+        Begin,
+        insert(2),
+        Commit,
+        Commit,
+        insert(2),
     ];
     r.list(&list, 0, &events);
     r.list(&list, 15, &events);

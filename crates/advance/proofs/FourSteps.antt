@@ -12,11 +12,11 @@ use borrow.Author.Tests.{le-leb, lt-ltb, le-ltb, ltb-true, ltb-false, leb-false,
 use Rattle.wire.specs.Bytes.{pick, at, put}
 use Rattle.wire.specs.Int.{half, isNegative}
 use Rattle.wire.proofs.Laws.{by-test, impossible, length-put, tail-whole}
-use Rattle.stream.specs.Message.{lengthField}
-use Rattle.stream.proofs.Front.{length-field-append}
+use Rattle.frames.specs.Message.{lengthField}
+use Rattle.frames.proofs.Front.{length-field-append}
 use Rattle.framing.specs.declared.MessageReader.{MessageReader}
 use Rattle.framing.specs.Read.{Said, whole, fresh, at-byte, Result, afterTaking, limitOf, payloadOf, judgedOf, headerOf, readOf}
-use Rattle.stream.specs.Tag.{isCopyData}
+use Rattle.frames.specs.Tag.{isCopyData}
 use Rattle.framing.proofs.Laws as L
 use Rattle.lsn.specs.declared.Lsn.{Lsn}
 use Rattle.metrics.specs.Metrics.{more, withEnd}

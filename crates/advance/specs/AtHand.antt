@@ -9,7 +9,7 @@ use lib.Dec.{ltb, eqb}
 use Rattle.wire.specs.Bytes.{pick, at, be, put}
 use Rattle.wire.specs.Int.{isNegative}
 use Rattle.framing.specs.Read.{fresh, limitOf}
-use Rattle.stream.specs.Tag.{isCopyData}
+use Rattle.frames.specs.Tag.{isCopyData}
 use Rattle.lsn.specs.declared.Lsn.{Lsn}
 use Rattle.metrics.specs.Metrics.{more, withEvent, withEnd}
 use Rattle.moment.specs.declared.Moment.{Moment}
@@ -27,7 +27,7 @@ use Rattle.worker.specs.declared.State.the-variants.{Opening, Turn, Drain, Read
 use Rattle.worker.specs.Answer.{lent}
 use Rattle.worker.specs.Events.{dataGives}
 use Rattle.worker.specs.Events as E
-use Rattle.worker.specs.Rows.{_⇒_, firstOf, both, unless}
+use Rattle.worker.specs.Tests.{_⇒_, firstOf, both, unless}
 use Rattle.worker.specs.Run.{lsn, clock, wholeOf, offer, run}
 use Rattle.worker.specs.Step.{Outcome, badMoment, reaches}
 use Rattle.advance.specs.declared.at_hand.AtHand.{AtHand}

@@ -52,7 +52,8 @@ fn tells(stepped: Stepped) -> bool
 
 // A second step where the first told nothing.
 fn two_steps(run: Run, input: Input, unread: &[u8], payload: &mut [u8], out: &mut [u8]) -> Stepped
-    ensures { λ s. ⌜ outcomeBy s (now (payload .exit)) (now (out .exit)) ≡ twice stepOf run input (lent (now (unread .entry)) (now (payload .entry)) (now (out .entry))) ⌝ }
+    ensures { λ s. ⌜ outcomeBy s (now (payload .exit)) (now (out .exit))
+        ≡ twice stepOf run input (lent (now (unread .entry)) (now (payload .entry)) (now (out .entry))) ⌝ }
 {
     let first = step(run, input, unread, payload, out);
     if tells(first) {
@@ -67,7 +68,8 @@ fn two_steps(run: Run, input: Input, unread: &[u8], payload: &mut [u8], out: &mu
 
 // Two more where two told nothing.
 fn four_steps(run: Run, input: Input, unread: &[u8], payload: &mut [u8], out: &mut [u8]) -> Stepped
-    ensures { λ s. ⌜ outcomeBy s (now (payload .exit)) (now (out .exit)) ≡ advanceOf run input (lent (now (unread .entry)) (now (payload .entry)) (now (out .entry))) ⌝ }
+    ensures { λ s. ⌜ outcomeBy s (now (payload .exit)) (now (out .exit))
+        ≡ advanceOf run input (lent (now (unread .entry)) (now (payload .entry)) (now (out .entry))) ⌝ }
 {
     let first = two_steps(run, input, unread, payload, out);
     if tells(first) {
@@ -82,7 +84,8 @@ fn four_steps(run: Run, input: Input, unread: &[u8], payload: &mut [u8], out: &m
 
 // A message that lies whole in the unread bytes, and that four steps would only hand on, is handed on at once.
 pub fn advance(run: Run, input: Input, unread: &[u8], payload: &mut [u8], out: &mut [u8]) -> Stepped
-    ensures { λ s. ⌜ outcomeBy s (now (payload .exit)) (now (out .exit)) ≡ advanceOf run input (lent (now (unread .entry)) (now (payload .entry)) (now (out .entry))) ⌝ }
+    ensures { λ s. ⌜ outcomeBy s (now (payload .exit)) (now (out .exit))
+        ≡ advanceOf run input (lent (now (unread .entry)) (now (payload .entry)) (now (out .entry))) ⌝ }
 {
     let message = at_hand(unread);
     let moment = input.moment;

@@ -12,7 +12,8 @@ use denote.Ref.{RefT, now}
 use Rattle.wire.specs.Bytes.{pick}
 use Rattle.wire.proofs.Laws.{by-test}
 use Rattle.config.specs.OptionValue.{quoted, doubled, following, optionValue}
-use Rattle.config.specs.ReadBack.{withByte, unquoted, onFirst, namesOf, withCommas, NoQuote, NoComma, NoCommas, Value-read-back, Names-read-back}
+use Rattle.text.specs.Ascii.{onFirst}
+use Rattle.config.specs.ReadBack.{withByte, unquoted, namesOf, withCommas, NoQuote, NoComma, NoCommas, Value-read-back, Names-read-back}
 
 -- ---- the literal
 

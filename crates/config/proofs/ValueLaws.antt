@@ -10,7 +10,8 @@ use borrow.Author.Tests.{ne-eqb}
 use denote.Ref.{RefT, now}
 use Rattle.wire.proofs.Laws.{by-test}
 use Rattle.config.specs.OptionValue.{doubled, following, optionValue}
-use Rattle.config.specs.ReadBack.{onFirst, namesOf, NoComma}
+use Rattle.text.specs.Ascii.{onFirst}
+use Rattle.config.specs.ReadBack.{namesOf, NoComma}
 use Rattle.config.specs.ValueLaws.{NoQuotes, ValueLaws}
 use Rattle.config.proofs.ReadBack.{name-last}
 

@@ -1,4 +1,4 @@
--- The value as the code goes through it: name by name, each with what stands before it.
+-- The value as the code goes through it: name by name, each with what stands before it. SCOPE 2.7.
 use Prim.Native.Nat.{ℕ}
 use mathlib.Core.List.{List, [], _∷_}
 use lib.ListN.{drop}

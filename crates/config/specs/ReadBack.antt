@@ -6,10 +6,11 @@ use mathlib.Core.List.{List, [], _∷_, _++_, map}
 use mathlib.Core.Option.{Option, some, none}
 use Prim.Native.Nat.{ℕ}
 use Prim.Native.Char.{code}
-use Prim.Native.String.{String, [] as empty, _∷_ as joinChar}
+use Prim.Native.String.{String}
 use lib.Dec.{eqb}
 use denote.Ref.{RefT, now}
 use Rattle.wire.specs.Bytes.{pick}
+use Rattle.text.specs.Ascii.{ascii, onFirst}
 use Rattle.config.specs.OptionValue.{doubled, following, optionValue}
 
 -- a byte more in front of a text that was read, with the bytes after it
@@ -24,11 +25,6 @@ unquoted (c ∷ []) = pick (eqb c (code "'")) (some ([], [])) none
 unquoted (c ∷ d ∷ s) =
     pick (eqb c (code "'")) (pick (eqb d (code "'")) (withByte (code "'") (unquoted s)) (some ([], d ∷ s)))
     (withByte c (unquoted (d ∷ s)))
-
--- a byte more in front of the first name
-abbrev pub onFirst : ℕ → List (List ℕ) → List (List ℕ)
-onFirst c [] = (c ∷ []) ∷ []
-onFirst c (n ∷ ns) = (c ∷ n) ∷ ns
 
 -- the names of a text, parted by commas
 unfoldable pub namesOf : List ℕ → List (List ℕ)
@@ -68,11 +64,7 @@ Names-read-back = (n : List ℕ) (ns : List (List ℕ)) → NoCommas (n ∷ ns) 
 
 -- ---- values byte by byte
 
--- the bytes of an ASCII text, as they are lent
-unfoldable pub ascii : String → List ℕ
-ascii empty = []
-ascii (joinChar c s) = code c ∷ ascii s
-
+-- an ASCII text as it is lent
 abbrev pub lent : String → RefT (List ℕ)
 lent s = record { ptr = (0, 0); name = 0; now = ascii s }
 

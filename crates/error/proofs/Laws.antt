@@ -71,7 +71,7 @@ pub wrote-placed : (inputs : ℕ) (text out : List ℕ) {q : List ℕ} {n r : �
     → ((0, n), q) ≡ writing inputs text out
 wrote-placed inputs text out {q} {n} h e k p = wrote inputs text out q n h e k (placed-fits out 0 text (omega arith) p .1)
 
--- .. and of which the place after it is answered
+-- the same of a text that was placed, where the place after it is answered as the count
 pub wrote-to : (inputs : ℕ) (text out : List ℕ) {q : List ℕ} {r : ℕ} → inputs ≤ inputLimit → length text ≤ length out → (r, q) ≡ placed out 0 text
     → ((0, r), q) ≡ writing inputs text out
 wrote-to inputs text out {q} {r} h k p =

@@ -1,4 +1,4 @@
 // Prints the events in the server bytes on standard input.
 fn main() {
-    playing::play(0);
+    test_playing::play(0);
 }

@@ -11,7 +11,7 @@ use borrow.Author.Tests.{lt-ltb}
 use Rattle.wire.specs.Bytes.{pick, put}
 use Rattle.wire.specs.Int.{isNegative}
 use Rattle.wire.proofs.Laws.{by-test, impossible}
-use Rattle.stream.specs.Message.{lengthField}
+use Rattle.frames.specs.Message.{lengthField}
 use Rattle.framing.specs.declared.MessageReader.{MessageReader}
 use Rattle.framing.specs.Read.{Said, whole, limitOf, at-byte, Result, afterTaking, unfinished, payloadOf, judgedOf, headerOf, readOf}
 use Rattle.framing.specs.Cases.{Short-buffer-is-refused, Whole-is-within}

@@ -13,12 +13,12 @@ use Rattle.wire.specs.Int.{half, isNegative}
 use lib.Dec.{leb, ltb, eqb}
 use mathlib.Core.Logic.{_⊎_, ⊎-elim, inl, inr}
 use Rattle.wire.proofs.Laws.{put-none, length-put, by-test, impossible}
-use Rattle.stream.specs.Message.{Front, in-header, in-payload, bad-length, too-large, lengthField, frontOf}
-use Rattle.stream.specs.Cut.{Item, message, Ending, header, payload, over, Cut, behind, ended, cutOf}
-use Rattle.stream.proofs.Front.{header-front, negative-front, short-front, over-front, payload-front, whole-front, length-field-append, Shows, cut-header, negative, short, large, cut-payload, complete, shows}
-use Rattle.stream.proofs.Laws.{cut-append, cut-ending, cut-in-header, cut-in-payload, cut-too-large, cut-bad-length, cut-whole, cut-nothing, over-kept, continued, frontAt}
-use Rattle.stream.specs.Message.{whole as whole-at}
-use Rattle.stream.specs.Cut.{refused as bad}
+use Rattle.frames.specs.Message.{Front, in-header, in-payload, bad-length, too-large, lengthField, frontOf}
+use Rattle.frames.specs.Cut.{Item, message, Ending, header, payload, over, Cut, behind, ended, cutOf}
+use Rattle.frames.proofs.Front.{header-front, negative-front, short-front, over-front, payload-front, whole-front, length-field-append, Shows, cut-header, negative, short, large, cut-payload, complete, shows}
+use Rattle.frames.proofs.Laws.{cut-append, cut-ending, cut-in-header, cut-in-payload, cut-too-large, cut-bad-length, cut-whole, cut-nothing, over-kept, continued, frontAt}
+use Rattle.frames.specs.Message.{whole as whole-at}
+use Rattle.frames.specs.Cut.{refused as bad}
 use Rattle.framing.specs.declared.MessageReader.{MessageReader}
 use Rattle.framing.specs.Read.{Said, more, whole, refused, fresh, shut, at-byte, limitOf, Result, afterTaking, unfinished, payloadOf, judgedOf, headerOf, readOf}
 use Rattle.framing.specs.Feed.{firstAnswer, span, stored, itemOf, Holds, FollowsCut, followsBy, Reads, Offer, Fed, feedOne, feedAll, Fed-is-cut, Read-is-cut}

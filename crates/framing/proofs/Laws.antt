@@ -11,9 +11,9 @@ use lib.Dec.{ltb, leb}
 use borrow.Author.Tests.{le-leb, lt-leb, lt-ltb, le-ltb}
 use Rattle.wire.specs.Bytes.{pick, put, copied}
 use Rattle.wire.specs.Int.{half, isNegative}
-use Rattle.stream.specs.Message.{lengthField}
+use Rattle.frames.specs.Message.{lengthField}
 use Rattle.framing.specs.declared.MessageReader.{MessageReader}
-use Rattle.framing.specs.Read.{Said, whole, refused, fresh, shut, at-byte, Result, afterTaking, unfinished, payloadOf, judgedOf, headerOf}
+use Rattle.framing.specs.Read.{Said, whole, refused, fresh, shut, at-byte, Result, afterTaking, unfinished, payloadOf, judgedOf, headerOf, limitOf, readOf}
 
 -- a source no longer than its destination is copied whole
 pub copied-all : (d src q : List ℕ) (r : ℕ) → length src ≤ length d → (r, q) ≡ copied d src → q ≡ put d 0 src
@@ -104,3 +104,22 @@ judged-taken limit h u p =
     let n : ℕ = lengthField h in
     let z : 0 ≤ length u = omega arith in
     pick-both P (isNegative 4 n) _ _ z (pick-both P (ltb n 4) _ _ z (pick-both P (ltb limit (n - 4)) _ _ z (payload-taken (at-byte h 5 (n - 4)) u false p)))
+
+header-taken : (limit : ℕ) (r : MessageReader) (u : List ℕ) (e : Bool) (p : List ℕ) → headerOf limit r u e p .2 ≤ length u
+unfolding headerOf
+header-taken limit r u e p =
+    let k : ℕ = min (5 - r .filled) (length u) in
+    let h : List ℕ = put (r .header) (r .filled) (take k u) in
+    let a : k ≤ length u = min-le-right (5 - r .filled) (length u) in
+    let b = judged-taken limit h (drop k u) p in
+    let c : length (drop k u) ≡ length u - k = length-drop k u in
+    pick-both (λ (s : Result). s .2 ≤ length u) (ltb (r .filled + k) 5) _ _ a (omega (arith, b))
+
+pub reads-within : (s : ℕ) (r : MessageReader) (u : List ℕ) (e : Bool) (p : List ℕ) → readOf s r u e p .2 ≤ length u
+unfolding readOf
+reads-within s r u e p =
+    let P : Result → Type 0 = λ x. x .2 ≤ length u in
+    let z : 0 ≤ length u = omega arith in
+    pick-both P (ltb (length p) (limitOf s)) _ _ z
+    (pick-both P (r .refused) _ _ z
+    (pick-both P (ltb (r .filled) 5) _ _ (header-taken (limitOf s) r u e p) (payload-taken r u e p)))

@@ -10,7 +10,7 @@ use borrow.Author.Tests.{lt-ltb, le-ltb}
 use Rattle.wire.specs.Bytes.{pick, put}
 use Rattle.wire.specs.Int.{isNegative}
 use Rattle.wire.proofs.Laws.{by-test}
-use Rattle.stream.specs.Message.{lengthField}
+use Rattle.frames.specs.Message.{lengthField}
 use Rattle.framing.specs.declared.MessageReader.{MessageReader}
 use Rattle.framing.specs.Read.{Said, more, whole, refused, limitOf, fresh, shut, at-byte, Result, afterTaking, unfinished, payloadOf}
 use Rattle.framing.specs.Read.{judgedOf, headerOf, readOf}

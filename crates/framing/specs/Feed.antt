@@ -6,9 +6,9 @@ use mathlib.Core.List.{List, [], _∷_, _++_}
 use lib.ListN.{length, take, drop}
 use lib.Dec.{eqb}
 use Rattle.wire.specs.Bytes.{pick, put}
-use Rattle.stream.specs.Message.{lengthField}
-use Rattle.stream.specs.Cut.{Item, message, Ending, header, payload, over, Cut, cutOf}
-use Rattle.stream.specs.Cut.{refused as bad}
+use Rattle.frames.specs.Message.{lengthField}
+use Rattle.frames.specs.Cut.{Item, message, Ending, header, payload, over, Cut, cutOf}
+use Rattle.frames.specs.Cut.{refused as bad}
 use Rattle.framing.specs.declared.MessageReader.{MessageReader}
 use Rattle.framing.specs.Read.{Said, more, whole, refused, fresh, limitOf, Result, unfinished, readOf}
 

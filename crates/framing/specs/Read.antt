@@ -6,7 +6,7 @@ use lib.ListN.{length, getD, take, drop}
 use lib.Dec.{ltb, leb, eqb}
 use Rattle.wire.specs.Bytes.{pick, put}
 use Rattle.wire.specs.Int.{isNegative}
-use Rattle.stream.specs.Message.{lengthField}
+use Rattle.frames.specs.Message.{lengthField}
 use Rattle.error.specs.Refusal.{numberOf}
 use Rattle.framing.specs.declared.MessageReader.{MessageReader}
 use Rattle.framing.specs.declared.Answer.{Answer}

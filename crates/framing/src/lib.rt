@@ -5,7 +5,7 @@ ghost use mathlib.Core.Path.{_≡_};
 ghost use Prim.Native.Nat.{_+_, _-_, _<_, _≤_};
 ghost use lib.ListN.{length, getD};
 ghost use Rattle.wire.specs.Bytes.{put};
-ghost use Rattle.stream.specs.Message.{lengthField};
+ghost use Rattle.frames.specs.Message.{lengthField};
 ghost use Rattle.error.specs.Refusal.{numberOf};
 ghost use Rattle.framing.specs.Read.{saidBy, limitOf, fresh, shut, at-byte, unfinished, payloadOf, judgedOf, headerOf, readOf};
 use error::Refusal;

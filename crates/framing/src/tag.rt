@@ -1,6 +1,6 @@
 // Predicates of a message's tag.
 ghost use mathlib.Core.Path.{_≡_};
-ghost use Rattle.stream.specs.Tag.{isError, isReadyForQuery, isCopyBothResponse, isCopyData, isAuthRequest};
+ghost use Rattle.frames.specs.Tag.{isError, isReadyForQuery, isCopyBothResponse, isCopyData, isAuthRequest};
 
 pub fn is_error(tag: u8) -> bool
     ensures { λ r. ⌜ r ≡ isError tag ⌝ }

@@ -9,14 +9,14 @@ use lib.ListN.{length, drop, length-append, drop-of-length-le}
 use lib.Seq.{drop-cons}
 use lib.IntN.{ℤ}
 use denote.Ref.{RefT, now}
-use Rattle.wire.specs.Bytes.{beBytes, placed}
+use Rattle.wire.specs.Bytes.{beBytes, placed, flagWord}
 use Rattle.wire.specs.Int.{intBytes}
 use Rattle.wire.proofs.Laws.{length-beBytes}
 use Rattle.wire.proofs.FieldLaws.{beBytes-one}
 use Rattle.wire.proofs.Pieces.{Filling, filling-start, filling-next}
 use Rattle.error.specs.Inputs.{total, noName, nameAt}
-use Rattle.stream.specs.Message.{framed}
-use Rattle.frontend.specs.Frontend.{query, flag, statusBody, pairs, startup}
+use Rattle.frames.specs.Message.{framed}
+use Rattle.frontend.specs.Frontend.{query, statusBody, pairs, startup}
 use Rattle.frontend.specs.Code.{header, strings}
 
 -- ---- headers
@@ -48,7 +48,7 @@ length-query text = length-framed 81 (text ++ (0 ∷ [])) ∙ omega (arith, leng
 -- ---- status updates
 
 pub status-pieces : (p : ℕ) (t : ℤ) (r : Bool)
-    → statusBody p t r ≡ beBytes 1 114 ++ (beBytes 8 p ++ (beBytes 8 p ++ (beBytes 8 p ++ (intBytes 8 t ++ beBytes 1 (flag r)))))
+    → statusBody p t r ≡ beBytes 1 114 ++ (beBytes 8 p ++ (beBytes 8 p ++ (beBytes 8 p ++ (intBytes 8 t ++ beBytes 1 (flagWord r)))))
 unfolding statusBody beBytes
 status-pieces p t true = refl
 status-pieces p t false = refl

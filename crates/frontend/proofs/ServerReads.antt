@@ -11,15 +11,15 @@ use lib.Seq.{take-at, drop-at, drop-drop}
 use lib.IntN.{ℤ}
 use lib.Signed.{mag}
 use borrow.Author.Tests.{le-ltb, lt-leb, eq-eqb}
-use Rattle.wire.specs.Bytes.{at, be, beBytes}
+use Rattle.wire.specs.Bytes.{at, be, beBytes, flagWord}
 use Rattle.wire.specs.Field.{fieldAt, signed, unsigned}
 use Rattle.wire.specs.Int.{half, int, value, intAt, intBytes}
 use Rattle.wire.specs.Find.{NoZero}
 use Rattle.wire.proofs.Laws.{length-beBytes}
 use Rattle.wire.proofs.AllValues.{be-modulo}
 use Rattle.wire.proofs.FieldLaws.{beBytes-one, field-read, field-whole, signed-unsigned, unsigned-below}
-use Rattle.stream.specs.Message.{framed}
-use Rattle.frontend.specs.Frontend.{query, copyData, copyDone, terminate, flag, statusBody, statusUpdate}
+use Rattle.frames.specs.Message.{framed}
+use Rattle.frontend.specs.Frontend.{query, copyData, copyDone, terminate, statusBody, statusUpdate}
 use Rattle.frontend.specs.Startup.{stringOf}
 use Rattle.frontend.specs.ReadBack.{Message, messageRead, Status, replyOf, bodyOf, statusOf, confirming, queryOf, Copy-data-read-back, Copy-done-read-back, Terminate-read-back, Query-read-back, Query-cut-at-zero, Body-read-back, Status-read-back, Status-read-back-modulo, Startup-read-back}
 use Rattle.frontend.proofs.Laws.{length-framed, length-status, status-pieces}
@@ -78,7 +78,7 @@ field-modulo n s i v rest h e =
     let b : be (at s i n) ≡ v % 256 ^ n = rw (e, take-at (beBytes n v) rest n (length-beBytes n v)) (be-modulo n v) in
     (field-whole n s i (omega arith) ∙ ap some b, sym (drop-drop n i s) ∙ rw (e, drop-at (beBytes n v) rest n (length-beBytes n v)))
 
-reply-back : (reply : Bool) → replyOf (flag reply % 256 ^ 1) ≡ some reply
+reply-back : (reply : Bool) → replyOf (flagWord reply % 256 ^ 1) ≡ some reply
 reply-back true = refl
 reply-back false = refl
 
@@ -86,7 +86,7 @@ body-modulo : (p : ℕ) (t : ℤ) (r : Bool) → bodyOf (statusBody p t r) ≡ s
 unfolding bodyOf
 body-modulo p t r =
     let b : List ℕ = statusBody p t r in
-    let end : List ℕ = beBytes 1 (flag r) in
+    let end : List ℕ = beBytes 1 (flagWord r) in
     let time : List ℕ = intBytes 8 t ++ end in
     let one : List ℕ = beBytes 8 p ++ time in
     let two : List ℕ = beBytes 8 p ++ one in
@@ -96,7 +96,7 @@ body-modulo p t r =
     let f = field-modulo 8 b 9 p one (omega arith) (w .1) in
     let g = field-modulo 8 b 17 p time (omega arith) (f .1) in
     let c = field-modulo 8 b 25 (value 8 t) end (omega arith) (g .1) in
-    let q = field-modulo 1 b 33 (flag r) [] (omega arith) (c .1 ∙ sym (append-nil end)) in
+    let q = field-modulo 1 b 33 (flagWord r) [] (omega arith) (c .1 ∙ sym (append-nil end)) in
     rw (length-status p t r, a .0, w .0, f .0, g .0, c .0, q .0, reply-back r)
 
 body-fits : (p : ℕ) (t : ℤ) (r : Bool) → p < 2 ^ 64 → mag t < half 8 → confirming (p % 2 ^ 64) (int 8 (value 8 t % 2 ^ 64)) r ≡ confirming p t r

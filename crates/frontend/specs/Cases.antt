@@ -6,7 +6,7 @@ use Prim.Native.Nat.{ℕ}
 use lib.IntN.{pos, negsuc}
 use Rattle.wire.specs.Bytes.{beBytes}
 use Rattle.wire.specs.Field.{unsigned}
-use Rattle.stream.specs.Message.{framed}
+use Rattle.frames.specs.Message.{framed}
 use Rattle.frontend.specs.Frontend.{query, copyData, copyDone, terminate, statusBody, statusUpdate, pairs, startup}
 
 pub record Cases : Type 0 where

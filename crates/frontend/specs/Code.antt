@@ -1,4 +1,4 @@
--- The messages as the code goes through them: a header, and texts one after the other.
+-- The messages as the code goes through them: a header, and texts one after the other. SCOPE 3.6, 3.7.
 use Prim.Native.Nat.{ℕ, _+_}
 use mathlib.Core.List.{List, [], _∷_, _++_}
 use denote.Ref.{RefT, now}

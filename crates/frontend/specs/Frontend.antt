@@ -7,9 +7,9 @@ use mathlib.Core.List.{List, [], _∷_, _++_}
 use lib.ListN.{length}
 use lib.IntN.{ℤ}
 use denote.Ref.{RefT, now}
-use Rattle.wire.specs.Bytes.{beBytes}
+use Rattle.wire.specs.Bytes.{beBytes, flagWord}
 use Rattle.wire.specs.Int.{intBytes}
-use Rattle.stream.specs.Message.{framed}
+use Rattle.frames.specs.Message.{framed}
 
 -- Query: Byte1('Q'), Int32, String
 unfoldable pub query : List ℕ → List ℕ
@@ -27,10 +27,6 @@ copyDone = framed 99 []
 unfoldable pub terminate : List ℕ
 terminate = framed 88 []
 
-abbrev pub flag : Bool → ℕ
-flag true = 1
-flag false = 0
-
 -- Standby status update: Byte1('r'), Int64 written, Int64 flushed, Int64 applied, Int64 client time, Byte1 reply. The one position
 -- stands for all three
 unfoldable pub statusBody : ℕ → ℤ → Bool → List ℕ
@@ -39,7 +35,7 @@ statusBody position time reply =
     ++ (beBytes 8 position  -- flushed
     ++ (beBytes 8 position  -- applied
     ++ (intBytes 8 time
-    ++ (flag reply ∷ [])))))
+    ++ (flagWord reply ∷ [])))))
 
 -- the whole message: the body in a CopyData
 unfoldable pub statusUpdate : ℕ → ℤ → Bool → List ℕ

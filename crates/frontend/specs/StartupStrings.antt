@@ -61,11 +61,11 @@ pub record StartupLaws : Type 0 where
   -- a text without a zero byte is one String; one with a zero byte is cut there
   pub uncut : (t : List ℕ) → NoZero t → cutAtZeros t ≡ t ∷ []
   pub cut : (t u : List ℕ) → NoZero t → cutAtZeros (t ++ (0 ∷ u)) ≡ t ∷ cutAtZeros u
-  -- so a value with a zero byte is cut, and what stands behind that byte is read as the next name ..
+  -- so a value with a zero byte is cut, and what stands behind that byte is read as the next name
   pub value-cut : (name seen hidden : List ℕ) (more : List (List ℕ)) (c : ℕ) → NoZero seen
       → readInTurn ((c ∷ name) ∷ (cutAtZeros (seen ++ (0 ∷ hidden)) ++ more))
       ≡ andThen (readInTurn (cutAtZeros hidden ++ more)) (λ r. some ((c ∷ name, seen) ∷ r .0, r .1))
-  -- .. and a name with one is cut, and what stands behind it is read as its value
+  -- and so a name with a zero byte is cut, and what stands behind it is read as its value
   pub name-cut : (seen hidden : List ℕ) (more : List (List ℕ)) (c : ℕ) → NoZero (c ∷ seen) → NoZero hidden
       → readInTurn (cutAtZeros ((c ∷ seen) ++ (0 ∷ hidden)) ++ more) ≡ andThen (readInTurn more) (λ r. some ((c ∷ seen, hidden) ∷ r .0, r .1))
   -- an empty name among the texts is read as the terminator, and since its value stands after it the message is refused

@@ -3,7 +3,7 @@ ghost use mathlib.Core.Path.{_≡_};
 ghost use Prim.Native.Nat.{_+_, _≤_};
 ghost use lib.ListN.{length};
 ghost use Rattle.wire.specs.Bytes.{placed};
-ghost use Rattle.stream.specs.Message.{framed};
+ghost use Rattle.frames.specs.Message.{framed};
 ghost use Rattle.error.specs.Inputs.{total};
 ghost use Rattle.error.specs.Writer.{writing, outcome};
 ghost use Rattle.frontend.specs.Code.{header, strings};

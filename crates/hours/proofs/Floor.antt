@@ -20,6 +20,18 @@ within-pos l n e = leb-true n (suc l) e
 pub within-neg : (l k : ℕ) → isWithin (suc l) (negsuc k) ≡ true → k ≤ l
 within-neg l k e = by-test (ltb l k) (λ t. impossible (cc (simp t at e))) (λ t. ltb-false l k t)
 
+-- by the sign
+pub within-from-zero : (l n : ℕ) → isWithin l (pos n) ≡ leb n l
+within-from-zero zero n = simp (le-ltb n 0 (omega arith))
+within-from-zero (suc l) n = refl
+
+pub within-below-zero : (l k : ℕ) → isWithin l (negsuc k) ≡ ltb k l
+within-below-zero zero k = simp (le-ltb k 0 (omega arith))
+within-below-zero (suc l) k =
+    by-test (ltb l k)
+    (λ t. let h : suc l ≤ k = ltb-true l k t in simp (t, le-ltb k (suc l) h))
+    (λ t. let h : k ≤ l = ltb-false l k t in simp (t, lt-ltb k (suc l) (omega arith)))
+
 -- ---- the offset
 
 -- minutes from Monday to Saturday on the venue's clock
@@ -63,7 +75,7 @@ pub since-now : (offset t : ℤ) (n : ℕ) → offset +ℤ pos 7200 ≡ pos n �
 unfolding sinceMonday
 since-now offset t n e h = rw e (floor-counted t (n * minute) h)
 
--- .. some time later
+-- the same some time later
 pub since-counted : (offset t : ℤ) (n k : ℕ) → offset +ℤ pos 7200 ≡ pos n → isWithin 4611686018427387904 t ≡ true
     → sinceMonday offset (t +ℤ pos k) ≡ (counted t + (k + n * minute)) % week
 unfolding sinceMonday

@@ -20,7 +20,7 @@ numberOf InvalidWindow = 32
 numberOf OffsetOutOfRange = 33
 numberOf MomentOutOfRange = 34
 
--- .. and its kind
+-- the kind of each refusal
 abbrev pub kindOf : Refusal → ℕ
 kindOf InvalidWindow = usage
 kindOf OffsetOutOfRange = usage

@@ -17,7 +17,7 @@ hours opens closes offset = record { opens = opens; closes = closes; offset = of
 abbrev pub minute : ℕ
 minute = 60000000
 
--- .. and of a week of 10,080 minutes
+-- microseconds of a week, which has 10,080 minutes
 abbrev pub week : ℕ
 week = 604800000000
 

@@ -1,4 +1,4 @@
--- Steps of the code: moments counted from long ago, boundaries, and minutes as a moment.
+-- Steps of the code: moments counted from long ago, boundaries, and minutes as a moment. SCOPE 15.
 use Prim.Native.Nat.{ℕ, _+_, _*_, _-_, _/_, _%_}
 use mathlib.Core.Bool.{Bool, true, false, not}
 use mathlib.Core.Option.{Option, some, none}
@@ -25,7 +25,7 @@ counted (negsuc k) = 4838400000000000000 - 1 - k
 abbrev pub boundaryAfter : ℕ → ℕ → ℕ → ℕ
 boundaryAfter opens closes m = pick (ltb m opens) (opens - m) (pick (ltb m closes) (closes - m) (1440 - m))
 
--- .. of the window of the day in which a minute of the week lies
+-- the minutes to the next boundary of the day in which a minute of the week lies
 unfoldable pub untilBoundary : Hours → ℕ → ℕ
 untilBoundary h m = boundaryAfter (getD (h .opens) (m / 1440) 0) (getD (h .closes) (m / 1440) 0) (m % 1440)
 

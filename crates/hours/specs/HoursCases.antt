@@ -58,7 +58,7 @@ pub record HoursCases : Type 0 where
   pub offset-added : hoursOf (twoDays 600 660 0 0 (pos 60)) (pos (onMonday 500)) ≡ (0, (false, some (pos (onMonday 540))))
   -- open to 1,440 and on from 0 is no change
   pub over-midnight : hoursOf (twoDays 1430 1440 0 10 (pos 0)) (pos (onMonday 1435)) ≡ (0, (true, some (pos (onMonday 1450))))
-  -- .. and from 1 it is one, and another at minute 1
+  -- open to 1,440 and on from 1 is a change at midnight, and another at minute 1
   pub to-midnight : hoursOf (twoDays 1430 1440 1 10 (pos 0)) (pos (onMonday 1435)) ≡ (0, (true, some (pos (onMonday 1440))))
   pub from-one : hoursOf (twoDays 1430 1440 1 10 (pos 0)) (pos (onMonday 1440)) ≡ (0, (false, some (pos (onMonday 1441))))
   -- equal minutes mean shut all day

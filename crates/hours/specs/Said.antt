@@ -12,7 +12,7 @@ use Rattle.hours.specs.declared.Change.the-variants.{At, Never}
 use Rattle.hours.specs.declared.Answer.the-variants.{Told, Refused}
 use Rattle.hours.specs.Calendar.{hours}
 use Rattle.hours.specs.Answer.{numberOf, kindOf, askedOf}
-use Rattle.hours.specs.Words.{answerWords}
+use Rattle.hours.specs.Words.{answerReply}
 
 -- an answer's number, state and change; a refusal's number and kind; and that a host's lists and offset go where they belong
 pub record Answers-say : Type 0 where
@@ -28,9 +28,9 @@ pub record Answers-say : Type 0 where
 -- the words of every answer: the number; 1 for open and 0 for shut; 1 and the moment, or 0 and 0 for never. A moment below zero is the word that
 -- makes 2 to the 64th with its distance from zero
 pub record Words-say : Type 0 where
-  pub open-till : (number n : ℕ) → answerWords (number, (true, some (pos n))) ≡ (number, 1 ∷ 1 ∷ n ∷ [])
-  pub shut-till : (number n : ℕ) → answerWords (number, (false, some (pos n))) ≡ (number, 0 ∷ 1 ∷ n ∷ [])
+  pub open-till : (number n : ℕ) → answerReply (number, (true, some (pos n))) ≡ (number, 1 ∷ 1 ∷ n ∷ [])
+  pub shut-till : (number n : ℕ) → answerReply (number, (false, some (pos n))) ≡ (number, 0 ∷ 1 ∷ n ∷ [])
   pub before-zero : (number k : ℕ) (state : Bool) (word : ℕ) → word + (k + 1) ≡ 18446744073709551616
-      → answerWords (number, (state, some (negsuc k))) ≡ (number, answerWords (number, (state, some (pos word))) .1)
-  pub open-always : (number : ℕ) → answerWords (number, (true, none)) ≡ (number, 1 ∷ 0 ∷ 0 ∷ [])
-  pub shut-always : (number : ℕ) → answerWords (number, (false, none)) ≡ (number, 0 ∷ 0 ∷ 0 ∷ [])
+      → answerReply (number, (state, some (negsuc k))) ≡ (number, answerReply (number, (state, some (pos word))) .1)
+  pub open-always : (number : ℕ) → answerReply (number, (true, none)) ≡ (number, 1 ∷ 0 ∷ 0 ∷ [])
+  pub shut-always : (number : ℕ) → answerReply (number, (false, none)) ≡ (number, 0 ∷ 0 ∷ 0 ∷ [])

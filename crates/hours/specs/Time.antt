@@ -15,7 +15,7 @@ pub record ChangesAt (h : Hours) (t u : ℤ) : Type 0 where
   pub is-other : isOpen h u ≡ not (isOpen h t)
   pub none-between : (v : ℤ) → t <ℤ v → v <ℤ u → isOpen h v ≡ isOpen h t
 
--- .. and at no moment after t is it another
+-- it is the same at every moment after t
 abbrev pub NeverChanges : Hours → ℤ → Type 0
 NeverChanges h t = (v : ℤ) → t <ℤ v → isOpen h v ≡ isOpen h t
 

@@ -19,6 +19,11 @@ const WEEK: u64 = 604800000000;
 
 const WEEK_MINUTES: u64 = 10080;
 
+// The largest offset, in minutes, and the largest moment.
+const MOST_OFFSET: u64 = 840;
+
+const MOST_MOMENT: u64 = 4611686018427387904;
+
 // Eight million weeks, from so long before moment 0 moments are counted, since that is no negative number.
 const PAST: u64 = 4838400000000000000;
 
@@ -71,24 +76,15 @@ impl Refusal {
     }
 }
 
-// Whether a clock may be so many minutes ahead of UTC.
-fn is_offset(v: i64) -> bool
-    ensures { λ r. ⌜ r ≡ isWithin 840 v ⌝ }
+// Whether a value is at most a limit from zero, on either side.
+fn is_within(limit: u64, v: i64) -> bool
+    ensures { λ r. ⌜ r ≡ isWithin limit v ⌝ }
 {
-    if v < -840 {
-        return false;
+    if 0 <= v {
+        v as u64 <= limit
+    } else {
+        ((-1 - v) as u64) < limit
     }
-    v <= 840
-}
-
-// Whether a moment may be asked for.
-fn is_moment(v: i64) -> bool
-    ensures { λ r. ⌜ r ≡ isWithin 4611686018427387904 v ⌝ }
-{
-    if v < -4611686018427387904 {
-        return false;
-    }
-    v <= 4611686018427387904
 }
 
 // Whether every window closes after it opens, or with it, and on its own day.
@@ -213,10 +209,10 @@ impl Hours {
         if !are_windows(self) {
             return Answer::Refused(Refusal::InvalidWindow);
         }
-        if !is_offset(self.offset) {
+        if !is_within(MOST_OFFSET, self.offset) {
             return Answer::Refused(Refusal::OffsetOutOfRange);
         }
-        if !is_moment(moment) {
+        if !is_within(MOST_MOMENT, moment) {
             return Answer::Refused(Refusal::MomentOutOfRange);
         }
         let since = since_monday(self.offset, moment);

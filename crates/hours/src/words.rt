@@ -1,23 +1,18 @@
-// An answer as words. SCOPE 9.8.
+// An answer as words of 64 bits. SCOPE 9.8. The words have names in layout.rt.
 ghost use mathlib.Core.Path.{_≡_};
 ghost use Rattle.hours.specs.Answer.{askedOf};
 ghost use Rattle.hours.specs.Code.{changeOf};
-ghost use Rattle.hours.specs.Words.{flagWord, toldWords, answerWords};
+ghost use Rattle.hours.specs.Words.{toldWords, answerReply};
 use crate::Answer;
 use crate::Change;
 use crate::layout;
 use wire::field::of_i64;
+use wire::word::flag;
 
 // A refusal's number, 0 for none, and the words of an answer, all 0 where it is refused.
-pub struct Reply {
+pub struct AnswerReply {
     pub refusal: u64,
     pub words: [u64; layout::HOURS_WORDS],
-}
-
-fn flag(b: bool) -> u64
-    ensures { λ r. ⌜ r ≡ flagWord b ⌝ }
-{
-    if b { 1 } else { 0 }
 }
 
 fn told_words(state: bool, change: Change) -> [u64; layout::HOURS_WORDS]
@@ -29,15 +24,15 @@ fn told_words(state: bool, change: Change) -> [u64; layout::HOURS_WORDS]
     }
 }
 
-pub fn reply_of(answer: Answer) -> Reply
-    ensures { λ r. ⌜ (r .refusal, r .words) ≡ answerWords (askedOf answer) ⌝ }
+pub fn answer_reply(answer: Answer) -> AnswerReply
+    ensures { λ r. ⌜ (r .refusal, r .words) ≡ answerReply (askedOf answer) ⌝ }
 {
     match answer {
-        Answer::Told(state, change) => Reply {
+        Answer::Told(state, change) => AnswerReply {
             refusal: 0,
             words: told_words(state, change),
         },
-        Answer::Refused(r) => Reply {
+        Answer::Refused(r) => AnswerReply {
             refusal: r.number() as u64,
             words: [0, 0, 0],
         },

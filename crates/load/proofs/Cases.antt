@@ -3,7 +3,7 @@ use mathlib.Core.Path.{refl}
 use Rattle.wire.specs.Bytes.{beBytes, put}
 use Rattle.wire.specs.Field.{unsigned}
 use Rattle.error.specs.Writer.{writing}
-use Rattle.stream.specs.Message.{framed}
+use Rattle.frames.specs.Message.{framed}
 use Rattle.replication.specs.CopyData.{xlogData, keepAlive}
 use Rattle.pgoutput.specs.Boundary.{beginBytes, commitBytes}
 use Rattle.load.specs.Load.{bytesOf, payloadOf, messagesOf, allBytes, loading}

@@ -12,7 +12,7 @@ use Rattle.wire.specs.Int.{intBytes}
 use Rattle.wire.specs.Field.{unsigned}
 use Rattle.wire.proofs.Laws.{length-beBytes}
 use Rattle.wire.proofs.FieldLaws.{beBytes-one}
-use Rattle.stream.specs.Message.{framed}
+use Rattle.frames.specs.Message.{framed}
 use Rattle.replication.specs.CopyData.{xlogData, keepAlive}
 use Rattle.pgoutput.specs.Boundary.{beginBytes, commitBytes}
 use Rattle.load.specs.Code.{header, xlogHead}

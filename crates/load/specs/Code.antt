@@ -1,4 +1,4 @@
--- The messages as the code writes them: the header of a CopyData message, and what stands before the data of an XLogData.
+-- The messages as the code writes them: the header of a CopyData message, and what stands before the data of an XLogData. SCOPE 16.1.
 use Prim.Native.Nat.{ℕ, _+_}
 use mathlib.Core.List.{List, _∷_, _++_}
 use lib.IntN.{pos}

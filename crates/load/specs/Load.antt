@@ -7,22 +7,23 @@ use lib.ListN.{length, replicate}
 use lib.IntN.{pos}
 use lib.Dec.{eqb}
 use Rattle.wire.specs.Bytes.{pick, put}
+use Rattle.error.specs.Refusal.{numberOf as writerNumber}
 use Rattle.error.specs.Writer.{writing}
-use Rattle.stream.specs.Message.{framed}
+use Rattle.frames.specs.Message.{framed}
 use Rattle.replication.specs.CopyData.{xlogData, keepAlive}
 use Rattle.pgoutput.specs.Boundary.{beginBytes, commitBytes}
 use Rattle.load.specs.declared.Message.{Message}
 use Rattle.load.specs.declared.Message.the-variants.{KeepAlive, Begin, Data, Commit}
 use Rattle.load.specs.declared.Made.{Made}
 use Rattle.load.specs.declared.Refusal.{Refusal}
-use Rattle.load.specs.declared.Refusal.the-variants.{OutputTooShort, SeedZero}
+use Rattle.load.specs.declared.Refusal.the-variants.{Writer, SeedZero}
 use Rattle.load.specs.declared.Loaded.{Loaded}
 use Rattle.load.specs.declared.Loaded.the-variants.{Wrote, Refused}
 use Rattle.load.specs.Xorshift.{drawn}
 
--- the number of each refusal
+-- the number of each refusal; of a writer it is that of `error`
 abbrev pub numberOf : Refusal → ℕ
-numberOf OutputTooShort = 4
+numberOf (Writer r) = writerNumber r
 numberOf SeedZero = 35
 
 -- ---- what is drawn

@@ -6,7 +6,7 @@ use Prim.Native.Nat.{ℕ, _<_, _≤_, _^_}
 use lib.ListN.{length, replicate}
 use lib.Bits.{bitXor}
 use Rattle.wire.specs.Bytes.{beBytes}
-use Rattle.stream.specs.Message.{framed}
+use Rattle.frames.specs.Message.{framed}
 use Rattle.replication.specs.CopyData.{xlogData, keepAlive}
 use Rattle.pgoutput.specs.Boundary.{beginBytes, commitBytes}
 use Rattle.load.specs.declared.Message.the-variants.{KeepAlive, Begin, Data, Commit}

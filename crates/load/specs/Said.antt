@@ -3,9 +3,10 @@ use mathlib.Core.Path.{_≡_}
 use mathlib.Core.Bool.{true, false}
 use mathlib.Core.List.{[], _∷_}
 use Prim.Native.Nat.{ℕ, _+_}
+use Rattle.error.specs.declared.Refusal.the-variants.{OutputTooShort}
 use Rattle.load.specs.declared.Message.{Message}
 use Rattle.load.specs.declared.Message.the-variants.{KeepAlive, Begin, Data, Commit}
-use Rattle.load.specs.declared.Refusal.the-variants.{OutputTooShort, SeedZero}
+use Rattle.load.specs.declared.Refusal.the-variants.{Writer, SeedZero}
 use Rattle.load.specs.declared.Loaded.the-variants.{Wrote, Refused}
 use Rattle.load.specs.Xorshift.{nextOf}
 use Rattle.load.specs.Load.{numberOf, outcome, madeOf}
@@ -14,7 +15,7 @@ use Rattle.load.specs.Words.{eventWords, madeWords}
 -- the number and the length of an answer
 pub record Answers-say : Type 0 where
   pub wrote : (n : ℕ) → outcome (Wrote n) ≡ (0, n)
-  pub too-short : (outcome (Refused OutputTooShort) ≡ (4, 0)) × (numberOf OutputTooShort ≡ 4)
+  pub too-short : (outcome (Refused (Writer OutputTooShort)) ≡ (4, 0)) × (numberOf (Writer OutputTooShort) ≡ 4)
   pub zero-seed : (outcome (Refused SeedZero) ≡ (35, 0)) × (numberOf SeedZero ≡ 35)
 
 -- the seven words of a message: its kind, and the numbers that its event has (9.2); start and end of an XLogData are told of other data only. With

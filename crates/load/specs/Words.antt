@@ -1,17 +1,12 @@
 -- The event of a message as words: its kind and its numbers, as in the answer of a step (SCOPE 9.2); times are 0, and other data begins at place 25
 -- of the payload. SCOPE 9.9; document 02, wish 13.
 use Prim.Native.Nat.{ℕ, _+_}
-use mathlib.Core.Bool.{Bool, true, false}
 use mathlib.Core.List.{List, [], _∷_}
+use Rattle.wire.specs.Bytes.{flagWord}
 use Rattle.load.specs.declared.Message.{Message}
 use Rattle.load.specs.declared.Message.the-variants.{KeepAlive, Begin, Data, Commit}
 use Rattle.load.specs.declared.Made.{Made}
 use Rattle.load.specs.Load.{madeOf, loading}
-
--- a flag is 1 or 0
-abbrev pub flagWord : Bool → ℕ
-flagWord true = 1
-flagWord false = 0
 
 -- 1 KeepAlive, 2 Begin, 3 Commit, 5 XLogData
 abbrev pub eventWords : Message → List ℕ

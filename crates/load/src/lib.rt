@@ -45,7 +45,7 @@ pub struct Made {
 }
 
 pub enum Refusal {
-    OutputTooShort, // the stream is longer than the output
+    Writer(error::Refusal), // a writer's own: the stream is longer than the output
     SeedZero, // from 0 only 0 is drawn
 }
 
@@ -61,7 +61,7 @@ impl Refusal {
         ensures { λ r. ⌜ r ≡ numberOf self ⌝ }
     {
         match self {
-            Refusal::OutputTooShort => 4,
+            Refusal::Writer(r) => r.number(),
             Refusal::SeedZero => 35,
         }
     }
@@ -133,7 +133,7 @@ pub fn write_load(seed: u64, messages: u64, out: &mut [u8]) -> Loaded
         return Loaded::Refused(Refusal::SeedZero);
     }
     let Counted::Fits(n) = measure(seed, messages, out.len()) else {
-        return Loaded::Refused(Refusal::OutputTooShort);
+        return Loaded::Refused(Refusal::Writer(error::Refusal::OutputTooShort));
     };
     fill(seed, messages, out);
     Loaded::Wrote(n)

@@ -1,36 +1,31 @@
-// What a writing answered, and the event of a message, as words. SCOPE 9.9.
+// What a writing answered, and the event of a message, as words of 64 bits. SCOPE 9.9. Their number has a name in layout.rt.
 ghost use mathlib.Core.Path.{_≡_};
 ghost use Rattle.load.specs.Load.{outcome};
-ghost use Rattle.load.specs.Words.{flagWord, eventWords};
+ghost use Rattle.load.specs.Words.{eventWords};
 use crate::Loaded;
 use crate::Message;
 use crate::layout;
+use wire::word::flag;
 
 // A refusal's number, 0 for none, and how many bytes were written.
-pub struct Reply {
+pub struct LoadedReply {
     pub refusal: u64,
     pub written: u64,
 }
 
-pub fn reply_of(answer: Loaded) -> Reply
+pub fn loaded_reply(answer: Loaded) -> LoadedReply
     ensures { λ r. ⌜ (r .refusal, r .written) ≡ outcome answer ⌝ }
 {
     match answer {
-        Loaded::Wrote(n) => Reply {
+        Loaded::Wrote(n) => LoadedReply {
             refusal: 0,
             written: n as u64,
         },
-        Loaded::Refused(r) => Reply {
+        Loaded::Refused(r) => LoadedReply {
             refusal: r.number() as u64,
             written: 0,
         },
     }
-}
-
-fn flag(b: bool) -> u64
-    ensures { λ r. ⌜ r ≡ flagWord b ⌝ }
-{
-    if b { 1 } else { 0 }
 }
 
 // Other data begins at place 25 of a payload.

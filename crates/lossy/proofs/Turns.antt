@@ -12,8 +12,9 @@ use Rattle.lossy.specs.Lossy.{Part, well, ill, partBy, bytesOf, shown, l
 use Rattle.lossy.specs.Marks.{marksIn, marksOf}
 use Rattle.lossy.specs.Stretch.{stretchOf}
 use Rattle.lossy.specs.Blocks.{PassedTo}
-use Rattle.lossy.specs.Code.{partFound, PartAt}
+use Rattle.lossy.specs.Code.{partFound, PartAt, WalkedTo}
 use Rattle.lossy.specs.declared.part.Part.{Part as Cut}
+use Rattle.lossy.specs.declared.Stretch.{Stretch}
 use Rattle.lossy.proofs.Laws.{bytes-either, lossy-next, marks-next, stretchPart, stretch-next}
 
 -- a part that was found to be ill-formed
@@ -62,3 +63,19 @@ passed-on {s} {i} {j} {k} p q =
     let a : i ≤ j = p .from in
     let b : j ≤ k = q .from in
     record { from = omega arith; within = q .within; is = p .is ∙ q .is }
+
+-- a well-formed part after what was passed is passed
+pub passed-part : (s : List ℕ) (from i : ℕ) (p : Cut) → PassedTo s from i → i < length s → PartAt s i p → p .well ≡ true
+    → (i + p .len ≤ length s) × PassedTo s from (i + p .len)
+passed-part s from i p q h a w =
+    let e = stretch-goes-on s i p h a w in
+    let f : from ≤ i = q .from in
+    let g = q .is in
+    (a .ends, record { from = omega arith; within = a .ends; is = omega arith })
+
+-- an ill-formed part after what was passed ends the walk
+pub walked-ill : (s : List ℕ) (from stop i : ℕ) (p : Cut) → PassedTo s from i → PartAt s i p → p .well ≡ false
+    → WalkedTo s from stop (record { end = i; ill = p .len })
+walked-ill s from stop i p q a w =
+    let o : 1 ≤ p .len = a .some in
+    record { passed = q; far = λ n. absurd (omega arith); behind = λ n. ill-part s i p a w }

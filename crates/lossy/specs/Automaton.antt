@@ -36,6 +36,7 @@ pub record Cases : Type 0 where
   pub letter-within : afterAll between (0xE2 ∷ 0x42 ∷ []) ≡ none
   pub surrogate : afterAll between (0xED ∷ 0xA0 ∷ []) ≡ none
 
+-- each by computing the definitions
 pub cases : Cases
 unfolding afterAll rowOf table
 cases = record { cut = refl; whole = refl; letter-within = refl; surrogate = refl }

@@ -1,4 +1,4 @@
--- What the private functions answer: the ranges after a first byte, and a part by its length.
+-- What the private functions answer: the ranges after a first byte, and a part by its length. SCOPE 2.6.
 use Prim.Native.Nat.{ℕ, _+_, _≤_}
 use mathlib.Core.Path.{_≡_}
 use mathlib.Core.Bool.{Bool, true, false}

@@ -86,6 +86,7 @@ pub record Cases : Type 0 where
   pub two : marksOf (0xFF ∷ 0xFF ∷ []) ≡ 2
   pub well-formed : marksOf (0xE2 ∷ 0x82 ∷ 0xAC ∷ []) ≡ 0
 
+-- each by computing the definitions
 pub cases : Cases
 unfolding seen marksOf marksAll partsOf rowOf table matched
 cases =

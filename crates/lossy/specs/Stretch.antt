@@ -54,6 +54,7 @@ pub record Cases : Type 0 where
   -- U+FFFD of the text's own is well-formed
   pub own-mark : stretchOf (0xEF ∷ 0xBF ∷ 0xBD ∷ 0xC2 ∷ []) ≡ 3
 
+-- each by computing the definitions
 pub cases : Cases
 unfolding stretchOf stretchAll partsOf rowOf table matched
 cases = record { none = refl; cut = refl; cut-before = refl; whole = refl; before-a-byte = refl; own-mark = refl }

@@ -237,7 +237,8 @@ pub fn place(out: &mut [u8], to: usize, text: &[u8]) -> usize
 
 // The lossy text over the front of out, and its marks. A text without marks is well-formed to its end, and copied whole without a second walk.
 fn write_by(text: &[u8], out: &mut [u8], by_table: bool) -> Lossy
-    ensures { λ r. ⌜ (lossyOutcome r, now (out .exit)) ≡ withMarks (marksOf (now (text .entry))) (writing (length (now (text .entry))) (lossyOf (now (text .entry))) (now (out .entry))) ⌝ }
+    ensures { λ r. ⌜ (lossyOutcome r, now (out .exit))
+        ≡ withMarks (marksOf (now (text .entry))) (writing (length (now (text .entry))) (lossyOf (now (text .entry))) (now (out .entry))) ⌝ }
 {
     if INPUT_LIMIT < text.len() {
         return Lossy::Refused(Refusal::InputTooLong);
@@ -255,7 +256,8 @@ fn write_by(text: &[u8], out: &mut [u8], by_table: bool) -> Lossy
 
 // The lossy text over the front of out, and its marks.
 pub fn write_lossy(text: &[u8], out: &mut [u8]) -> Lossy
-    ensures { λ r. ⌜ (lossyOutcome r, now (out .exit)) ≡ withMarks (marksOf (now (text .entry))) (writing (length (now (text .entry))) (lossyOf (now (text .entry))) (now (out .entry))) ⌝ }
+    ensures { λ r. ⌜ (lossyOutcome r, now (out .exit))
+        ≡ withMarks (marksOf (now (text .entry))) (writing (length (now (text .entry))) (lossyOf (now (text .entry))) (now (out .entry))) ⌝ }
 {
     write_by(text, out, true)
 }

@@ -18,7 +18,8 @@ pub fn well_formed_prefix(text: &[u8]) -> usize
 
 // The lossy text over the front of out, and its marks.
 pub fn write_lossy(text: &[u8], out: &mut [u8]) -> Lossy
-    ensures { λ r. ⌜ (lossyOutcome r, now (out .exit)) ≡ withMarks (marksOf (now (text .entry))) (writing (length (now (text .entry))) (lossyOf (now (text .entry))) (now (out .entry))) ⌝ }
+    ensures { λ r. ⌜ (lossyOutcome r, now (out .exit))
+        ≡ withMarks (marksOf (now (text .entry))) (writing (length (now (text .entry))) (lossyOf (now (text .entry))) (now (out .entry))) ⌝ }
 {
     write_by(text, out, false)
 }

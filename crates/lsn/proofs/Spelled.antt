@@ -52,7 +52,7 @@ digit-is c d e =
     (omega (arith, b .0, b .1), inr (simp (le-ltb _ _ h) (omega (arith, b .0)))))
     (λ v. let f : _≡_ {A = Option ℕ} none (some d) = rw (t, u, v) at e in impossible cc)))
 
--- the digit of a value in upper case ..
+-- the digit of a value in upper case is read as the value
 pub digit-glyph : (d : ℕ) → d < 16 → digitOf (glyphOf d) ≡ some d
 unfolding digitOf
 digit-glyph d h =
@@ -65,7 +65,7 @@ digit-glyph d h =
     simp (t, le-leb 48 (55 + d) (omega arith), lt-leb (55 + d) 57 (omega arith), le-leb 65 (55 + d) (omega arith), le-leb (55 + d) 70 (omega arith))
     (ap some (omega arith)))
 
--- .. and in lower case
+-- the digit of a value in lower case is read as the value
 digit-lower : (d : ℕ) → d < 16 → digitOf (lowerOf d) ≡ some d
 unfolding digitOf
 digit-lower d h =

@@ -21,7 +21,8 @@ use Rattle.messages.specs.declared.Field.{Field}
 use Rattle.messages.specs.Fields.{Entry, entriesOf, absent, entered, lastOf, letters, fieldsOf, named}
 use Rattle.messages.specs.FieldLayout.{encode, Sendable, Laid, said, fieldsRead}
 use Rattle.messages.specs.ErrorText.{opened, closed, plain, coded, textBy, errorText, errorMarks}
-use Rattle.messages.specs.FieldsSent.{fifteen, either, lastValue, valueGiven, Fields-are-laid, Fields-are-sent, Field-is-within, ascii, textOf, Text-is-laid, valueMarks, Marks-are-laid, valueSeen, Text-shows-marks}
+use Rattle.text.specs.Ascii.{ascii}
+use Rattle.messages.specs.FieldsSent.{fifteen, either, lastValue, valueGiven, Fields-are-laid, Fields-are-sent, Field-is-within, textOf, Text-is-laid, valueMarks, Marks-are-laid, valueSeen, Text-shows-marks}
 use Rattle.messages.proofs.Laws.{unread, unread-start, unread-end, unread-zero, unread-cut, unread-field}
 use Rattle.messages.proofs.FieldLayout.{laid-is-read}
 

@@ -1,5 +1,6 @@
 -- The fields of an ErrorResponse: PostgreSQL documentation, "Message Formats" (ErrorResponse) and "Error and Notice Message Fields".
--- A field is a letter and a string that ends in a zero byte; a zero byte where a letter is due ends the message. SCOPE 2.4; 01, "Texts and positions".
+-- A field is a letter and a string that ends in a zero byte; a zero byte where a letter is due ends the message. SCOPE 2.4; 01,
+-- "Texts and positions".
 use mathlib.Core.Option.{Option, some, none}
 use mathlib.Core.Bool.{true, false}
 use mathlib.Core.List.{List, [], _∷_, map}

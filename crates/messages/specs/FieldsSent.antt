@@ -6,11 +6,11 @@ use mathlib.Core.List.{List, [], _∷_, _++_, map}
 use mathlib.Core.Option.{Option, some, none}
 use Prim.Native.Nat.{ℕ, _+_, _≤_}
 use Prim.Native.Char.{code}
-use Prim.Native.String.{String, [] as empty, _∷_ as joinChar}
 use lib.ListN.{length, getD}
 use lib.Dec.{eqb}
 use Rattle.wire.specs.Bytes.{pick}
 use Rattle.wire.specs.Find.{indexOf}
+use Rattle.text.specs.Ascii.{ascii}
 use Rattle.utf8.specs.WellFormed.{table, rowOf, matched}
 use Rattle.lossy.specs.Lossy.{lossyOf, partsOf}
 use Rattle.lossy.specs.Marks.{seen, marksAll, marksOf}
@@ -56,11 +56,6 @@ Field-is-within = (payload : List ℕ) (i : ℕ) → let f = getD (fieldsOf payl
 
 -- ---- the text
 
--- the bytes of an ASCII text
-unfoldable pub ascii : String → List ℕ
-ascii empty = []
-ascii (joinChar c s) = code c ∷ ascii s
-
 -- the text of a message and a code, where they are given
 abbrev pub textOf : Option (List ℕ) → Option (List ℕ) → List ℕ
 textOf (some m) (some c) = lossyOf m ++ (ascii " (SQLSTATE " ++ (lossyOf c ++ ascii ")"))
@@ -92,7 +87,8 @@ valueSeen none = 0
 
 -- the error text shows U+FFFD where the values that it shows have it, and in as many places more as are counted
 abbrev pub Text-shows-marks : Type 0
-Text-shows-marks = (payload : List ℕ) (fs : List (ℕ × List ℕ)) → Laid payload fs → let m = lastValue (code "M") fs in let c = lastValue (code "C") fs in
+Text-shows-marks =
+    (payload : List ℕ) (fs : List (ℕ × List ℕ)) → Laid payload fs → let m = lastValue (code "M") fs in let c = lastValue (code "C") fs in
     seen (errorText (fieldsOf payload) payload) ≡ valueSeen m + valueSeen c + errorMarks (fieldsOf payload) payload
 
 -- the marks of a payload's error text
@@ -110,6 +106,7 @@ pub record Cases : Type 0 where
   pub its-own-mark : marksShown (77 ∷ 0xEF ∷ 0xBF ∷ 0xBD ∷ 0 ∷ 0 ∷ []) ≡ 0
   pub no-field : marksShown [] ≡ 0
 
+-- each by computing the definitions
 pub cases : Cases
 unfolding errorMarks fieldsOf lastOf entriesOf entriesFrom indexOf marksOf marksAll partsOf rowOf table matched
 cases = record { message-and-code = refl; last-message = refl; detail-alone = refl; its-own-mark = refl; no-field = refl }

@@ -179,7 +179,9 @@ pub fn part(payload: &[u8], f: Field) -> &[u8]
 
 // The length of the text with the code after it, both lossy, where that is at most room, and the marks of both. 12 of the bytes are neither's.
 fn measure_coded(text: &[u8], code: &[u8], room: usize) -> Measured
-    ensures { λ r. ⌜ measureOf r ≡ measured room (length (coded (lossyOf (now (text .entry))) (lossyOf (now (code .entry))))) (marksOf (now (text .entry)) + marksOf (now (code .entry))) ⌝ }
+    ensures { λ r. ⌜ measureOf r
+        ≡ measured room (length (coded (lossyOf (now (text .entry))) (lossyOf (now (code .entry)))))
+        (marksOf (now (text .entry)) + marksOf (now (code .entry))) ⌝ }
 {
     let Measured::Fits { bytes, marks } = lossy::measure(text, room) else {
         return Measured::Over;
@@ -202,7 +204,9 @@ fn measure_coded(text: &[u8], code: &[u8], room: usize) -> Measured
 
 // Writes the text with the code after it, both lossy.
 fn with_code(text: &[u8], code: &[u8], out: &mut [u8]) -> Lossy
-    ensures { λ r. ⌜ (lossyOutcome r, now (out .exit)) ≡ withMarks (marksOf (now (text .entry)) + marksOf (now (code .entry))) (writing 0 (coded (lossyOf (now (text .entry))) (lossyOf (now (code .entry)))) (now (out .entry))) ⌝ }
+    ensures { λ r. ⌜ (lossyOutcome r, now (out .exit))
+        ≡ withMarks (marksOf (now (text .entry)) + marksOf (now (code .entry)))
+        (writing 0 (coded (lossyOf (now (text .entry))) (lossyOf (now (code .entry)))) (now (out .entry))) ⌝ }
 {
     let Measured::Fits { bytes, marks } = measure_coded(text, code, out.len()) else {
         return Lossy::Refused(Refusal::OutputTooShort);
@@ -216,7 +220,9 @@ fn with_code(text: &[u8], code: &[u8], out: &mut [u8]) -> Lossy
 
 // The text of an error, for people, and its marks.
 pub fn to_error_string(fields: ErrorFields, payload: &[u8], out: &mut [u8]) -> Lossy
-    ensures { λ r. ⌜ (lossyOutcome r, now (out .exit)) ≡ withMarks (errorMarks (fields .fields) (now (payload .entry))) (writing (length (now (payload .entry))) (errorText (fields .fields) (now (payload .entry))) (now (out .entry))) ⌝ }
+    ensures { λ r. ⌜ (lossyOutcome r, now (out .exit))
+        ≡ withMarks (errorMarks (fields .fields) (now (payload .entry)))
+        (writing (length (now (payload .entry))) (errorText (fields .fields) (now (payload .entry))) (now (out .entry))) ⌝ }
 {
     if INPUT_LIMIT < payload.len() {
         return Lossy::Refused(Refusal::InputTooLong);
@@ -240,7 +246,9 @@ pub fn to_error_string(fields: ErrorFields, payload: &[u8], out: &mut [u8]) -> L
 
 // The text of the error that a payload holds, and its marks.
 pub fn parse_error_response(payload: &[u8], out: &mut [u8]) -> Lossy
-    ensures { λ r. ⌜ (lossyOutcome r, now (out .exit)) ≡ withMarks (errorMarks (fieldsOf (now (payload .entry))) (now (payload .entry))) (writing (length (now (payload .entry))) (errorText (fieldsOf (now (payload .entry))) (now (payload .entry))) (now (out .entry))) ⌝ }
+    ensures { λ r. ⌜ (lossyOutcome r, now (out .exit))
+        ≡ withMarks (errorMarks (fieldsOf (now (payload .entry))) (now (payload .entry)))
+        (writing (length (now (payload .entry))) (errorText (fieldsOf (now (payload .entry))) (now (payload .entry))) (now (out .entry))) ⌝ }
 {
     let f = ErrorFields::parse(payload);
     to_error_string(f, payload, out)

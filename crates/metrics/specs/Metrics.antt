@@ -26,24 +26,36 @@ noCounts = metrics 0 0 0 0 0 (record { 0 = 0 }) (record { 0 = 0 })
 
 -- an event was handed on
 abbrev pub withEvent : Metrics → Metrics
-withEvent m = metrics (more (m .«events_forwarded») 1) (m .«feedback_sent») (m .«keepalive_replies») (m .«stall_count») (m .«stall_micros_total») (m .«last_applied_lsn») (m .«last_wal_end»)
+withEvent m =
+    metrics (more (m .«events_forwarded») 1) (m .«feedback_sent») (m .«keepalive_replies») (m .«stall_count»)
+    (m .«stall_micros_total») (m .«last_applied_lsn») (m .«last_wal_end»)
 
 -- a status was sent that confirms a position
 abbrev pub withStatus : Metrics → Lsn → Metrics
-withStatus m p = metrics (m .«events_forwarded») (more (m .«feedback_sent») 1) (m .«keepalive_replies») (m .«stall_count») (m .«stall_micros_total») p (m .«last_wal_end»)
+withStatus m p =
+    metrics (m .«events_forwarded») (more (m .«feedback_sent») 1) (m .«keepalive_replies») (m .«stall_count»)
+    (m .«stall_micros_total») p (m .«last_wal_end»)
 
 -- a status was sent in reply to a keepalive
 abbrev pub withReply : Metrics → Metrics
-withReply m = metrics (m .«events_forwarded») (m .«feedback_sent») (more (m .«keepalive_replies») 1) (m .«stall_count») (m .«stall_micros_total») (m .«last_applied_lsn») (m .«last_wal_end»)
+withReply m =
+    metrics (m .«events_forwarded») (m .«feedback_sent») (more (m .«keepalive_replies») 1) (m .«stall_count»)
+    (m .«stall_micros_total») (m .«last_applied_lsn») (m .«last_wal_end»)
 
 -- a stall began
 abbrev pub withStall : Metrics → Metrics
-withStall m = metrics (m .«events_forwarded») (m .«feedback_sent») (m .«keepalive_replies») (more (m .«stall_count») 1) (m .«stall_micros_total») (m .«last_applied_lsn») (m .«last_wal_end»)
+withStall m =
+    metrics (m .«events_forwarded») (m .«feedback_sent») (m .«keepalive_replies») (more (m .«stall_count») 1)
+    (m .«stall_micros_total») (m .«last_applied_lsn») (m .«last_wal_end»)
 
 -- a stall ended after so many microseconds
 abbrev pub withStallEnd : Metrics → ℕ → Metrics
-withStallEnd m n = metrics (m .«events_forwarded») (m .«feedback_sent») (m .«keepalive_replies») (m .«stall_count») (more (m .«stall_micros_total») n) (m .«last_applied_lsn») (m .«last_wal_end»)
+withStallEnd m n =
+    metrics (m .«events_forwarded») (m .«feedback_sent») (m .«keepalive_replies») (m .«stall_count»)
+    (more (m .«stall_micros_total») n) (m .«last_applied_lsn») (m .«last_wal_end»)
 
 -- a message told the server's end
 abbrev pub withEnd : Metrics → Lsn → Metrics
-withEnd m e = metrics (m .«events_forwarded») (m .«feedback_sent») (m .«keepalive_replies») (m .«stall_count») (m .«stall_micros_total») (m .«last_applied_lsn») e
+withEnd m e =
+    metrics (m .«events_forwarded») (m .«feedback_sent») (m .«keepalive_replies») (m .«stall_count»)
+    (m .«stall_micros_total») (m .«last_applied_lsn») e

@@ -11,7 +11,7 @@ use lib.Dec.{ltb}
 use borrow.Author.Tests.{lt-ltb}
 use Rattle.wire.specs.Bytes.{put, placed}
 use Rattle.wire.proofs.Laws.{by-test, placed-fits}
-use Rattle.config.specs.ReadBack.{ascii}
+use Rattle.text.specs.Ascii.{ascii}
 use Rattle.text.specs.Numeral.{numeral, decimalText}
 use Rattle.text.proofs.Laws.{shorter, numeral-length}
 use Rattle.lsn.specs.Position.{displayOf}

@@ -12,7 +12,7 @@ use Rattle.wire.specs.Bytes.{pick}
 use Rattle.wire.specs.Find.{indexOf}
 use Rattle.wire.specs.Field.{andThen}
 use Rattle.wire.proofs.Laws.{by-test, impossible}
-use Rattle.config.specs.ReadBack.{ascii}
+use Rattle.text.specs.Ascii.{ascii}
 use Rattle.text.specs.Numeral.{glyphOf, numeral, decimalText}
 use Rattle.text.proofs.Laws.{digit-below, numeral-length}
 use Rattle.text.proofs.Cases.{text-laws}
@@ -132,7 +132,7 @@ line-next label value rest h k =
     let e : (flushLeft 12 label ++ (flushRight 20 value ++ (10 ∷ []))) ++ rest ≡ lineText label value ++ (10 ∷ rest) = simp append-assoc in
     ap linesOf e ∙ lines-next (lineText label value) rest (text-within label value (visible label h) k)
 
--- .. with nothing after it
+-- the last line, with nothing after it
 line-last : (label value : List ℕ) → isVisible label ≡ true → Within 33 value → linesOf (lineOf label value) ≡ lineText label value ∷ []
 unfolding lineOf linesOf
 line-last label value h k =

@@ -4,7 +4,7 @@ use mathlib.Core.Bool.{Bool}
 use mathlib.Core.List.{List, [], _∷_, _++_}
 use lib.ListN.{length, getD, replicate}
 use Rattle.wire.specs.Bytes.{pick}
-use Rattle.config.specs.ReadBack.{ascii}
+use Rattle.text.specs.Ascii.{ascii}
 use Rattle.text.specs.Numeral.{decimalText}
 use Rattle.lsn.specs.Position.{displayOf}
 use Rattle.page.specs.declared.Page.{Page}

@@ -6,7 +6,7 @@ use mathlib.Core.List.{List, [], _∷_, _++_}
 use Prim.Native.Nat.{ℕ, zero, suc, _+_, _≤_}
 use Prim.Native.Char.{code}
 use lib.ListN.{length, replicate}
-use Rattle.config.specs.ReadBack.{ascii}
+use Rattle.text.specs.Ascii.{ascii}
 use Rattle.text.specs.Spelling.{SpelledTo}
 use Rattle.lsn.specs.PositionLaws.{Displayed}
 use Rattle.page.specs.declared.Page.{Page}

@@ -10,7 +10,7 @@ use lib.ListN.{length}
 use lib.Dec.{eqb}
 use Rattle.wire.specs.Bytes.{pick}
 use Rattle.wire.specs.Field.{andThen}
-use Rattle.config.specs.ReadBack.{ascii, onFirst}
+use Rattle.text.specs.Ascii.{ascii, onFirst}
 use Rattle.text.specs.Numeral.{decimalText}
 use Rattle.text.specs.TextCases.{decimalFrom}
 use Rattle.lsn.specs.Position.{positionOf, displayOf}

@@ -3,7 +3,7 @@ ghost use mathlib.Core.Path.{_≡_};
 ghost use Prim.Native.Nat.{_≤_};
 ghost use lib.ListN.{length};
 ghost use Rattle.wire.specs.Bytes.{placed};
-ghost use Rattle.config.specs.ReadBack.{ascii};
+ghost use Rattle.text.specs.Ascii.{ascii};
 ghost use Rattle.lsn.specs.Position.{displayOf};
 ghost use Rattle.text.specs.Numeral.{decimalText};
 ghost use Rattle.error.specs.Writer.{writing, outcome};

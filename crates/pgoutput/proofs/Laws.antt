@@ -41,7 +41,7 @@ prefix-within s i n e =
 pub over-prefix : (s : List ℕ) (from i n : ℕ) → from ≡ i → i + n < length s → skipped s from (n + 1) ≡ i + n + 1
 over-prefix s from i n e h = rw e (skipped-within s i (n + 1) (omega arith) ∙ omega arith)
 
--- .. and over the content's length
+-- a reader at the prefix, moved over it, its zero byte and the content's length
 pub over-count : (s : List ℕ) (from i n : ℕ) → from ≡ i → i + n + 1 + 4 ≤ length s → skipped s from (n + 5) ≡ i + n + 1 + 4
 over-count s from i n e h = rw e (skipped-within s i (n + 5) (omega arith) ∙ omega arith)
 

@@ -126,7 +126,7 @@ read-is-message s flag position pf pl cf cl bytes e =
     let i₅ : cl ≡ len = cc in
     rw (q, i₀, i₁, i₂, i₃, i₄, i₅) (sent t v a n len (rw q at bytes) (rw q at d) (rw q at f) (rw q at g) (rw q at h) b (rw q at l)))
 
--- .. of any list of numbers, the parts that are named lie within it
+-- the parts that are named lie within the data, of any list of numbers
 pub parts-within : (s : List ℕ) (flag : Bool) (position pf pl cf cl : ℕ) → boundaryOf s ≡ message flag position pf pl cf cl
     → (pf + pl ≤ length s) × (cf + cl ≤ length s)
 parts-within s flag position pf pl cf cl e =

@@ -1,5 +1,5 @@
--- The layout of Begin, Commit and Message, both ways: what is sent is read as what it says, whatever follows, and what is read was sent so.
--- Positions are below 2 ^ 64, a time is a signed number of 64 bits, data are bytes.
+-- The layout of Begin, Commit and Message, both ways: what is sent is read as what it says, whatever follows, and what is read was sent so. Positions
+-- are below 2 ^ 64, a time is a signed number of 64 bits, data are bytes. SCOPE 3.9.
 use mathlib.Core.Path.{_≡_}
 use mathlib.Core.Bool.{Bool, true}
 use mathlib.Core.List.{List, _++_}

@@ -15,7 +15,7 @@ use Rattle.text.specs.Numeral.{decimalText, numeral}
 use Rattle.lsn.specs.Hex.{digitOf, valueFrom, hexPart}
 use Rattle.lsn.specs.Position.{joined, positionOf, displayOf}
 use Rattle.lsn.proofs.Spelled.{spelled-laws}
-use Rattle.lines.specs.Line.{endTexts}
+use Rattle.test_lines.specs.Line.{endTexts}
 use Rattle.positions.specs.declared.stored.Held.{Held}
 use Rattle.positions.specs.Stored.{shownOf, endTextsOf, fresh, turnTexts, turnHeld, turnLine, lastTexts}
 use Rattle.positions.specs.Printed.{linesFrom, lineText, printedOf, written, turnsPrint, Turns-print-lines, PrintedCases}
@@ -44,7 +44,7 @@ never-accepted s h =
     absurd (omega (arith, spelled-laws .halves s (positionOf s .1) x .3)))
     (λ e. e)
 
--- .. so of a longer line each byte more is one more that is shown
+-- of a longer line each byte more is one more that is shown
 longer-line : (t : List ℕ) (b : ℕ) → 255 ≤ length t → lineText (t ++ (b ∷ [])) ≡ lineText t ++ (b ∷ [])
 unfolding lineText
 longer-line t b h =

@@ -7,7 +7,7 @@ use lib.Dec.{ltb, eqb}
 use Rattle.wire.specs.Bytes.{pick}
 use Rattle.text.specs.Numeral.{decimalText}
 use Rattle.lsn.specs.Position.{positionOf, displayOf}
-use Rattle.lines.specs.Line.{pieces, endTexts}
+use Rattle.test_lines.specs.Line.{pieces, endTexts}
 use Rattle.positions.specs.declared.stored.Held.{Held}
 
 -- a refusal's number, a space and the line as stored
@@ -48,13 +48,15 @@ heldAfter h line =
 abbrev pub lineAfter : Held → List ℕ → ℕ → List ℕ
 lineAfter h line b = pick (h .long) line (pick (ltb (h .n) (length line)) (set line (h .n) b) line)
 
--- one byte more, a line feed or a byte of the line: what is printed, what is held after it, and the line
+-- what is printed for one byte more: a line feed or a byte of the line
 unfoldable pub turnTexts : Held → List ℕ → ℕ → List (List ℕ)
 turnTexts h line b = pick (eqb b 10) (endTextsOf h line) (byteTexts h line b)
 
+-- what is held after one byte more
 unfoldable pub turnHeld : Held → List ℕ → ℕ → Held
 turnHeld h line b = pick (eqb b 10) fresh (heldAfter h line)
 
+-- the line after one byte more
 unfoldable pub turnLine : Held → List ℕ → ℕ → List ℕ
 turnLine h line b = pick (eqb b 10) line (lineAfter h line b)
 

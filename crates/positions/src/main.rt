@@ -10,7 +10,7 @@ const SPARE: usize = 512;
 // Writes what was collected; the next byte prints at the front.
 fn flushed(t: Told, out: &[u8]) -> Told {
     let held = t.held;
-    lines::print(out, t.at);
+    test_lines::print(out, t.at);
     Told { held, at: 0 }
 }
 
@@ -62,7 +62,7 @@ fn end(t: Told, line: &[u8], out: &mut [u8]) -> bool {
     let u = written(t, out);
     let h = u.held;
     let n = stored::last(h, line, out, u.at);
-    lines::print(out, n)
+    test_lines::print(out, n)
 }
 
 // All pieces, then the last line. Nothing says that an input ends, so the pieces are counted down.
@@ -75,7 +75,7 @@ fn run(bytes: &mut [u8], line: &mut [u8], out: &mut [u8]) -> bool {
     while pieces > 0 {
         let r = read(t, bytes, line, out);
         t = r.turn;
-        pieces = lines::left(pieces, r.go);
+        pieces = test_lines::left(pieces, r.go);
     }
     end(t, line, out)
 }

@@ -1,6 +1,6 @@
 // A line of a file of stored positions, byte by byte, and what is printed of it.
 ghost use mathlib.Core.Path.{_≡_};
-ghost use Rattle.lines.specs.Line.{pieces};
+ghost use Rattle.test_lines.specs.Line.{pieces};
 ghost use Rattle.positions.specs.Stored.{shownOf, refusedTexts, endTextsOf, passedTexts, lastTexts, turnTexts, turnHeld, turnLine};
 use lsn::Lsn;
 use lsn::Parsed;
@@ -42,11 +42,11 @@ fn ended(out: &mut [u8], at: usize, h: Held, line: &[u8]) -> usize
     ensures { λ r. ⌜ (r, now (out .exit)) ≡ pieces (now (out .entry)) at (endTextsOf h (now (line .entry))) ⌝ }
 {
     if h.long {
-        return lines::end(out, at);
+        return test_lines::end(out, at);
     }
     let n = least(h.n, line.len());
     let a = shown(out, at, &line[0..n]);
-    lines::end(out, a)
+    test_lines::end(out, a)
 }
 
 // The first byte that cannot be held: what is held is judged, and both are shown.
@@ -60,7 +60,9 @@ fn passed(out: &mut [u8], at: usize, line: &[u8], b: u8) -> usize
 
 // One byte more.
 pub(crate) fn turn(h: Held, b: u8, line: &mut [u8], out: &mut [u8], at: usize) -> Told
-    ensures { λ r. ⌜ (r .held ≡ turnHeld h (now (line .entry)) b) × (now (line .exit) ≡ turnLine h (now (line .entry)) b) × ((r .at, now (out .exit)) ≡ pieces (now (out .entry)) at (turnTexts h (now (line .entry)) b)) ⌝ }
+    ensures { λ r. ⌜ (r .held ≡ turnHeld h (now (line .entry)) b)
+        × (now (line .exit) ≡ turnLine h (now (line .entry)) b)
+        × ((r .at, now (out .exit)) ≡ pieces (now (out .entry)) at (turnTexts h (now (line .entry)) b)) ⌝ }
 {
     if b == b'\n' {
         let a = ended(out, at, h, line);

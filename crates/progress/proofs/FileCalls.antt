@@ -69,7 +69,7 @@ lifted c a b m e =
     by-test (ltb a b) (λ t. rw t)
     (λ t. let k : isBelow (cellPosition c) (position b) ≡ false = ap (λ (y : Lsn). isBelow y (position b)) e ∙ t in rw (t, k))
 
--- .. which is what the cell is told
+-- a raise that rises is one call more that the cell is told
 told-one : (start : Lsn) (t b : Bool) (s : Lsn) (m : Moment) (h : List Call)
     → pick b (raiseOf (cellAfter start t h) s m .cell) (cellAfter start t h) ≡ cellAfter start t (pick b (raise s m ∷ h) h)
 unfolding cellAfter

@@ -98,7 +98,7 @@ pub not-raised : (c : ProgressCell) (m : Moment) → raiseOf c (cellPosition c) 
 unfolding raiseOf
 not-raised c m = let e : isBelow (cellPosition c) (cellPosition c) ≡ false = le-ltb (cellPosition c .0) (cellPosition c .0) (omega arith) in rw e
 
--- .. and one that is raised to no lower position has it
+-- a cell that is raised to no lower position has that position
 pub raised-to : (c : ProgressCell) (s : Lsn) (m : Moment) → cellPosition c .0 ≤ s .0
     → cell s (cellSignal (raiseOf c s m .cell)) (cellPending (raiseOf c s m .cell)) (cellTiming (raiseOf c s m .cell)) ≡ raiseOf c s m .cell
 unfolding raiseOf
@@ -122,7 +122,7 @@ filed-is p n x m =
     rw t (same ∙ ap (λ (f : Files). beside f (raiseOf (asCell p) (smallest f) m .cell)) (sym e)))
     (λ t. rw t)
 
--- .. and its cell: raised to the smallest of the four
+-- the cell of filed progress is raised to the smallest of the four
 pub filed-cell : (p : Progress) (n : ℕ) (x : Lsn) (m : Moment)
     → asCell (filedOf p n x m .1) ≡ raiseOf (asCell p) (smallest (raisedIn n x (p .files))) m .cell
 filed-cell p n x m =

@@ -8,12 +8,12 @@ use lib.ListN.{length}
 use lib.Dec.{eqb}
 use borrow.Author.Tests.{eq-eqb, ne-eqb}
 use Rattle.wire.specs.Bytes.{pick, at}
-use Rattle.query.specs.Row.{columnAt, columnsFrom, also, nth, countOf, columnOf, columnOutcome}
+use Rattle.query.specs.DataRow.{columnAt, columnsFrom, also, nth, countOf, columnOf, columnOutcome}
 use Rattle.error.specs.Refusal.{numberOf}
 use Rattle.error.specs.declared.Refusal.{Refusal}
 use Rattle.error.proofs.Laws.{numbered}
 use Rattle.query.specs.Code.{pickedOf}
-use Rattle.query.specs.Fold.{row, refused, fresh, rowAnswer}
+use Rattle.query.specs.Fold.{dataRow, refused, fresh, dataRowAnswer}
 use Rattle.query.specs.declared.simple.SimpleQuery.{SimpleQuery}
 use Rattle.query.specs.declared.Column.{Column}
 use Rattle.query.specs.declared.Column.the-variants.{Absent}
@@ -106,10 +106,10 @@ one-picked (some cs) i = refl
 
 -- ---- a row's message
 
-pub row-handed : (q : SimpleQuery) (r : Option (List Column)) (n : ℕ) → (0, n) ≡ countOf r → (q, row n) ≡ rowAnswer q r
+pub row-handed : (q : SimpleQuery) (r : Option (List Column)) (n : ℕ) → (0, n) ≡ countOf r → (q, dataRow n) ≡ dataRowAnswer q r
 row-handed q none n e = let z : _≡_ {A = ℕ} 0 20 = ap (λ (p : ℕ × ℕ). p .0) e in absurd (omega arith)
-row-handed q (some cs) n e = ap (λ (k : ℕ). (q, row k)) (ap (λ (p : ℕ × ℕ). p .1) e)
+row-handed q (some cs) n e = ap (λ (k : ℕ). (q, dataRow k)) (ap (λ (p : ℕ × ℕ). p .1) e)
 
-pub row-refused : (q : SimpleQuery) (r : Option (List Column)) (x : Refusal) → (numberOf x, 0) ≡ countOf r → (fresh, refused (numberOf x)) ≡ rowAnswer q r
+pub row-refused : (q : SimpleQuery) (r : Option (List Column)) (x : Refusal) → (numberOf x, 0) ≡ countOf r → (fresh, refused (numberOf x)) ≡ dataRowAnswer q r
 row-refused q none x e = ap (λ (k : ℕ). (fresh, refused k)) (ap (λ (p : ℕ × ℕ). p .0) e)
 row-refused q (some cs) x e = absurd (numbered x (ap (λ (p : ℕ × ℕ). p .0) e))

@@ -1,4 +1,4 @@
 pub mod Laws
-pub mod RowLayout
+pub mod DataRowLayout
 pub mod Play
 pub mod Said

@@ -12,10 +12,10 @@ use lib.Dec.{leb}
 use borrow.Author.Tests.{leb-true, leb-false, eqb-true, eqb-false}
 use Rattle.wire.specs.Bytes.{put, copied}
 use Rattle.wire.proofs.Laws.{by-test, length-put}
-use Rattle.stream.specs.Tag.{isDataRow, isError, isReadyForQuery}
-use Rattle.query.specs.Row.{columnsOf, nth, columnOutcome}
-use Rattle.query.specs.Query.{Ending, Answer, answerFrom, answerOf, only, rowThen, endingBy}
-use Rattle.query.specs.Fold.{fresh, messageOf, rowAnswer, endAnswer}
+use Rattle.frames.specs.Tag.{isDataRow, isError, isReadyForQuery}
+use Rattle.query.specs.DataRow.{columnsOf, nth, columnOutcome}
+use Rattle.query.specs.Query.{Ending, Answer, answerFrom, answerOf, only, dataRowThen, endingBy}
+use Rattle.query.specs.Fold.{fresh, messageOf, dataRowAnswer, endAnswer}
 use Rattle.query.specs.Played.{asked, answered, Played, playedBy, playFrom, playOf, fitting, Holds, Ends, Play-answers, longest, Buffer-is-left, GoesOn, NoError, Last-error-wins, No-error-is-ready}
 use Rattle.query.specs.declared.Column.{Column}
 use Rattle.query.specs.declared.simple.SimpleQuery.{SimpleQuery}
@@ -56,7 +56,7 @@ end-agrees room none payload q error rest k = rw k (refl, (refl, refl))
 end-agrees room (some e) payload q error rest k = rw (k .0) (refl, (refl, k .1, refl))
 
 row-agrees : (room : ℕ) (r : Option (List Column)) (payload : List ℕ) (q : SimpleQuery) (error : List ℕ) (a : Answer) (rest : SimpleQuery → Played) → columnsOf payload ≡ r → Agrees room a (rest q)
-    → Agrees room (rowThen r a) (playedBy (rowAnswer q r .1) payload (rowAnswer q r .0) error (rest (rowAnswer q r .0)))
+    → Agrees room (dataRowThen r a) (playedBy (dataRowAnswer q r .1) payload (dataRowAnswer q r .0) error (rest (dataRowAnswer q r .0)))
 row-agrees room none payload q error a rest e h = (refl, (refl, refl))
 row-agrees room (some cs) payload q error a rest e h = (rw (e, row-asked cs, h .0), h .1)
 
@@ -117,7 +117,7 @@ end-left : (n : ℕ) (payload : List ℕ) (q : SimpleQuery) (error : List ℕ) (
 end-left n payload q error rest = by-test (q .failed) (λ t. rw t (refl, refl)) (λ t. rw t (refl, refl))
 
 row-left : (n : ℕ) (r : Option (List Column)) (payload : List ℕ) (q : SimpleQuery) (error : List ℕ) (rest : SimpleQuery → Played) → Left n error (rest q)
-    → Left n error (playedBy (rowAnswer q r .1) payload (rowAnswer q r .0) error (rest (rowAnswer q r .0)))
+    → Left n error (playedBy (dataRowAnswer q r .1) payload (dataRowAnswer q r .0) error (rest (dataRowAnswer q r .0)))
 row-left n none payload q error rest h = (refl, refl)
 row-left n (some cs) payload q error rest h = h
 
@@ -153,7 +153,7 @@ buffer-is-left error ms = leaves ms fresh error
 
 -- ---- the last error
 
-row-goes-on : (r : Option (List Column)) (a : Answer) → (r ≡ none → ⊥) → rowThen r a .ending ≡ a .ending
+row-goes-on : (r : Option (List Column)) (a : Answer) → (r ≡ none → ⊥) → dataRowThen r a .ending ≡ a .ending
 row-goes-on none a h = absurd (h refl)
 row-goes-on (some cs) a h = refl
 

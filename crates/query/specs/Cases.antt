@@ -6,7 +6,7 @@ use Prim.Native.Char.{code}
 use lib.ListN.{replicate}
 use Rattle.wire.specs.Bytes.{be, beFrom, put, copied}
 use Rattle.wire.specs.Field.{fieldAt}
-use Rattle.query.specs.Row.{columnAt, columnsFrom, columnsOf, countOf, nth, columnOf}
+use Rattle.query.specs.DataRow.{columnAt, columnsFrom, columnsOf, countOf, nth, columnOf}
 use Rattle.query.specs.Fold.{Said, fresh, messageOf}
 
 -- two columns: a null and the value "A"
@@ -14,8 +14,8 @@ abbrev pub twoColumns : List ℕ
 twoColumns = 0 ∷ 2 ∷ 0xFF ∷ 0xFF ∷ 0xFF ∷ 0xFF ∷ 0 ∷ 0 ∷ 0 ∷ 1 ∷ 0x41 ∷ []
 
 -- two columns, of which the second is cut
-abbrev pub cutRow : List ℕ
-cutRow = 0 ∷ 2 ∷ 0xFF ∷ 0xFF ∷ 0xFF ∷ 0xFF ∷ 0 ∷ 0 ∷ 0 ∷ 2 ∷ 0x41 ∷ []
+abbrev pub cutDataRow : List ℕ
+cutDataRow = 0 ∷ 2 ∷ 0xFF ∷ 0xFF ∷ 0xFF ∷ 0xFF ∷ 0 ∷ 0 ∷ 0 ∷ 2 ∷ 0x41 ∷ []
 
 -- an error of 13 bytes: the message "ABCDEF" and the code "42"
 abbrev pub anError : List ℕ
@@ -37,17 +37,18 @@ pub record Cases : Type 0 where
   -- 20: fewer than 2 bytes, a length that is cut, a value that is cut, for the row and each of its columns
   pub no-count : countOf (columnsOf (0 ∷ [])) ≡ (20, 0)
   pub length-cut : countOf (columnsOf (0 ∷ 1 ∷ 0 ∷ 0 ∷ 0 ∷ [])) ≡ (20, 0)
-  pub value-cut : countOf (columnsOf cutRow) ≡ (20, 0)
-  pub first-refused : columnOf (columnsOf cutRow) 0 ≡ (20, 0, 0, 0)
-  pub past-refused : columnOf (columnsOf cutRow) 2 ≡ (20, 0, 0, 0)
+  pub value-cut : countOf (columnsOf cutDataRow) ≡ (20, 0)
+  pub first-refused : columnOf (columnsOf cutDataRow) 0 ≡ (20, 0, 0, 0)
+  pub past-refused : columnOf (columnsOf cutDataRow) 2 ≡ (20, 0, 0, 0)
   -- an error of 13 bytes in a buffer of 4 is answered as 4 of 13, in one of 20 as 13 of 13
   pub cut-error : afterError 4 ≡ Said.failed 4 13
   pub whole-error : afterError 20 ≡ Said.failed 13 13
   -- a malformed row ends the query with 20
-  pub bad-row : messageOf fresh (code "D") cutRow [] .1 ≡ Said.refused 20
+  pub bad-row : messageOf fresh (code "D") cutDataRow [] .1 ≡ Said.refused 20
   -- CommandComplete, a notice, a parameter's value: skipped
   pub skipped : messageOf fresh (code "C") [] [] .1 ≡ Said.more
 
+-- each by computing the definitions
 pub cases : Cases
 unfolding be beFrom fieldAt put copied columnAt columnsFrom columnsOf nth messageOf
 cases =

@@ -6,9 +6,9 @@ use mathlib.Core.List.{List}
 use mathlib.Core.Option.{Option, some, none}
 use lib.ListN.{length}
 use Rattle.wire.specs.Bytes.{pick, copied}
-use Rattle.stream.specs.Tag.{isDataRow, isError, isReadyForQuery}
+use Rattle.frames.specs.Tag.{isDataRow, isError, isReadyForQuery}
 use Rattle.error.specs.Refusal.{numberOf}
-use Rattle.query.specs.Row.{columnsOf}
+use Rattle.query.specs.DataRow.{columnsOf}
 use Rattle.query.specs.declared.Column.{Column}
 use Rattle.query.specs.declared.simple.SimpleQuery.{SimpleQuery}
 use Rattle.query.specs.declared.simple.Answer.{Answer}
@@ -17,14 +17,14 @@ use Rattle.query.specs.declared.simple.Answer.{Answer}
 -- it had; or 01's number of a refusal
 pub data Said : Type 0 where
   more : Said
-  row : ℕ → Said
+  dataRow : ℕ → Said
   ready : Said
   failed : ℕ → ℕ → Said
   refused : ℕ → Said
 
 abbrev pub answerOutcome : Answer → Said
 answerOutcome Answer.More = more
-answerOutcome (Answer.Row n) = row n
+answerOutcome (Answer.DataRow n) = dataRow n
 answerOutcome Answer.Ready = ready
 answerOutcome (Answer.Failed n len) = failed n len
 answerOutcome (Answer.Refused r) = refused (numberOf r)
@@ -34,9 +34,9 @@ abbrev pub fresh : SimpleQuery
 fresh = record { failed = false; kept = 0; len = 0 }
 
 -- `D`: its row is handed on; a malformed one ends the query with 20
-abbrev pub rowAnswer : SimpleQuery → Option (List Column) → SimpleQuery × Said
-rowAnswer q none = (fresh, refused 20)
-rowAnswer q (some cs) = (q, row (length cs))
+abbrev pub dataRowAnswer : SimpleQuery → Option (List Column) → SimpleQuery × Said
+dataRowAnswer q none = (fresh, refused 20)
+dataRowAnswer q (some cs) = (q, dataRow (length cs))
 
 -- `Z`: by whether an error came
 abbrev pub endAnswer : SimpleQuery → Said
@@ -49,7 +49,7 @@ errorKept n c = (record { failed = true; kept = c .0; len = n }, more, c .1)
 -- a message's tag and payload: the query after it, what it answers, and the buffer after it. Other tags are skipped
 unfoldable pub messageOf : SimpleQuery → ℕ → List ℕ → List ℕ → SimpleQuery × Said × List ℕ
 messageOf q tag payload error =
-    let r : SimpleQuery × Said = rowAnswer q (columnsOf payload) in
+    let r : SimpleQuery × Said = dataRowAnswer q (columnsOf payload) in
     pick (isDataRow tag) (r .0, r .1, error)
     (pick (isError tag) (errorKept (length payload) (copied error payload))
     (pick (isReadyForQuery tag) (fresh, endAnswer q, error)

@@ -1,5 +1,5 @@
-pub mod Row
-pub mod RowLayout
+pub mod DataRow
+pub mod DataRowLayout
 pub mod Query
 pub mod Fold
 pub mod Played

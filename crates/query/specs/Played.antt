@@ -1,4 +1,4 @@
--- The messages of a query played one by one, a call for each, and that this gives what `answerOf` says of the whole list.
+-- The messages of a query played one by one, a call for each, and that this gives what `answerOf` says of the whole list. SCOPE 3.11.
 use Prim.Native.Nat.{ℕ, zero, suc, _+_, _≤_, min, max}
 use Prim.Native.Char.{code}
 use mathlib.Core.Bool.{true}
@@ -7,8 +7,8 @@ use mathlib.Core.List.{List, [], _∷_, _++_, map}
 use mathlib.Core.Option.{Option, some, none}
 use lib.ListN.{length, take, drop}
 use Rattle.wire.specs.Bytes.{pick}
-use Rattle.stream.specs.Tag.{isError}
-use Rattle.query.specs.Row.{columnsOf, columnOf, columnOutcome}
+use Rattle.frames.specs.Tag.{isError}
+use Rattle.query.specs.DataRow.{columnsOf, columnOf, columnOutcome}
 use Rattle.query.specs.Query.{Ending, answerOf}
 use Rattle.query.specs.Fold.{Said, fresh, messageOf}
 use Rattle.query.specs.declared.Column.{Column}
@@ -39,7 +39,7 @@ handed cs p = record { rows = cs ∷ p .rows; last = p .last; query = p .query; 
 -- by the answer to a message: the calls go on, and after a row each of its columns is asked for; or they stop
 abbrev pub playedBy : Said → List ℕ → SimpleQuery → List ℕ → Played → Played
 playedBy Said.more payload q error rest = rest
-playedBy (Said.row n) payload q error rest = handed (asked (columnsOf payload) 0 n) rest
+playedBy (Said.dataRow n) payload q error rest = handed (asked (columnsOf payload) 0 n) rest
 playedBy Said.ready payload q error rest = stopped (some Said.ready) q error
 playedBy (Said.failed n len) payload q error rest = stopped (some (Said.failed n len)) q error
 playedBy (Said.refused n) payload q error rest = stopped (some (Said.refused n)) q error

@@ -3,8 +3,8 @@ use Prim.Native.Nat.{ℕ}
 use mathlib.Core.List.{List, [], _∷_}
 use mathlib.Core.Option.{Option, some, none}
 use Rattle.wire.specs.Bytes.{pick}
-use Rattle.stream.specs.Tag.{isDataRow, isError, isReadyForQuery}
-use Rattle.query.specs.Row.{columnsOf}
+use Rattle.frames.specs.Tag.{isDataRow, isError, isReadyForQuery}
+use Rattle.query.specs.DataRow.{columnsOf}
 use Rattle.query.specs.declared.Column.{Column}
 
 -- how a query ends: without an error, with the payload of the last ErrorResponse, or with a malformed row (20); or not yet
@@ -26,15 +26,15 @@ endingBy (some e) = failed e
 abbrev pub only : Ending → Answer
 only e = record { rows = []; ending = e }
 
-abbrev pub rowThen : Option (List Column) → Answer → Answer
-rowThen none a = only malformed
-rowThen (some cs) a = record { rows = cs ∷ a .rows; ending = a .ending }
+abbrev pub dataRowThen : Option (List Column) → Answer → Answer
+dataRowThen none a = only malformed
+dataRowThen (some cs) a = record { rows = cs ∷ a .rows; ending = a .ending }
 
 -- the messages of a query, each a tag and a payload, after a last error: `D` a row, `E` an error, `Z` the end, others skipped
 unfoldable pub answerFrom : Option (List ℕ) → List (ℕ × List ℕ) → Answer
 answerFrom e [] = only (open-yet e)
 answerFrom e (m ∷ ms) =
-    pick (isDataRow (m .0)) (rowThen (columnsOf (m .1)) (answerFrom e ms))
+    pick (isDataRow (m .0)) (dataRowThen (columnsOf (m .1)) (answerFrom e ms))
     (pick (isError (m .0)) (answerFrom (some (m .1)) ms)
     (pick (isReadyForQuery (m .0)) (only (endingBy e))
     (answerFrom e ms)))

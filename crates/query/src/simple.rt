@@ -1,10 +1,10 @@
 // The fold of simple_query: one call for each whole message. The payload of the last ErrorResponse stands at the front of a lent buffer, as
 // far as that has room; its whole length is answered too, so that a cut one is not taken for whole.
 ghost use mathlib.Core.Path.{_≡_};
-ghost use Rattle.query.specs.Row.{columnsOf};
-ghost use Rattle.query.specs.Fold.{fresh, answerOutcome, rowAnswer, endAnswer, messageOf};
-use crate::row;
-use crate::row::Row;
+ghost use Rattle.query.specs.DataRow.{columnsOf};
+ghost use Rattle.query.specs.Fold.{fresh, answerOutcome, dataRowAnswer, endAnswer, messageOf};
+use crate::data_row;
+use crate::data_row::DataRow;
 use error::Refusal;
 
 // Whether an ErrorResponse came, how many of its bytes stand in the buffer, and how many it had.
@@ -16,7 +16,7 @@ pub struct SimpleQuery {
 
 pub enum Answer {
     More,
-    Row(usize),
+    DataRow(usize),
     Ready,
     // The query ended with an error: how many of its bytes stand in the buffer, and how many it had.
     Failed(usize, usize),
@@ -45,7 +45,7 @@ impl SimpleQuery {
         ensures { λ r. ⌜ (r .query, answerOutcome (r .answer), now (error .exit)) ≡ messageOf self tag (now (payload .entry)) (now (error .entry)) ⌝ }
     {
         match tag {
-            b'D' => self.with_row(payload),
+            b'D' => self.with_data_row(payload),
             b'E' => {
                 let kept = wire::store::copy(error, payload);
                 let query = SimpleQuery {
@@ -72,15 +72,15 @@ impl SimpleQuery {
         }
     }
 
-    fn with_row(self, payload: &[u8]) -> Step
-        ensures { λ r. ⌜ (r .query, answerOutcome (r .answer)) ≡ rowAnswer self (columnsOf (now (payload .entry))) ⌝ }
+    fn with_data_row(self, payload: &[u8]) -> Step
+        ensures { λ r. ⌜ (r .query, answerOutcome (r .answer)) ≡ dataRowAnswer self (columnsOf (now (payload .entry))) ⌝ }
     {
-        match row::parse_data_row(payload) {
-            Row::Columns(n) => Step {
+        match data_row::parse_data_row(payload) {
+            DataRow::Columns(n) => Step {
                 query: self,
-                answer: Answer::Row(n),
+                answer: Answer::DataRow(n),
             },
-            Row::Refused(r) => Step {
+            DataRow::Refused(r) => Step {
                 query: SimpleQuery::new(),
                 answer: Answer::Refused(r),
             },

@@ -85,7 +85,7 @@ read-is-xlog-data payload start end time from len e p =
     (λ s q x. absurd (no-keep-alive s start end time from len (sym x ∙ p)))
     (λ n x. impossible cc)
 
--- .. of any list of numbers, the data that are named lie within it
+-- the data that are named lie within the payload, of any list of numbers
 pub data-within : (payload : List ℕ) (start end : ℕ) (time : ℤ) (from len : ℕ) → copyDataOf payload ≡ w start end time from len → from + len ≤ length payload
 data-within payload start end time from len p =
     by-letter payload

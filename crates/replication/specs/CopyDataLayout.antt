@@ -1,5 +1,5 @@
--- The layout of XLogData and keepalive, both ways: what is sent is read as what it says, and what is read was sent so. Positions are below
--- 2 ^ 64, a time is a signed number of 64 bits, payloads are bytes.
+-- The layout of XLogData and keepalive, both ways: what is sent is read as what it says, and what is read was sent so. Positions are below 2 ^ 64, a
+-- time is a signed number of 64 bits, payloads are bytes. SCOPE 3.8.
 use mathlib.Core.Path.{_≡_}
 use mathlib.Core.Bool.{Bool, true, not}
 use mathlib.Core.List.{List, _++_}

@@ -18,7 +18,8 @@ use Rattle.text.specs.Numeral.{glyphOf, numeral, hexText}
 use Rattle.lsn.specs.declared.Lsn.{Lsn}
 use Rattle.lsn.specs.Position.{positionOf, displayOf}
 use Rattle.config.specs.OptionValue.{quoted, doubled, following, optionValue}
-use Rattle.config.specs.ReadBack.{withByte, unquoted, onFirst, ascii}
+use Rattle.text.specs.Ascii.{ascii, onFirst}
+use Rattle.config.specs.ReadBack.{withByte, unquoted}
 use Rattle.frontend.specs.ReadBack.{queryOf}
 use Rattle.frontend.proofs.ServerReads.{query-read-back, query-cut-at-zero}
 use Rattle.request.specs.Request.{startReplication}

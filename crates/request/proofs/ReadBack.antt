@@ -16,7 +16,8 @@ use Rattle.lsn.specs.declared.Lsn.{Lsn}
 use Rattle.lsn.specs.Position.{displayOf}
 use Rattle.lsn.proofs.ReadBack.{read-back}
 use Rattle.config.specs.OptionValue.{optionValue}
-use Rattle.config.specs.ReadBack.{unquoted, withCommas, ascii}
+use Rattle.text.specs.Ascii.{ascii}
+use Rattle.config.specs.ReadBack.{unquoted, withCommas}
 use Rattle.config.proofs.ReadBack.{value-read-back}
 use Rattle.request.specs.Request.{namesPart, messagesPart, binaryPart, lastPart, startReplication}
 use Rattle.request.specs.ReadBack.{restAfter, word, optionsFrom, askedOf, options, NoSpace, Request-read-back}

@@ -16,7 +16,8 @@ use Rattle.wire.specs.Find.{NoZero}
 use Rattle.lsn.specs.declared.Lsn.{Lsn}
 use Rattle.lsn.specs.Position.{displayOf}
 use Rattle.config.specs.OptionValue.{optionValue}
-use Rattle.config.specs.ReadBack.{onFirst, withCommas, ascii}
+use Rattle.text.specs.Ascii.{ascii, onFirst}
+use Rattle.config.specs.ReadBack.{withCommas}
 use Rattle.frontend.specs.Frontend.{query}
 use Rattle.frontend.specs.ReadBack.{queryOf}
 use Rattle.request.specs.Request.{startReplication}

@@ -15,7 +15,8 @@ use Rattle.text.specs.Numeral.{numeral}
 use Rattle.lsn.specs.declared.Lsn.{Lsn}
 use Rattle.lsn.specs.Position.{positionOf, displayOf}
 use Rattle.config.specs.OptionValue.{doubled, following, optionValue}
-use Rattle.config.specs.ReadBack.{withByte, unquoted, withCommas, ascii, lent}
+use Rattle.text.specs.Ascii.{ascii}
+use Rattle.config.specs.ReadBack.{withByte, unquoted, withCommas, lent}
 use Rattle.request.specs.Request.{startReplication}
 
 -- ---- the reader

@@ -78,7 +78,7 @@ module _ (s : List ℕ) (i : ℕ) (x : Read ToldCell) (h : mapped (cellAt i) (co
   pub column-ended : {e : Read Unit} → e ≡ ended x → e ≡ ended (readAt columnLayout s i)
   column-ended {e} g = ended-told (cellAt i) cellOf (readAt columnLayout s i) x e (sym h) g
 
--- .. of a value, whatever it is told as
+-- the place after a value alone, whatever it is told as
 pub value-ended : (f : Span → ToldCell) (q : Read Span) {e : Read Unit} → e ≡ ended q → e ≡ ended (mapped f q)
 value-ended f (got v j) g = g
 value-ended f (refused n) g = g

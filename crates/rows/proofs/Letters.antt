@@ -11,11 +11,11 @@ use lib.ListN.{length, getD}
 use Rattle.wire.specs.Bytes.{pick}
 use Rattle.wire.specs.Field.{fieldAt}
 use Rattle.wire.proofs.FieldLaws.{field-whole, field-cut, be-one}
-use Rattle.rows.specs.Layout.{Layout, Letters, letter, or, no-other, Value, Read, got, refused, mapped, readAt, chooseAt}
+use Rattle.rows.specs.Layout.{Layout, Letters, letter, or, no-other, Value, Choice, Read, got, refused, mapped, readAt, chooseAt}
 use Rattle.rows.specs.Rows.{Row, Said, relationLayout, typeLayout, originLayout, insertLayout, updateLayout, deleteLayout, truncateLayout}
 use Rattle.rows.specs.Rows.{rowLetters, rowLayout, relationOf, typeOf, originOf, insertOf, updateOf, deleteOf, truncateOf, rowOf}
 use Rattle.rows.specs.Rows.{boundaryLetter, isBoundary, saidOf, rowSaid}
-use Rattle.rows.specs.Head.{headOf, Answer, head, none as no-answer, refusal, answerOf, headTold}
+use Rattle.rows.specs.Head.{Head, headOf, Answer, head, none as no-answer, refusal, answerOf, headTold}
 use Rattle.rows.proofs.Heads.{head-told}
 use Rattle.rows.proofs.Steps.{letter-got, letter-cut, choose-here, choose-next, choose-none}
 
@@ -56,116 +56,46 @@ module _ (s : List ℕ) (n : length s ≡ 0 → ⊥) (h : false ≡ boundaryLett
   row-read : readAt rowLayout s 0 ≡ chooseAt rowLetters b s 1
   row-read = letter-got s 0 rowLetters b (first s n)
 
+  -- the layouts from the first letter on, each with what is told of its value
+  start : headTold (λ v. headOf (rowOf v)) (chooseAt rowLetters b s 1) ≡ answerOf (rowSaid s)
+  start = ap (headTold (λ v. headOf (rowOf v))) (sym row-read) ∙ told-row
+
+  module _ (c : ℕ) (l : Layout) (ls : Letters) (g : Choice (or c l ls) → Head) {x : Answer} (t : headTold g (chooseAt (or c l ls) b s 1) ≡ x) where
+    -- the letter is here
+    here : b ≡ c → headTold (λ v. g (inl v)) (readAt l s 1) ≡ x
+    here e = sym (ap (headTold g) (choose-here s 1 c l ls b e) ∙ head-told g inl (readAt l s 1)) ∙ t
+
+    -- it is another
+    next : (b ≡ c → ⊥) → headTold (λ v. g (inr v)) (chooseAt ls b s 1) ≡ x
+    next e = sym (ap (headTold g) (choose-next s 1 c l ls b e) ∙ head-told g inr (chooseAt ls b s 1)) ∙ t
+
   pub relation-row : b ≡ code "R" → {x : Answer} → x ≡ headTold (λ v. headOf (relationOf v)) (readAt relationLayout s 1) → Says x
-  relation-row e m = m ∙ ((rw (row-read, choose-here s 1 _ _ _ b e, head-told)) ∙ told-row)
+  relation-row e m = m ∙ here _ _ _ _ start e
 
   module _ (r : b ≡ code "R" → ⊥) where
     pub type-row : b ≡ code "Y" → {x : Answer} → x ≡ headTold (λ v. headOf (typeOf v)) (readAt typeLayout s 1) → Says x
-    type-row e m = m ∙ ((rw (row-read, choose-next s 1 _ _ _ b r, choose-here s 1 _ _ _ b e, head-told, head-told)) ∙ told-row)
+    type-row e m = m ∙ here _ _ _ _ (next _ _ _ _ start r) e
 
     module _ (y : b ≡ code "Y" → ⊥) where
       pub origin-row : b ≡ code "O" → {x : Answer} → x ≡ headTold (λ v. headOf (originOf v)) (readAt originLayout s 1) → Says x
-      origin-row e m = m ∙ ((rw (
-        row-read,
-        choose-next s 1 _ _ _ b r,
-        choose-next s 1 _ _ _ b y,
-        choose-here s 1 _ _ _ b e,
-        head-told,
-        head-told,
-        head-told,
-      )) ∙ told-row)
+      origin-row e m = m ∙ here _ _ _ _ (next _ _ _ _ (next _ _ _ _ start r) y) e
 
       module _ (o : b ≡ code "O" → ⊥) where
         pub insert-row : b ≡ code "I" → {x : Answer} → x ≡ headTold (λ v. headOf (insertOf v)) (readAt insertLayout s 1) → Says x
-        insert-row e m =
-            m
-            ∙ ((rw (
-              row-read,
-              choose-next s 1 _ _ _ b r,
-              choose-next s 1 _ _ _ b y,
-              choose-next s 1 _ _ _ b o,
-              choose-here s 1 _ _ _ b e,
-              head-told,
-              head-told,
-              head-told,
-              head-told,
-            ))
-            ∙ told-row)
+        insert-row e m = m ∙ here _ _ _ _ (next _ _ _ _ (next _ _ _ _ (next _ _ _ _ start r) y) o) e
 
         module _ (i : b ≡ code "I" → ⊥) where
           pub update-row : b ≡ code "U" → {x : Answer} → x ≡ headTold (λ v. headOf (updateOf v)) (readAt updateLayout s 1) → Says x
-          update-row e m =
-              m
-              ∙ ((rw (
-                row-read,
-                choose-next s 1 _ _ _ b r,
-                choose-next s 1 _ _ _ b y,
-                choose-next s 1 _ _ _ b o,
-                choose-next s 1 _ _ _ b i,
-                choose-here s 1 _ _ _ b e,
-                head-told,
-                head-told,
-                head-told,
-                head-told,
-                head-told,
-              ))
-              ∙ told-row)
+          update-row e m = m ∙ here _ _ _ _ (next _ _ _ _ (next _ _ _ _ (next _ _ _ _ (next _ _ _ _ start r) y) o) i) e
 
           module _ (u : b ≡ code "U" → ⊥) where
             pub delete-row : b ≡ code "D" → {x : Answer} → x ≡ headTold (λ v. headOf (deleteOf v)) (readAt deleteLayout s 1) → Says x
-            delete-row e m =
-                m
-                ∙ ((rw (
-                  row-read,
-                  choose-next s 1 _ _ _ b r,
-                  choose-next s 1 _ _ _ b y,
-                  choose-next s 1 _ _ _ b o,
-                  choose-next s 1 _ _ _ b i,
-                  choose-next s 1 _ _ _ b u,
-                  choose-here s 1 _ _ _ b e,
-                  head-told,
-                  head-told,
-                  head-told,
-                  head-told,
-                  head-told,
-                  head-told,
-                ))
-                ∙ told-row)
+            delete-row e m = m ∙ here _ _ _ _ (next _ _ _ _ (next _ _ _ _ (next _ _ _ _ (next _ _ _ _ (next _ _ _ _ start r) y) o) i) u) e
 
             module _ (d : b ≡ code "D" → ⊥) where
               pub truncate-row : b ≡ code "T" → {x : Answer} → x ≡ headTold (λ v. headOf (truncateOf v)) (readAt truncateLayout s 1) → Says x
-              truncate-row e m =
-                  m
-                  ∙ ((rw (
-                    row-read,
-                    choose-next s 1 _ _ _ b r,
-                    choose-next s 1 _ _ _ b y,
-                    choose-next s 1 _ _ _ b o,
-                    choose-next s 1 _ _ _ b i,
-                    choose-next s 1 _ _ _ b u,
-                    choose-next s 1 _ _ _ b d,
-                    choose-here s 1 _ _ _ b e,
-                    head-told,
-                    head-told,
-                    head-told,
-                    head-told,
-                    head-told,
-                    head-told,
-                    head-told,
-                  ))
-                  ∙ told-row)
+              truncate-row e m = m ∙ here _ _ _ _ (next _ _ _ _ (next _ _ _ _ (next _ _ _ _ (next _ _ _ _ (next _ _ _ _ (next _ _ _ _ start r) y) o) i) u) d) e
 
               pub other-letter : (b ≡ code "T" → ⊥) → Says (refusal 27)
-              other-letter t =
-                  (rw (
-                    row-read,
-                    choose-next s 1 _ _ _ b r,
-                    choose-next s 1 _ _ _ b y,
-                    choose-next s 1 _ _ _ b o,
-                    choose-next s 1 _ _ _ b i,
-                    choose-next s 1 _ _ _ b u,
-                    choose-next s 1 _ _ _ b d,
-                    choose-next s 1 _ _ _ b t,
-                    choose-none s 1 b,
-                  ))
-                  ∙ told-row
+              other-letter t = ap (headTold {A = ⊥} (λ v. headOf (absurd v))) (sym (choose-none s 1 b))
+                  ∙ next _ _ _ _ (next _ _ _ _ (next _ _ _ _ (next _ _ _ _ (next _ _ _ _ (next _ _ _ _ (next _ _ _ _ start r) y) o) i) u) d) t

@@ -1,5 +1,6 @@
 pub mod Behind
 pub mod BothWays
+pub mod Calls
 pub mod Cases
 pub mod Columns
 pub mod Cut

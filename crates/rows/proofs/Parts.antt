@@ -28,7 +28,7 @@ part-of s i k a v t l e =
     let d : drop (i + k) s ≡ v ++ t = sym (drop-drop k i s) ∙ rw (e, ← l) (drop-append-seam a (v ++ t)) in
     rw d (take-append-seam v t)
 
--- .. from the data's front
+-- a part after the data's front
 front-part : (s : List ℕ) (k : ℕ) (a v t : List ℕ) → length a ≡ k → s ≡ a ++ (v ++ t) → at s k (length v) ≡ v
 front-part s k a v t l e =
     let d : drop k s ≡ v ++ t = rw (e, ← l) (drop-append-seam a (v ++ t)) in

@@ -28,12 +28,12 @@ pub after-got : {A B : Type 0} (r : Read A) (go : A → ℕ → Read B) (w : B) 
 after-got (got v j) go w k e = (v, j, refl, e)
 after-got (refused n) go w k e = impossible cc
 
--- .. with what follows from it
+-- what follows from both readings
 pub by-after : {A B X : Type 0} (r : Read A) (go : A → ℕ → Read B) (w : B) (k : ℕ) → after r go ≡ got w k
     → ((v : A) (j : ℕ) → r ≡ got v j → go v j ≡ got w k → X) → X
 by-after r go w k e f = let a = after-got r go w k e in f (a .0) (a .1) (a .2) (a .3)
 
--- .. and of the values that were told
+-- a value that is told was read
 pub told-got : {A B : Type 0} (f : A → B) (r : Read A) (w : B) (k : ℕ) → mapped f r ≡ got w k → (v : A) × (r ≡ got v k) × (w ≡ f v)
 told-got f (got v j) w k e =
     let ej : j ≡ k = cc in

@@ -166,7 +166,7 @@ pub refused-back : {A B : Type 0} (f : A → B) (r : Read A) (n : ℕ) → refus
 refused-back f (got v j) n e = impossible cc
 refused-back f (refused m) n e = let h : m ≡ n = cc in ap refused h
 
--- .. and so was a value
+-- a value that is told was read
 pub got-back : {A B : Type 0} (f : A → B) (r : Read A) (w : B) (j : ℕ) → got w j ≡ mapped f r → (v : A) × (r ≡ got v j) × (w ≡ f v)
 got-back f r w j e = told-got f r w j (sym e)
 

@@ -5,6 +5,7 @@ use mathlib.Core.Bool.{true, false}
 use Prim.Native.Nat.{ℕ, _+_}
 use lib.ListN.{length}
 use lib.IntN.{ℤ}
+use Rattle.error.specs.Refusal.{protocol}
 use Rattle.rows.specs.Layout.{Layout, number, integer, both, Value, Read, got, refused, cut, mapped, readAt, allBytes}
 use Rattle.rows.specs.Rows.{Cell, null, unchanged, text, binary, Described, described, Row, relation, type, origin, insert, update, update-from}
 use Rattle.rows.specs.Rows.{delete, truncate, cellBytes, columnLayout, describedLayout, cellOf, describedOf, Said, row, no-row, refused-by}
@@ -31,10 +32,10 @@ abbrev pub numberOf : Refusal → ℕ
 numberOf FieldCut = 26
 numberOf UnknownLetter = 27
 
--- the kind of each, by its number in SCOPE 7.4: both are Protocol
+-- the kind of each, by its number in SCOPE 7.4
 abbrev pub kindOf : Refusal → ℕ
-kindOf FieldCut = 3
-kindOf UnknownLetter = 3
+kindOf FieldCut = protocol
+kindOf UnknownLetter = protocol
 
 -- ---- a head
 

@@ -1,3 +1,4 @@
+pub mod Calls
 pub mod Head
 pub mod HeadLaws
 pub mod Layout
@@ -6,3 +7,4 @@ pub mod Refusals
 pub mod RowCases
 pub mod RowLayout
 pub mod Rows
+pub mod Words

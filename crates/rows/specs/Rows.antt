@@ -239,7 +239,7 @@ pub data Said : Type 0 where
 abbrev pub boundaryLetter : ℕ → Bool
 boundaryLetter b = pick (eqb b (code "B")) true (pick (eqb b (code "C")) true (eqb b (code "M")))
 
--- .. by the first letter
+-- data whose first letter is one of these
 abbrev pub isBoundary : List ℕ → Bool
 isBoundary [] = false
 isBoundary (b ∷ s) = boundaryLetter b

@@ -92,7 +92,8 @@ pub fn column_at(bytes: &[u8], at: usize) -> Column
 
 // The type and the type modifier of a description whose flags and name were read.
 fn typed(bytes: &[u8], flags: u8, name: Part, at: usize) -> Description
-    ensures { λ r. ⌜ descriptionBy r ≡ mapped (λ v. told-description flags (spanOf name) (v .0) (v .1)) (readAt typedLayout (now (bytes .entry)) at) ⌝ }
+    ensures { λ r. ⌜ descriptionBy r
+        ≡ mapped (λ v. told-description flags (spanOf name) (v .0) (v .1)) (readAt typedLayout (now (bytes .entry)) at) ⌝ }
 {
     let U32Field::Value(oid) = wire::field::read_u32(bytes, at) else {
         return Description::Refused(Refusal::FieldCut);

@@ -1,12 +1,16 @@
 // The messages of pgoutput that carry rows: Relation, Type, Origin, Insert, Update, Delete and Truncate of protocol version 1. Data are judged to the
 // row's end and answered by its head; columns, descriptions and identifiers are then read one by one, each at the place that the last one answered.
 pub mod items;
+pub mod layout;
 mod messages;
 mod walk;
+pub mod words;
 
 ghost use mathlib.Core.Path.{_≡_};
+ghost use Rattle.error.specs.Refusal.{kindNumber};
 ghost use Rattle.rows.specs.Head.{numberOf, kindOf, answerOf, answerBy};
 ghost use Rattle.rows.specs.Rows.{boundaryLetter, rowSaid};
+use error::Kind;
 
 // Why data are refused, 26 and 27.
 pub enum Refusal {
@@ -148,13 +152,12 @@ impl Refusal {
         }
     }
 
-    // The number of the refusal's kind: both are Protocol.
-    pub fn kind(self) -> u8
-        ensures { λ r. ⌜ r ≡ kindOf self ⌝ }
+    pub fn kind(self) -> Kind
+        ensures { λ r. ⌜ kindNumber r ≡ kindOf self ⌝ }
     {
         match self {
-            Refusal::FieldCut => 3,
-            Refusal::UnknownLetter => 3,
+            Refusal::FieldCut => Kind::Protocol,
+            Refusal::UnknownLetter => Kind::Protocol,
         }
     }
 }

@@ -1,1 +1,2 @@
 pub mod RunPage
+pub mod RunLines

@@ -1,13 +1,8 @@
 -- What the service page shows of a run. SCOPE 5.12; 02, wish 9.
-use Prim.Native.Nat.{ℕ}
-use mathlib.Core.List.{List}
-use Rattle.error.specs.Writer.{writing}
 use Rattle.page.specs.declared.Page.{Page}
-use Rattle.page.specs.Page.{pageOf}
 use Rattle.progress.specs.Progress.{cellPosition}
 use Rattle.worker.specs.declared.Run.{Run}
 use Rattle.worker.specs.Run.{stateNumber, cellIn}
-use Rattle.words.specs.Words.{runOf}
 
 -- the position that a status would confirm now, the last status, the server's end of the last message handled without refusal, the events handed
 -- on, the stalls begun, the state
@@ -22,7 +17,3 @@ shownBy r =
       stalls = r .metrics .«stall_count»;
       state = stateNumber (r .state);
     }
-
--- `rufflesquash_page`, over a run's words: refusal, bytes written, output
-abbrev pub pageCall : List ℕ → List ℕ → (ℕ × ℕ) × List ℕ
-pageCall w out = writing 0 (pageOf (shownBy (runOf w))) out

@@ -2,11 +2,28 @@
 ghost use mathlib.Core.Path.{_≡_};
 ghost use Rattle.error.specs.Writer.{writing, outcome};
 ghost use Rattle.page.specs.Page.{pageOf};
+ghost use Rattle.worker.specs.Run.{stateNumber};
 ghost use Rattle.run_page.specs.RunPage.{shownBy};
 use error::Written;
 use page::Page;
-use words::run::state_word;
 use worker::Run;
+use worker::State;
+
+// A state by its row in the step table, as the words of a run have it.
+fn state_number(state: State) -> u64
+    ensures { λ r. ⌜ r ≡ stateNumber state ⌝ }
+{
+    match state {
+        State::Opening => 0,
+        State::Turn => 1,
+        State::Drain => 2,
+        State::Reading => 3,
+        State::Waiting => 4,
+        State::Handling => 5,
+        State::Offering => 6,
+        State::Ended => 7,
+    }
+}
 
 // The values that the page shows.
 pub fn page_of(run: Run) -> Page
@@ -25,7 +42,7 @@ pub fn page_of(run: Run) -> Page
         server,
         events: metrics.events_forwarded,
         stalls: metrics.stall_count,
-        state: state_word(state),
+        state: state_number(state),
     }
 }
 

@@ -30,7 +30,7 @@ passed-by interval at m h =
 pub good-moment : (r : Run) (m : Moment) (p out : List ℕ) → Accepts r m p out → badMoment r m ≡ false
 good-moment r m p out a = simp (le-ltb _ _ (a .not-early), le-leb _ _ (a .not-late), le-ltb _ _ (a .not-before))
 
--- .. and a moment
+-- a moment that is accepted lies in the range of moments
 pub in-range : (r : Run) (m : Moment) (p out : List ℕ) → Accepts r m p out → m .0 < beyond
 in-range r m p out a = let b : m .0 ≤ last = a .not-late in omega arith
 

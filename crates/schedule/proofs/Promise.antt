@@ -13,7 +13,7 @@ use Rattle.wire.proofs.Laws.{impossible}
 use Rattle.framing.specs.declared.MessageReader.{MessageReader}
 use Rattle.framing.specs.Read.{Result, fresh, limitOf}
 use Rattle.framing.specs.Read as R
-use Rattle.stream.specs.Tag.{isError, isCopyBothResponse, isCopyData}
+use Rattle.frames.specs.Tag.{isError, isCopyBothResponse, isCopyData}
 use Rattle.metrics.specs.Metrics.{withEvent, withEnd}
 use Rattle.moment.specs.declared.Moment.{Moment}
 use Rattle.moment.specs.Moment.{sinceOf}

@@ -6,7 +6,7 @@ use lib.ListN.{getD}
 use lib.Dec.{ltb, leb, eqb}
 use Rattle.wire.specs.Bytes.{pick}
 use Rattle.framing.specs.declared.MessageReader.{MessageReader}
-use Rattle.stream.specs.Tag.{isError, isCopyBothResponse}
+use Rattle.frames.specs.Tag.{isError, isCopyBothResponse}
 use Rattle.moment.specs.declared.Moment.{Moment}
 use Rattle.moment.specs.Moment.{last}
 use Rattle.progress.specs.Progress.{cellSignal}

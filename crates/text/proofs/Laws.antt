@@ -80,7 +80,7 @@ spell-turn base d d₀ to i x t p h k e l inv =
     let f : to + (i - 1) < length d = omega arith in
     put-set d to (i - 1) (glyphOf (x % base)) (numeral base 20 (x / base)) m f ∙ (rw (numeral-more base x p h k) at inv)
 
--- .. and its end
+-- the last turn of spelling: one digit is left
 pub spell-end : (base : ℕ) (d d₀ : List ℕ) (to x : ℕ) (t : List ℕ) → x < base → to < length d → put d to (numeral base 20 x) ≡ put d₀ to t → set d to (glyphOf x) ≡ put d₀ to t
 spell-end base d d₀ to x t h k inv = put-one d to (glyphOf x) k ∙ (rw (numeral-one base x h) at inv)
 

@@ -1,3 +1,4 @@
 pub mod Numeral
 pub mod TextCases
 pub mod Spelling
+pub mod Ascii

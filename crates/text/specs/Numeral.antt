@@ -1,4 +1,4 @@
--- Numbers as texts: positional notation without leading zeros, and bytes as pairs of digits.
+-- Numbers as texts: positional notation without leading zeros, and bytes as pairs of digits. SCOPE 2.2, 11.4.
 use Prim.Native.Nat.{ℕ, zero, suc, _+_, _/_, _%_}
 use mathlib.Core.List.{List, [], _∷_, _++_}
 use lib.IntN.{ℤ, pos, negsuc}

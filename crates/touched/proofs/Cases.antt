@@ -7,7 +7,7 @@ use Rattle.rows.specs.Layout.{countAt, bytesAt, timesAt, readAt}
 use Rattle.rows.specs.Rows.{rowSaid}
 use Rattle.touched.specs.Bits.{bitsOf, filesBy}
 use Rattle.touched.specs.Touched.{paired, hasNoFile, fileOf, isAmong, afterOf}
-use Rattle.touched.specs.TouchedCases.{TouchedCases, MessageCases, EventCases, BitCases}
+use Rattle.touched.specs.TouchedCases.{TouchedCases, MessageCases, BitCases}
 
 pub touched-cases : TouchedCases
 unfolding be beFrom fieldAt signed indexOf countAt bytesAt timesAt readAt rowSaid paired hasNoFile fileOf isAmong afterOf
@@ -46,22 +46,6 @@ message-cases =
       an-origin = refl;
       a-boundary = refl;
       no-data = refl;
-    }
-
-pub event-cases : EventCases
-unfolding be beFrom fieldAt signed indexOf countAt bytesAt timesAt readAt rowSaid paired hasNoFile fileOf isAmong afterOf
-event-cases =
-    record {
-      no-event = refl;
-      a-keepalive = refl;
-      a-begin = refl;
-      a-commit = refl;
-      a-message = refl;
-      other-data = refl;
-      one-byte-less = refl;
-      stopped = refl;
-      too-long = refl;
-      outside = refl;
     }
 
 pub bit-cases : BitCases

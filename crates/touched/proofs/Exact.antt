@@ -1,4 +1,4 @@
--- The files that calls leave, by the lists, the data and the events alone.
+-- The files that calls leave, by the lists, the data and what is told alone.
 use mathlib.Core.Path.{_≡_, refl, sym, ap, _∙_}
 use mathlib.Core.Bool.{Bool, true, false}
 use mathlib.Core.List.{List, [], _∷_, _++_}
@@ -10,24 +10,21 @@ use lib.ListN.{length, drop, getD}
 use lib.Dec.{eqb, ltb}
 use lib.Pow.{areBytes}
 use borrow.Author.Tests.{eq-eqb, eqb-true, eqb-false, ltb-true, ltb-false}
-use Rattle.wire.specs.Bytes.{pick, at}
+use Rattle.wire.specs.Bytes.{pick}
 use Rattle.wire.proofs.Laws.{by-test, impossible}
 use Rattle.rows.specs.Rows.{Row, relation, type, origin, insert, update, update-from, delete, truncate, rowBytes, Said, row, no-row, refused-by}
 use Rattle.rows.specs.Rows.{rowSaid}
 use Rattle.rows.specs.RowLayout.{RowFits}
-use Rattle.rows.proofs.Padded.{bytes-front, bytes-behind}
 use Rattle.rows.proofs.Sent.{sent-is-read, read-is-sent}
-use Rattle.worker.specs.declared.Event.{Event}
-use Rattle.worker.specs.declared.Event.the-variants as E
 use Rattle.touched.specs.declared.Files.{Files}
-use Rattle.touched.specs.Touched.{entriesOf, hasNoFile, fileOf, changedIn, changedBy, isAmong, files, withAll, Told, begins, brings}
-use Rattle.touched.specs.Touched.{isFull, tellsOf, afterOf, answerBy}
+use Rattle.touched.specs.Touched.{entriesOf, hasNoFile, fileOf, changedIn, changedBy, isAmong, files, withAll, Told, begins, brings, nothing}
+use Rattle.touched.specs.Touched.{isFull, afterOf, answerBy}
 use Rattle.touched.specs.Bits.{filesBy}
 use Rattle.touched.specs.declared.Answer.{Answer}
 use Rattle.progress.specs.declared.files.FileRefusal.{FileRefusal}
-use Rattle.touched.specs.Walk.{isBegin, hasBegin, sinceBegin, allChanged, walkOf, Among, Call, toldIn, leftBy, FirstEntry, Touches}
-use Rattle.touched.specs.Exact.{Has, none-touched, Listed, AllFiles, FirstFile, Names, Reaches, AfterData, CallLaws, IsBegin, NoBegin, Buffers}
-use Rattle.touched.specs.Exact.{TouchedSince, TouchedLaws, FileLaws}
+use Rattle.touched.specs.Walk.{hasBegin, sinceBegin, allChanged, walkOf, Among, leftBy, FirstEntry, Touches}
+use Rattle.touched.specs.Exact.{Has, none-touched, Listed, AllFiles, FirstFile, Names, Reaches, AfterData, CallLaws}
+use Rattle.touched.specs.Exact.{NoBegin, HasBytes, AllBytes, TouchedSince, TouchedLaws, FileLaws}
 use Rattle.touched.proofs.EntryLaws.{count, entry-laws, refused-lists, file-here, file-next, file-end}
 use Rattle.touched.proofs.Walk.{left-is-the-walk}
 use Rattle.touched.proofs.WalkLaws.{either, among-found, among-finds, entry-found, entry-finds, walk-laws}
@@ -221,118 +218,38 @@ pub call-laws : CallLaws
 unfolding afterOf
 call-laws = record {
   refused = λ ids fs i l h t b. rw (list-refused ids fs i l h);
-  begin = λ ids fs a final time xid p b. rw (list-accepted ids fs a);
-  from-buffer = λ start end time from len p. refl;
+  begin = λ ids fs a b. rw (list-accepted ids fs a);
   with-data = after-data;
-  no-event = λ ids fs a p b. rw (list-accepted ids fs a);
-  keepalive = λ ids fs a end time reply p b. rw (list-accepted ids fs a);
-  commit = λ ids fs a position end time p b. rw (list-accepted ids fs a);
-  message = λ ids fs a flag position pf pl cf cl p b. rw (list-accepted ids fs a);
-  stopped = λ ids fs a reached p b. rw (list-accepted ids fs a);
+  leaves = λ ids fs a b. rw (list-accepted ids fs a);
 }
 
 -- ---- any list of calls
 
--- what the calls told, apart
-record Apart (cs : List Call) (x : List Told) (t : Told) (y : List Told) : Type 0 where
-  front : List Call
-  call : Call
-  back : List Call
-  there : cs ≡ front ++ (call ∷ back)
-  tells : tellsOf (call .0) (call .1) ≡ t
-  later : toldIn back ≡ y
-
-apart : (cs : List Call) (x : List Told) (t : Told) (y : List Told) → toldIn cs ≡ x ++ (t ∷ y) → Apart cs x t y
-unfolding toldIn
-apart [] [] t y e = impossible cc
-apart [] (u ∷ x) t y e = impossible cc
-apart (c ∷ cs) [] t y e =
-    let o : tellsOf (c .0) (c .1) ∷ toldIn cs ≡ t ∷ y = e in
-    record { front = []; call = c; back = cs; there = refl; tells = cc; later = cc }
-apart (c ∷ cs) (u ∷ x) t y e =
-    let o : tellsOf (c .0) (c .1) ∷ toldIn cs ≡ u ∷ (x ++ (t ∷ y)) = e in
-    let w = apart cs x t y (cc) in
-    record {
-      front = c ∷ w .front;
-      call = w .call;
-      back = w .back;
-      there = ap (λ (l : List Call). c ∷ l) (w .there);
-      tells = w .tells;
-      later = w .later;
-    }
-
-begin-told : (e : Event) (p : List ℕ) → IsBegin e → isBegin (tellsOf e p) ≡ true
-begin-told E.Nothing p h = absurd h
-begin-told (E.KeepAlive end time reply) p h = absurd h
-begin-told (E.Begin final time xid) p h = refl
-begin-told (E.Commit position end time) p h = absurd h
-begin-told (E.Message flag position pf pl cf cl) p h = absurd h
-begin-told (E.XLogData start end time from len) p h = absurd h
-begin-told (E.StoppedAt reached) p h = absurd h
-
-no-begin-told : (e : Event) (p : List ℕ) → (IsBegin e → ⊥) → isBegin (tellsOf e p) ≡ false
-no-begin-told E.Nothing p h = refl
-no-begin-told (E.KeepAlive end time reply) p h = refl
-no-begin-told (E.Begin final time xid) p h = absurd (h tt)
-no-begin-told (E.Commit position end time) p h = refl
-no-begin-told (E.Message flag position pf pl cf cl) p h = refl
-no-begin-told (E.XLogData start end time from len) p h = refl
-no-begin-told (E.StoppedAt reached) p h = refl
-
-none-begins : (cs : List Call) → hasBegin (toldIn cs) ≡ false → NoBegin cs
-unfolding hasBegin toldIn
+none-begins : (ts : List Told) → hasBegin ts ≡ false → NoBegin ts
+unfolding hasBegin
 none-begins [] h = tt
-none-begins (c ∷ cs) h =
-    by-test (isBegin (tellsOf (c .0) (c .1)))
-    (λ t. let o : true ≡ false = rw t at h in impossible cc)
-    (λ t. ((λ k. let o : true ≡ false = sym (begin-told (c .0) (c .1) k) ∙ t in impossible cc), none-begins cs (rw t at h)))
+none-begins (begins ∷ ts) h = impossible cc
+none-begins (brings s ∷ ts) h = ((λ k. k), none-begins ts h)
+none-begins (nothing ∷ ts) h = ((λ k. k), none-begins ts h)
 
-begins-none : (cs : List Call) → NoBegin cs → hasBegin (toldIn cs) ≡ false
-unfolding hasBegin toldIn
+begins-none : (ts : List Told) → NoBegin ts → hasBegin ts ≡ false
+unfolding hasBegin
 begins-none [] h = refl
-begins-none (c ∷ cs) h = rw (no-begin-told (c .0) (c .1) (h .0)) (begins-none cs (h .1))
+begins-none (begins ∷ ts) h = absurd (h .0 tt)
+begins-none (brings s ∷ ts) h = begins-none ts (h .1)
+begins-none (nothing ∷ ts) h = begins-none ts (h .1)
 
-told-append : (cs ds : List Call) → toldIn (cs ++ ds) ≡ toldIn cs ++ toldIn ds
-unfolding toldIn
-told-append [] ds = refl
-told-append (c ∷ cs) ds = ap (λ (l : List Told). tellsOf (c .0) (c .1) ∷ l) (told-append cs ds)
-
-buffer-of : (cs : List Call) → Buffers cs → (front : List Call) (c : Call) (back : List Call) → cs ≡ front ++ (c ∷ back) → areBytes (c .1) ≡ true
-buffer-of [] h [] c back e = impossible cc
-buffer-of [] h (x ∷ front) c back e = impossible cc
-buffer-of (d ∷ cs) h [] c back e =
-    let o : d ∷ cs ≡ c ∷ back = e in
-    let q : d ≡ c = cc in
-    rw (← q) (h .0)
-buffer-of (d ∷ cs) h (x ∷ front) c back e =
-    let o : d ∷ cs ≡ x ∷ (front ++ (c ∷ back)) = e in
-    buffer-of cs (h .1) front c back (cc)
-
--- the event that brings data
-since-by : (ids fs : List ℕ) (f : ℕ) (cs front back : List Call) (e : Event) (p s : List ℕ) → cs ≡ front ++ ((e, p) ∷ back) → tellsOf e p ≡ brings s
-    → areBytes p ≡ true → NoBegin back → (id : ℕ) → Among id (changedBy (rowSaid s)) → fileOf (entriesOf ids fs) id ≡ some f
-    → TouchedSince ids fs f cs
-since-by ids fs f cs front back E.Nothing p s c t b n id h g = impossible cc
-since-by ids fs f cs front back (E.KeepAlive end time reply) p s c t b n id h g = impossible cc
-since-by ids fs f cs front back (E.Begin final time xid) p s c t b n id h g = impossible cc
-since-by ids fs f cs front back (E.Commit position end time) p s c t b n id h g = impossible cc
-since-by ids fs f cs front back (E.Message flag position pf pl cf cl) p s c t b n id h g = impossible cc
-since-by ids fs f cs front back (E.XLogData start end time from len) p s c t b n id h g =
-    let q : s ≡ at p from len = cc in
-    record {
-      earlier = front;
-      later = back;
-      start = start;
-      end = end;
-      time = time;
-      from = from;
-      len = len;
-      payload = p;
-      there = c;
-      since = n;
-      reaches = reaches-from ids fs (at p from len) (bytes-front len (drop from p) (bytes-behind from p b)) f id (rw q at h) g;
-    }
-since-by ids fs f cs front back (E.StoppedAt reached) p s c t b n id h g = impossible cc
+bytes-of : (ts : List Told) → AllBytes ts → (front : List Told) (s : List ℕ) (back : List Told) → ts ≡ front ++ (brings s ∷ back) → areBytes s ≡ true
+bytes-of [] h [] s back e = impossible cc
+bytes-of [] h (u ∷ front) s back e = impossible cc
+bytes-of (t ∷ ts) h [] s back e =
+    let o : t ∷ ts ≡ brings s ∷ back = e in
+    let q : t ≡ brings s = cc in
+    let k : HasBytes (brings s) = rw q at (h .0) in
+    k
+bytes-of (t ∷ ts) h (u ∷ front) s back e =
+    let o : t ∷ ts ≡ u ∷ (front ++ (brings s ∷ back)) = e in
+    bytes-of ts (h .1) front s back (cc)
 
 -- a file of the walk, by its number
 walk-has : (es : List (ℕ × ℕ)) (ts : List Told) (f : ℕ) → f ≤ 3 → isAmong es f (allChanged (sinceBegin ts)) ≡ true → Has (walkOf es ts) f
@@ -349,42 +266,44 @@ has-walk es ts (suc (suc zero)) h = h
 has-walk es ts (suc (suc (suc zero))) h = h
 has-walk es ts (suc (suc (suc (suc f)))) h = absurd h
 
-touched-since : (ids fs : List ℕ) → AllFiles ids fs → (cs : List Call) (f : ℕ) → TouchedSince ids fs f cs
-    → Has (leftBy (entriesOf ids fs) none-touched (toldIn cs)) f
-unfolding toldIn
-touched-since ids fs a cs f w =
+touched-since : (ids fs : List ℕ) → AllFiles ids fs → (ts : List Told) (f : ℕ) → TouchedSince ids fs f ts
+    → Has (leftBy (entriesOf ids fs) none-touched ts) f
+touched-since ids fs a ts f w =
     let es : List (ℕ × ℕ) = entriesOf ids fs in
     let k = w .reaches in
     let g = k .filed in
     let small : f ≤ 3 = rw (← g .its-file) (a (g .place) (g .listed)) in
-    let s : List ℕ = at (w .payload) (w .from) (w .len) in
-    let t : toldIn cs ≡ toldIn (w .earlier) ++ (brings s ∷ toldIn (w .later)) =
-    ap toldIn (w .there) ∙ told-append (w .earlier) ((E.XLogData (w .start) (w .end) (w .time) (w .from) (w .len), w .payload) ∷ w .later) in
-    let m : Touches es f (toldIn cs) = record {
-      earlier = toldIn (w .earlier);
-      row-data = s;
-      later = toldIn (w .later);
-      there = t;
+    let m : Touches es f ts = record {
+      earlier = w .earlier;
+      row-data = w .brought;
+      later = w .later;
+      there = w .there;
       since = begins-none (w .later) (w .since);
       id = k .id;
-      changed = row-changes ids fs s f k;
+      changed = row-changes ids fs (w .brought) f k;
       filed = entry-found es (k .id) f (file-first ids fs (k .id) f g);
     } in
-    rw (left-is-the-walk es (toldIn cs) (list-accepted ids fs a)) (walk-has es (toldIn cs) f small (walk-laws .finds es f (toldIn cs) m))
+    rw (left-is-the-walk es ts (list-accepted ids fs a)) (walk-has es ts f small (walk-laws .finds es f ts m))
 
 entry-file : (es : List (ℕ × ℕ)) (id f : ℕ) → FirstEntry es id f → fileOf es id ≡ some f
 entry-file es id f w = ap (λ (x : List (ℕ × ℕ)). fileOf x id) (w .there) ∙ entry-finds (w .front) (w .back) id f (w .first)
 
-since-touched : (ids fs : List ℕ) → AllFiles ids fs → (cs : List Call) → Buffers cs → (f : ℕ)
-    → Has (leftBy (entriesOf ids fs) none-touched (toldIn cs)) f → TouchedSince ids fs f cs
-since-touched ids fs a cs bs f h =
+since-touched : (ids fs : List ℕ) → AllFiles ids fs → (ts : List Told) → AllBytes ts → (f : ℕ)
+    → Has (leftBy (entriesOf ids fs) none-touched ts) f → TouchedSince ids fs f ts
+since-touched ids fs a ts bs f h =
     let es : List (ℕ × ℕ) = entriesOf ids fs in
-    let h₁ : Has (walkOf es (toldIn cs)) f = rw (left-is-the-walk es (toldIn cs) (list-accepted ids fs a)) at h in
-    let m = walk-laws .found es f (toldIn cs) (has-walk es (toldIn cs) f h₁) in
-    let w = apart cs (m .earlier) (brings (m .row-data)) (m .later) (m .there) in
-    since-by ids fs f cs (w .front) (w .back) (w .call .0) (w .call .1) (m .row-data) (w .there) (w .tells)
-    (buffer-of cs bs (w .front) (w .call) (w .back) (w .there)) (none-begins (w .back) (ap hasBegin (w .later) ∙ m .since)) (m .id) (m .changed)
-    (entry-file es (m .id) f (m .filed))
+    let h₁ : Has (walkOf es ts) f = rw (left-is-the-walk es ts (list-accepted ids fs a)) at h in
+    let m = walk-laws .found es f ts (has-walk es ts f h₁) in
+    let s : List ℕ = m .row-data in
+    record {
+      earlier = m .earlier;
+      brought = s;
+      later = m .later;
+      there = m .there;
+      since = none-begins (m .later) (m .since);
+      reaches =
+          reaches-from ids fs s (bytes-of ts bs (m .earlier) s (m .later) (m .there)) f (m .id) (m .changed) (entry-file es (m .id) f (m .filed));
+    }
 
 pub touched-laws : TouchedLaws
 touched-laws = record { touched = touched-since; no-other = since-touched }
@@ -417,7 +336,7 @@ one-refusal : (b : Files) (r : FileRefusal) → answerBy b (Answer.Refused r) �
 one-refusal b FileRefusal.NoSuchFile = refl
 
 pub file-laws : FileLaws
-unfolding filesBy afterOf
+unfolding filesBy
 file-laws = record {
   bit-zero = λ n. bit-both (n % 2);
   bit-one = λ n. bit-both (n / 2 % 2);
@@ -428,9 +347,7 @@ file-laws = record {
   none-at-first = refl;
   left = λ b c. refl;
   refused = one-refusal;
-  begin-told = λ p. refl;
-  data-told = λ from len p. refl;
-  nothing-told = λ p. refl;
-  begins = λ ids fs a b. rw (list-accepted ids fs a);
-  leaves = λ ids fs a b. rw (list-accepted ids fs a);
+  begin-told = λ s. refl;
+  data-told = λ s. refl;
+  nothing-told = λ s. refl;
 }

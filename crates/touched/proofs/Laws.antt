@@ -3,14 +3,13 @@ use mathlib.Core.Path.{_≡_, refl, sym, ap, _∙_}
 use mathlib.Core.Bool.{Bool, true, false}
 use mathlib.Core.List.{List, [], _∷_, _++_}
 use mathlib.Core.Option as O
-use Prim.Native.Nat.{ℕ, zero, suc, _+_, _-_, _<_, _≤_, min}
-use native.Mathlib.Nat.{zero-min, min-zero, suc-min-suc}
+use Prim.Native.Nat.{ℕ, zero, suc, _+_, _-_, _<_, _≤_}
 use native.Mathlib.Omega.{arith}
 use borrow.Author.Tests.{eqb-true, lt-ltb}
 use lib.Dec.{eqb, ltb}
-use lib.ListN.{length, getD, take, drop, length-drop}
+use lib.ListN.{length, getD}
 use lib.Pow.{areBytes}
-use Rattle.wire.specs.Bytes.{pick, at}
+use Rattle.wire.specs.Bytes.{pick}
 use Rattle.wire.proofs.Laws.{by-test, impossible}
 use Rattle.rows.specs.Layout.{Read, got, refused}
 use Rattle.rows.specs.Rows.{Row, relation, type, origin, insert, update, update-from, delete, truncate, Said, row, no-row, refused-by, rowSaid}
@@ -57,30 +56,6 @@ set-file f b =
 all-bytes : (s : List ℕ) → ((i : ℕ) → getD s i 0 < 256) → areBytes s ≡ true
 all-bytes [] h = refl
 all-bytes (x ∷ s) h = rw (lt-ltb x 256 (h 0)) (all-bytes s (λ i. h (suc i)))
-
--- ---- a part that is named outside the buffer
-
-drop-min : (i : ℕ) (l : List ℕ) → drop (min i (length l)) l ≡ drop i l
-drop-min zero l = rw zero-min
-drop-min (suc i) [] = rw min-zero
-drop-min (suc i) (x ∷ l) = rw suc-min-suc (drop-min i l)
-
-take-min : (n : ℕ) (l : List ℕ) → take (min n (length l)) l ≡ take n l
-take-min zero l = rw zero-min
-take-min (suc n) [] = rw min-zero
-take-min (suc n) (x ∷ l) = rw suc-min-suc (ap (λ (r : List ℕ). x ∷ r) (take-min n l))
-
-pub part-clipped : (p : List ℕ) (from len : ℕ) → at p (min from (length p)) (min len (length p - min from (length p))) ≡ at p from len
-part-clipped p from len =
-    let d : drop (min from (length p)) p ≡ drop from p = drop-min from p in
-    let n : length p - min from (length p) ≡ length (drop from p) = sym (length-drop (min from (length p)) p) ∙ ap length d in
-    rw (d, n) (take-min len (drop from p))
-
-pub part-there : (p : List ℕ) (from len start end : ℕ) → start ≡ min from (length p) → end ≡ start + min len (length p - start)
-    → take (end - start) (drop start p) ≡ at p from len
-part-there p from len start end s e =
-    let n : end - start ≡ min len (length p - start) = omega arith in
-    rw (n, s) (part-clipped p from len)
 
 -- ---- relations
 
@@ -186,7 +161,7 @@ isTruncate (head (delete-head id which old)) = false
 isTruncate none = false
 isTruncate (refusal n) = false
 
--- .. are those that the data change
+-- the relations of a row that is no Truncate are those that the data change
 other : (said : Said) → isTruncate (answerOf said) ≡ false → changedHead (answerOf said) ≡ changedBy said
 other (row (relation id space v identity cs)) h = refl
 other (row (type id space v)) h = refl

@@ -5,3 +5,4 @@ pub mod Exact
 pub mod Laws
 pub mod Walk
 pub mod WalkLaws
+pub mod WordLaws

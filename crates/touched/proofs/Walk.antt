@@ -1,4 +1,4 @@
--- The calls over any list of events leave what a full walk finds.
+-- The calls over any list of what is told leave what a full walk finds.
 use mathlib.Core.Path.{_≡_, refl, sym, ap, _∙_}
 use mathlib.Core.Bool.{Bool, true, false}
 use mathlib.Core.List.{List, [], _∷_, _++_, append-assoc, append-nil}
@@ -7,8 +7,8 @@ use Rattle.wire.specs.Bytes.{pick}
 use Rattle.wire.proofs.Laws.{by-test, impossible}
 use Rattle.rows.specs.Rows.{rowSaid}
 use Rattle.touched.specs.declared.Files.{Files}
-use Rattle.touched.specs.Touched.{entriesOf, hasNoFile, changedBy, isAmong, files, clear, isFull, Told, begins, brings, nothing, filesAfter, afterOf}
-use Rattle.touched.specs.Walk.{isBegin, hasBegin, sinceBegin, changedOf, allChanged, walkOf, toldIn, leftBy, Left-is-the-walk, Calls-are-the-walk, Full-stays-full, Refused-changes-nothing}
+use Rattle.touched.specs.Touched.{hasNoFile, changedBy, isAmong, files, clear, isFull, Told, begins, brings, nothing, filesAfter, afterOf}
+use Rattle.touched.specs.Walk.{isBegin, hasBegin, sinceBegin, changedOf, allChanged, walkOf, leftBy, Left-is-the-walk, Full-stays-full, Refused-changes-nothing}
 use Rattle.touched.proofs.Laws.{or-false, or-true, or-or, among-append, with-full}
 
 -- ---- the events since the last Begin
@@ -78,9 +78,6 @@ module _ (es : List (ℕ × ℕ)) (h : hasNoFile es ≡ false) where
 pub left-is-the-walk : Left-is-the-walk
 unfolding sinceBegin allChanged isAmong
 left-is-the-walk es ts h = from-walk es h [] ts
-
-pub calls-are-the-walk : Calls-are-the-walk
-calls-are-the-walk ids fs cs h = left-is-the-walk (entriesOf ids fs) (toldIn cs) h
 
 pub full-stays-full : Full-stays-full
 unfolding afterOf

@@ -1,4 +1,4 @@
--- What the inner functions say.
+-- What the inner functions say. SCOPE 18.
 use mathlib.Core.Bool.{Bool, true, false}
 use mathlib.Core.List.{List, [], _∷_}
 use mathlib.Core.Option.{Option, some, none}

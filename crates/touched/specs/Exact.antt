@@ -1,4 +1,4 @@
--- Which files a call leaves touched, said by the two lists that are lent, the bytes of the data and the events alone: no definition of the walk, of
+-- Which files a call leaves touched, said by the two lists that are lent, the bytes of the data and what is told alone: no definition of the walk, of
 -- the entries or of the reader of rows is used. 02, wish 10; SCOPE 18.
 use mathlib.Core.Path.{_≡_}
 use mathlib.Core.Bool.{Bool, true, false}
@@ -7,20 +7,15 @@ use mathlib.Core.Logic.{_⊎_}
 use Prim.Native.Nat.{ℕ, zero, suc, _/_, _%_, _<_, _≤_}
 use lib.ListN.{length, getD}
 use lib.Pow.{areBytes}
-use lib.IntN.{ℤ}
-use Rattle.wire.specs.Bytes.{at}
-use Rattle.lsn.specs.declared.Lsn.{Lsn}
 use Rattle.rows.specs.Rows.{Row, relation, type, origin, insert, update, update-from, delete, truncate, rowBytes}
 use Rattle.rows.specs.RowLayout.{RowFits}
-use Rattle.worker.specs.declared.Event.{Event}
-use Rattle.worker.specs.declared.Event.the-variants as E
 use Rattle.touched.specs.declared.Files.{Files}
 use Rattle.progress.specs.declared.files.FileRefusal.{FileRefusal}
 use Rattle.touched.specs.declared.Tells.{Tells}
 use Rattle.touched.specs.declared.Answer.{Answer}
 use Rattle.touched.specs.Bits.{filesBy}
-use Rattle.touched.specs.Touched.{entriesOf, files, clear, isFull, tellsOf, tellsBy, Told, begins, brings, nothing, afterOf, answerBy}
-use Rattle.touched.specs.Walk.{Among, Call, toldIn, leftBy}
+use Rattle.touched.specs.Touched.{entriesOf, files, clear, isFull, tellsBy, Told, begins, brings, nothing, afterOf, answerBy}
+use Rattle.touched.specs.Walk.{Among, leftBy}
 
 -- ---- files
 
@@ -88,73 +83,58 @@ pub record AfterData (ids fs : List ℕ) (s : List ℕ) (b : Files) : Type 0 whe
   pub reached : (f : ℕ) → Reaches ids fs s f → Has (afterOf (entriesOf ids fs) (brings s) b .1) f
   pub no-other : (f : ℕ) → Has (afterOf (entriesOf ids fs) (brings s) b .1) f → Has b f ⊎ Reaches ids fs s f
 
--- what each event does, with any lists; p is the payload buffer
+-- what each call does, with any lists
 pub record CallLaws : Type 0 where
   -- a file above 3 is refused with 31, whatever is told, and the files stay as they were
   pub refused : (ids fs : List ℕ) (i : ℕ) → Listed ids fs i → 3 < getD fs i 0 → (t : Told) (b : Files) → afterOf (entriesOf ids fs) t b ≡ (31, b)
   -- a Begin clears
-  pub begin : (ids fs : List ℕ) → AllFiles ids fs → (final : Lsn) (time : ℤ) (xid : ℕ) (p : List ℕ) (b : Files)
-      → afterOf (entriesOf ids fs) (tellsOf (E.Begin final time xid) p) b ≡ (0, none-touched)
-  -- data are told as they stand in the buffer
-  pub from-buffer : (start end : Lsn) (time : ℤ) (from len : ℕ) (p : List ℕ) → tellsOf (E.XLogData start end time from len) p ≡ brings (at p from len)
+  pub begin : (ids fs : List ℕ) → AllFiles ids fs → (b : Files) → afterOf (entriesOf ids fs) begins b ≡ (0, none-touched)
   pub with-data : (ids fs : List ℕ) → AllFiles ids fs → (s : List ℕ) → areBytes s ≡ true → (b : Files) → AfterData ids fs s b
-  -- every other event leaves the files
-  pub no-event : (ids fs : List ℕ) → AllFiles ids fs → (p : List ℕ) (b : Files) → afterOf (entriesOf ids fs) (tellsOf E.Nothing p) b ≡ (0, b)
-  pub keepalive : (ids fs : List ℕ) → AllFiles ids fs → (end : Lsn) (time : ℤ) (reply : Bool) (p : List ℕ) (b : Files)
-      → afterOf (entriesOf ids fs) (tellsOf (E.KeepAlive end time reply) p) b ≡ (0, b)
-  pub commit : (ids fs : List ℕ) → AllFiles ids fs → (position end : Lsn) (time : ℤ) (p : List ℕ) (b : Files)
-      → afterOf (entriesOf ids fs) (tellsOf (E.Commit position end time) p) b ≡ (0, b)
-  pub message : (ids fs : List ℕ) → AllFiles ids fs → (flag : Bool) (position : Lsn) (pf pl cf cl : ℕ) (p : List ℕ) (b : Files)
-      → afterOf (entriesOf ids fs) (tellsOf (E.Message flag position pf pl cf cl) p) b ≡ (0, b)
-  pub stopped : (ids fs : List ℕ) → AllFiles ids fs → (reached : Lsn) (p : List ℕ) (b : Files)
-      → afterOf (entriesOf ids fs) (tellsOf (E.StoppedAt reached) p) b ≡ (0, b)
+  -- what tells nothing leaves the files
+  pub leaves : (ids fs : List ℕ) → AllFiles ids fs → (b : Files) → afterOf (entriesOf ids fs) nothing b ≡ (0, b)
 
 -- ---- any list of calls
 
--- an event with which a transaction begins
-abbrev pub IsBegin : Event → Type 0
-IsBegin E.Nothing = ⊥
-IsBegin (E.KeepAlive end time reply) = ⊥
-IsBegin (E.Begin final time xid) = Unit
-IsBegin (E.Commit position end time) = ⊥
-IsBegin (E.Message flag position pf pl cf cl) = ⊥
-IsBegin (E.XLogData start end time from len) = ⊥
-IsBegin (E.StoppedAt reached) = ⊥
+-- a transaction begins
+abbrev pub IsBegin : Told → Type 0
+IsBegin begins = Unit
+IsBegin (brings s) = ⊥
+IsBegin nothing = ⊥
 
--- none of the calls has one
-abbrev pub NoBegin : List Call → Type 0
+-- none of the calls tells so
+abbrev pub NoBegin : List Told → Type 0
 NoBegin [] = Unit
-NoBegin (c ∷ cs) = (IsBegin (c .0) → ⊥) × NoBegin cs
+NoBegin (t ∷ ts) = (IsBegin t → ⊥) × NoBegin ts
 
--- the payload buffers are bytes
-abbrev pub Buffers : List Call → Type 0
-Buffers [] = Unit
-Buffers (c ∷ cs) = (areBytes (c .1) ≡ true) × Buffers cs
+-- data are bytes
+abbrev pub HasBytes : Told → Type 0
+HasBytes begins = Unit
+HasBytes (brings s) = areBytes s ≡ true
+HasBytes nothing = Unit
+
+abbrev pub AllBytes : List Told → Type 0
+AllBytes [] = Unit
+AllBytes (t ∷ ts) = HasBytes t × AllBytes ts
 
 -- one of the calls brings data that reach file f, and no transaction begins after it
-pub record TouchedSince (ids fs : List ℕ) (f : ℕ) (cs : List Call) : Type 0 where
-  pub earlier : List Call
-  pub later : List Call
-  pub start : Lsn
-  pub end : Lsn
-  pub time : ℤ
-  pub from : ℕ
-  pub len : ℕ
-  pub payload : List ℕ
-  pub there : cs ≡ earlier ++ ((E.XLogData start end time from len, payload) ∷ later)
+pub record TouchedSince (ids fs : List ℕ) (f : ℕ) (ts : List Told) : Type 0 where
+  pub earlier : List Told
+  pub brought : List ℕ
+  pub later : List Told
+  pub there : ts ≡ earlier ++ (brings brought ∷ later)
   pub since : NoBegin later
-  pub reaches : Reaches ids fs (at payload from len) f
+  pub reaches : Reaches ids fs brought f
 
 -- the files that calls leave, from none touched: those that were touched since the last Begin, and no others
 pub record TouchedLaws : Type 0 where
-  pub touched : (ids fs : List ℕ) → AllFiles ids fs → (cs : List Call) (f : ℕ) → TouchedSince ids fs f cs
-      → Has (leftBy (entriesOf ids fs) none-touched (toldIn cs)) f
-  pub no-other : (ids fs : List ℕ) → AllFiles ids fs → (cs : List Call) → Buffers cs → (f : ℕ)
-      → Has (leftBy (entriesOf ids fs) none-touched (toldIn cs)) f → TouchedSince ids fs f cs
+  pub touched : (ids fs : List ℕ) → AllFiles ids fs → (ts : List Told) (f : ℕ) → TouchedSince ids fs f ts
+      → Has (leftBy (entriesOf ids fs) none-touched ts) f
+  pub no-other : (ids fs : List ℕ) → AllFiles ids fs → (ts : List Told) → AllBytes ts → (f : ℕ)
+      → Has (leftBy (entriesOf ids fs) none-touched ts) f → TouchedSince ids fs f ts
 
 -- ---- the values of the code
 
--- bit f of the number stands for file f; all four are touched where each is; what an answer and a call without an event stand for
+-- bit f of the number stands for file f; all four are touched where each is; what an answer and the code's names for what is told stand for
 pub record FileLaws : Type 0 where
   pub bit-zero : (n : ℕ) → (Has (filesBy n) 0 → n % 2 ≡ 1) × (n % 2 ≡ 1 → Has (filesBy n) 0)
   pub bit-one : (n : ℕ) → (Has (filesBy n) 1 → n / 2 % 2 ≡ 1) × (n / 2 % 2 ≡ 1 → Has (filesBy n) 1)
@@ -165,9 +145,6 @@ pub record FileLaws : Type 0 where
   pub none-at-first : clear ≡ none-touched
   pub left : (b c : Files) → answerBy b (Answer.Left c) ≡ (0, c)
   pub refused : (b : Files) (r : FileRefusal) → answerBy b (Answer.Refused r) ≡ (31, b)
-  pub begin-told : (p : List ℕ) → tellsBy Tells.Begin p ≡ begins
-  pub data-told : (from len : ℕ) (p : List ℕ) → tellsBy (Tells.Data from len) p ≡ brings (at p from len)
-  pub nothing-told : (p : List ℕ) → tellsBy Tells.Nothing p ≡ nothing
-  -- the same for a call that is told so, where no event is given
-  pub begins : (ids fs : List ℕ) → AllFiles ids fs → (b : Files) → afterOf (entriesOf ids fs) begins b ≡ (0, none-touched)
-  pub leaves : (ids fs : List ℕ) → AllFiles ids fs → (b : Files) → afterOf (entriesOf ids fs) nothing b ≡ (0, b)
+  pub begin-told : (s : List ℕ) → tellsBy Tells.Begin s ≡ begins
+  pub data-told : (s : List ℕ) → tellsBy Tells.Data s ≡ brings s
+  pub nothing-told : (s : List ℕ) → tellsBy Tells.Nothing s ≡ nothing

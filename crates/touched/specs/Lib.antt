@@ -5,3 +5,4 @@ pub mod ListLaws
 pub mod Touched
 pub mod TouchedCases
 pub mod Walk
+pub mod Words

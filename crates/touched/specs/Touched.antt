@@ -6,11 +6,9 @@ use mathlib.Core.Option.{Option, some, none}
 use Prim.Native.Nat.{ℕ}
 use lib.ListN.{take}
 use lib.Dec.{eqb}
-use Rattle.wire.specs.Bytes.{pick, at}
+use Rattle.wire.specs.Bytes.{pick}
 use Rattle.progress.specs.Files.{fileNumber, noFile}
 use Rattle.rows.specs.Rows.{Row, relation, type, origin, insert, update, update-from, delete, truncate, Said, row, no-row, refused-by, rowSaid}
-use Rattle.worker.specs.declared.Event.{Event}
-use Rattle.worker.specs.declared.Event.the-variants as E
 use Rattle.touched.specs.declared.Files.{Files}
 use Rattle.touched.specs.declared.Tells.{Tells}
 use Rattle.touched.specs.declared.Answer.{Answer}
@@ -94,21 +92,11 @@ pub data Told : Type 0 where
   brings : List ℕ → Told
   nothing : Told
 
--- an event of a run, and the payload buffer of its step. A part that is named outside the buffer is taken as far as the buffer has it
-abbrev pub tellsOf : Event → List ℕ → Told
-tellsOf E.Nothing p = nothing
-tellsOf (E.KeepAlive end time reply) p = nothing
-tellsOf (E.Begin final time xid) p = begins
-tellsOf (E.Commit position end time) p = nothing
-tellsOf (E.Message flag position pf pl cf cl) p = nothing
-tellsOf (E.XLogData start end time from len) p = brings (at p from len)
-tellsOf (E.StoppedAt reached) p = nothing
-
--- .. by the code's own names for it
+-- what the code's own name for it tells, with the data
 abbrev pub tellsBy : Tells → List ℕ → Told
-tellsBy Tells.Begin p = begins
-tellsBy (Tells.Data from len) p = brings (at p from len)
-tellsBy Tells.Nothing p = nothing
+tellsBy Tells.Begin s = begins
+tellsBy Tells.Data s = brings s
+tellsBy Tells.Nothing s = nothing
 
 -- the files after what an event tells
 abbrev pub filesAfter : List (ℕ × ℕ) → Told → Files → Files

@@ -5,11 +5,7 @@ use mathlib.Core.List.{List, [], _∷_, _++_}
 use Prim.Native.Nat.{ℕ}
 use Prim.Native.Char.{code}
 use lib.ListN.{replicate}
-use lib.IntN.{pos}
-use Rattle.worker.specs.declared.Event.the-variants as E
-use Rattle.worker.specs.Run.{lsn}
-use Rattle.touched.specs.declared.Files.{Files}
-use Rattle.touched.specs.Touched.{entriesOf, files, clear, begins, brings, nothing, tellsOf, afterOf}
+use Rattle.touched.specs.Touched.{entriesOf, files, clear, begins, brings, nothing, afterOf}
 use Rattle.touched.specs.Bits.{bitsOf, filesBy}
 
 -- a message of relation 7
@@ -72,28 +68,6 @@ pub record MessageCases : Type 0 where
   pub an-origin : afterOf aList (brings (of-seven (code "O") (0 ∷ 0 ∷ 0 ∷ 7 ∷ 0 ∷ []))) clear ≡ (0, clear)
   pub a-boundary : afterOf aList (brings (of-seven (code "C") [])) clear ≡ (0, clear)
   pub no-data : afterOf aList (brings []) clear ≡ (0, clear)
-
--- files 1 and 3
-abbrev pub some : Files
-some = files false true false true
-
--- two bytes and an Insert, as a payload buffer
-abbrev pub aPayload : List ℕ
-aPayload = 0xFF ∷ 0xFF ∷ anInsert
-
--- every event of a run, after which files 1 and 3 were touched
-pub record EventCases : Type 0 where
-  pub no-event : afterOf aList (tellsOf E.Nothing aPayload) some ≡ (0, some)
-  pub a-keepalive : afterOf aList (tellsOf (E.KeepAlive (lsn 2) (pos 9) true) aPayload) some ≡ (0, some)
-  pub a-begin : afterOf aList (tellsOf (E.Begin (lsn 2) (pos 9) 3) aPayload) some ≡ (0, clear)
-  pub a-commit : afterOf aList (tellsOf (E.Commit (lsn 2) (lsn 9) (pos 0)) aPayload) some ≡ (0, some)
-  pub a-message : afterOf aList (tellsOf (E.Message true (lsn 2) 0 2 2 9) aPayload) some ≡ (0, some)
-  pub other-data : afterOf aList (tellsOf (E.XLogData (lsn 0) (lsn 0) (pos 0) 2 9) aPayload) some ≡ (0, files false true true true)
-  pub one-byte-less : afterOf aList (tellsOf (E.XLogData (lsn 0) (lsn 0) (pos 0) 2 8) aPayload) some ≡ (0, some)
-  pub stopped : afterOf aList (tellsOf (E.StoppedAt (lsn 2)) aPayload) some ≡ (0, some)
-  -- a part that is named outside the payload buffer is taken as far as the buffer has it
-  pub too-long : afterOf aList (tellsOf (E.XLogData (lsn 0) (lsn 0) (pos 0) 2 1000) aPayload) some ≡ (0, files false true true true)
-  pub outside : afterOf aList (tellsOf (E.XLogData (lsn 0) (lsn 0) (pos 0) 1000 9) aPayload) some ≡ (0, some)
 
 -- the lowest bit is file 0
 pub record BitCases : Type 0 where

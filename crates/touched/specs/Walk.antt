@@ -1,5 +1,5 @@
--- The files that a transaction touched, by a full walk over its events, which knows nothing of bits and short cuts; and what the calls over any list
--- of events leave. 02, wish 10; SCOPE 18.
+-- The files that a transaction touched, by a full walk over what its events tell, which knows nothing of bits and short cuts; and what the calls over
+-- any list of that leave. 02, wish 10; SCOPE 18.
 use mathlib.Core.Path.{_≡_}
 use mathlib.Core.Bool.{Bool, true, false}
 use mathlib.Core.List.{List, [], _∷_, _++_}
@@ -9,9 +9,8 @@ use Prim.Native.Nat.{ℕ, _<_}
 use lib.Dec.{eqb}
 use Rattle.wire.specs.Bytes.{pick}
 use Rattle.rows.specs.Rows.{rowSaid}
-use Rattle.worker.specs.declared.Event.{Event}
 use Rattle.touched.specs.declared.Files.{Files}
-use Rattle.touched.specs.Touched.{entriesOf, hasNoFile, fileOf, changedBy, isAmong, files, clear, isFull, Told, begins, brings, nothing, tellsOf, afterOf}
+use Rattle.touched.specs.Touched.{hasNoFile, fileOf, changedBy, isAmong, files, clear, isFull, Told, begins, brings, nothing, afterOf}
 
 -- ---- the full walk
 
@@ -55,26 +54,11 @@ unfoldable pub leftBy : List (ℕ × ℕ) → Files → List Told → Files
 leftBy es b [] = b
 leftBy es b (t ∷ ts) = leftBy es (afterOf es t b .1) ts
 
--- an event of a run, and the payload buffer of its step
-abbrev pub Call : Type 0
-Call = Event × List ℕ
-
--- what each of them tells
-unfoldable pub toldIn : List Call → List Told
-toldIn [] = []
-toldIn (c ∷ cs) = tellsOf (c .0) (c .1) ∷ toldIn cs
-
 -- ---- the theorems
 
--- with the same unrefused list, from clear files, whatever is told: they are what a full walk finds ..
+-- with the same unrefused list, from clear files, whatever is told: they are what a full walk finds
 abbrev pub Left-is-the-walk : Type 0
 Left-is-the-walk = (es : List (ℕ × ℕ)) (ts : List Told) → hasNoFile es ≡ false → leftBy es clear ts ≡ walkOf es ts
-
--- .. and so over any list of events and payload buffers
-abbrev pub Calls-are-the-walk : Type 0
-Calls-are-the-walk =
-    (ids fs : List ℕ) (cs : List Call) → hasNoFile (entriesOf ids fs) ≡ false
-    → leftBy (entriesOf ids fs) clear (toldIn cs) ≡ walkOf (entriesOf ids fs) (toldIn cs)
 
 -- once all four are touched, what is told before the next Begin need not be looked at
 abbrev pub Full-stays-full : Type 0

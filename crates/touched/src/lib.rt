@@ -1,11 +1,12 @@
 // Which files a transaction touched: one bit for each of four, cleared by Begin, set by every row and Truncate whose relation has a file in a list.
+pub mod words;
+
 ghost use mathlib.Core.Path.{_≡_};
-ghost use mathlib.Core.List.{List, [], _∷_};
-ghost use Prim.Native.Nat.{ℕ, _≤_, min};
+ghost use mathlib.Core.List.{[], _∷_};
+ghost use Prim.Native.Nat.{_≤_, min};
 ghost use lib.ListN.{length};
 ghost use Rattle.rows.specs.Rows.{rowSaid};
-ghost use Rattle.wire.specs.Bytes.{at};
-ghost use Rattle.touched.specs.Touched.{entriesOf, hasNoFile, fileOf, changedBy, clear, isFull, withAll, tellsOf, tellsBy, afterOf, answerBy};
+ghost use Rattle.touched.specs.Touched.{entriesOf, hasNoFile, fileOf, changedBy, clear, isFull, withAll, tellsBy, afterOf, answerBy};
 ghost use Rattle.touched.specs.Bits.{bitOf, bitAt, bitsOf, filesBy};
 ghost use Rattle.touched.specs.Code.{fileBy, withFile, identifiersAt};
 use progress::files::FileRefusal;
@@ -13,7 +14,6 @@ use progress::files::LAST_FILE;
 use rows::Identifier;
 use rows::Row;
 use wire::store::least;
-use worker::Event;
 
 // Entries past so many are not read.
 pub const ENTRIES: usize = 64;
@@ -26,10 +26,10 @@ pub struct Files {
     pub three: bool,
 }
 
-// What an event tells of files: that a transaction begins; the place and the length of data, which may be a row; or nothing.
+// What an event tells of files: that a transaction begins; that there are data, which may be a row; or nothing.
 pub enum Tells {
     Begin,
-    Data(usize, usize),
+    Data,
     Nothing,
 }
 
@@ -246,78 +246,30 @@ fn after_row(identifiers: &[u32], files: &[u64], data: &[u8], before: Files) -> 
     }
 }
 
-// The data are the part of the payload buffer that is named, as far as the buffer has it. Where all four files are touched they are not read.
-fn after_data(
-    identifiers: &[u32],
-    files: &[u64],
-    payload: &[u8],
-    from: usize,
-    len: usize,
-    before: Files,
-) -> Files
-    ensures { λ r. ⌜ r ≡ withAll (entriesOf (now (identifiers .entry)) (now (files .entry))) (changedBy (rowSaid (at (now (payload .entry)) from len))) before ⌝ }
+// Where all four files are touched the data are not read.
+fn after_data(identifiers: &[u32], files: &[u64], data: &[u8], before: Files) -> Files
+    ensures { λ r. ⌜ r ≡ withAll (entriesOf (now (identifiers .entry)) (now (files .entry))) (changedBy (rowSaid (now («data» .entry)))) before ⌝ }
 {
     if before.is_full() {
         return before;
     }
-    let start = least(from, payload.len());
-    let end = start + least(len, payload.len() - start);
-    after_row(identifiers, files, &payload[start..end], before)
+    after_row(identifiers, files, data, before)
 }
 
-// The list is judged first, at every call.
-pub fn after(
-    identifiers: &[u32],
-    files: &[u64],
-    tells: Tells,
-    payload: &[u8],
-    before: Files,
-) -> Answer
-    ensures { λ r. ⌜ answerBy before r ≡ afterOf (entriesOf (now (identifiers .entry)) (now (files .entry))) (tellsBy tells (now (payload .entry))) before ⌝ }
+// The list is judged first, at every call. Data are looked at where the event tells that there are some.
+pub fn after(identifiers: &[u32], files: &[u64], tells: Tells, data: &[u8], before: Files) -> Answer
+    ensures { λ r. ⌜ answerBy before r
+        ≡ afterOf (entriesOf (now (identifiers .entry)) (now (files .entry))) (tellsBy tells (now («data» .entry))) before ⌝ }
 {
     if has_no_file(identifiers, files) {
         return Answer::Refused(FileRefusal::NoSuchFile);
     }
     match tells {
         Tells::Begin => Answer::Left(Files::clear()),
-        Tells::Data(from, len) => {
-            let touched = after_data(identifiers, files, payload, from, len, before);
+        Tells::Data => {
+            let touched = after_data(identifiers, files, data, before);
             Answer::Left(touched)
         }
         Tells::Nothing => Answer::Left(before),
     }
-}
-
-// What an event of a run tells.
-fn tells_of(event: Event) -> Tells
-    ensures { λ r. ⌜ ((payload : List ℕ) → tellsBy r payload ≡ tellsOf event payload) ⌝ }
-{
-    match event {
-        Event::Nothing => Tells::Nothing,
-        Event::KeepAlive { .. } => Tells::Nothing,
-        Event::Begin { .. } => Tells::Begin,
-        Event::Commit { .. } => Tells::Nothing,
-        Event::Message { .. } => Tells::Nothing,
-        Event::XLogData {
-            wal_start: _,
-            wal_end: _,
-            server_time: _,
-            from,
-            len,
-        } => Tells::Data(from, len),
-        Event::StoppedAt { .. } => Tells::Nothing,
-    }
-}
-
-// The same for an event of a run and the payload buffer of its step.
-pub fn after_event(
-    identifiers: &[u32],
-    files: &[u64],
-    event: Event,
-    payload: &[u8],
-    before: Files,
-) -> Answer
-    ensures { λ r. ⌜ answerBy before r ≡ afterOf (entriesOf (now (identifiers .entry)) (now (files .entry))) (tellsOf event (now (payload .entry))) before ⌝ }
-{
-    after(identifiers, files, tells_of(event), payload, before)
 }

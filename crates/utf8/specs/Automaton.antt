@@ -97,6 +97,14 @@ abbrev pub Entries-end : Type 0
 Entries-end = (q b : ℕ) → entryOf q b ≤ 8
 
 pub record Cases : Type 0 where
+  -- the states have the numbers of 02's order: one, two, three continuation bytes due, after E0, ED, F0, F4
+  pub one-due : entryOf 0 0xC2 ≡ 1
+  pub two-due : entryOf 0 0xE1 ≡ 2
+  pub three-due : entryOf 0 0xF1 ≡ 3
+  pub after-e0 : entryOf 0 0xE0 ≡ 4
+  pub after-ed : entryOf 0 0xED ≡ 5
+  pub after-f0 : entryOf 0 0xF0 ≡ 6
+  pub after-f4 : entryOf 0 0xF4 ≡ 7
   -- after ED A0 no sequence goes on, after ED 9F one does
   pub surrogate : entryOf (entryOf 0 0xED) 0xA0 ≡ 8
   pub before-surrogates : entryOf (entryOf 0 0xED) 0x9F ≡ 1
@@ -108,10 +116,18 @@ pub record Cases : Type 0 where
   pub letter-within : entryOf 2 0x41 ≡ 8
   pub euro : entryOf (entryOf (entryOf 0 0xE2) 0x82) 0xAC ≡ 0
 
+-- each by computing the definitions
 pub cases : Cases
 unfolding entryOf stateOf dueIn states rowOf table
 cases =
     record {
+      one-due = refl;
+      two-due = refl;
+      three-due = refl;
+      after-e0 = refl;
+      after-ed = refl;
+      after-f0 = refl;
+      after-f4 = refl;
       surrogate = refl;
       before-surrogates = refl;
       overlong = refl;

@@ -43,7 +43,7 @@ length-beBytes (suc n) v = length-append (beBytes n (v / 256)) (v % 256 ∷ []) 
 pub more : (n : ℕ) {a b : ℕ} → a < 256 ^ n → b < 256 → a * 256 + b < 256 ^ (n + 1)
 more n {a} {b} ha hb = rw (add-one, pow-suc) (omega arith)
 
--- .. fits 64 bits
+-- a number of at most 8 bytes fits 64 bits
 pub fits : (i n : ℕ) {a b : ℕ} → i < n → n ≤ 8 → a < 256 ^ i → b < 256 → a * 256 + b < 2 ^ 64
 fits i n {a} {b} hi hn ha hb =
     let k : i + 1 ≤ 8 = omega arith in

@@ -21,7 +21,7 @@ module _ {d₀ : List ℕ} {i : ℕ} {whole : List ℕ} (h : i + length whole �
   pub filling-room : {d : List ℕ} {r : ℕ} (piece rest : List ℕ) → Filling d₀ i whole d r (piece ++ rest) → r + length piece ≤ length d
   filling-room piece rest f = omega (arith, length-append piece rest)
 
-  -- .. and is written
+  -- the next piece is written
   pub filling-next : {d : List ℕ} {r : ℕ} (piece : List ℕ) {rest e : List ℕ} {q : ℕ} → Filling d₀ i whole d r (piece ++ rest) → (q, e) ≡ placed d r piece → Filling d₀ i whole e q rest
   filling-next {d} {r} piece {rest} {e} {q} f p =
       let k : r + length piece ≤ length d = filling-room piece rest f in

@@ -1,4 +1,4 @@
--- Byte strings: parts of a list, a list written over another, and the numbers that bytes spell.
+-- Byte strings: parts of a list, a list written over another, and the numbers that bytes spell. SCOPE 1.2.
 use Prim.Native.Nat.{ℕ, zero, suc, _+_, _*_, _/_, _%_, min}
 use mathlib.Core.Bool.{Bool, true, false}
 use mathlib.Core.List.{List, [], _∷_, _++_}
@@ -9,6 +9,11 @@ use lib.Dec.{leb}
 abbrev pub pick : {A : Type 0} → Bool → A → A → A
 pick true a b = a
 pick false a b = b
+
+-- a flag as a number
+abbrev pub flagWord : Bool → ℕ
+flagWord true = 1
+flagWord false = 0
 
 -- the n elements from index i, as far as they are there
 abbrev pub at : List ℕ → ℕ → ℕ → List ℕ

@@ -1,4 +1,4 @@
--- The first place of a byte.
+-- The first place of a byte. SCOPE 1.2.
 use mathlib.Core.Path.{_≡_}
 use Prim.Native.Nat.{ℕ, _+_}
 use mathlib.Core.List.{List, [], _∷_}

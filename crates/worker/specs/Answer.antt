@@ -6,7 +6,7 @@ use Rattle.wire.specs.Bytes.{pick}
 use Rattle.error.specs.Refusal.{numberOf}
 use Rattle.error.specs.Writer.{outcome}
 use Rattle.progress.specs.Files.{fileVerdict}
-use Rattle.stream.specs.Tag.{isError}
+use Rattle.frames.specs.Tag.{isError}
 use Rattle.worker.specs.declared.Run.{Run}
 use Rattle.worker.specs.declared.Verdict.{Verdict}
 use Rattle.worker.specs.declared.Verdict.the-variants.{Accepted, Refused}
@@ -19,7 +19,7 @@ use Rattle.worker.specs.declared.Reporting.{Reporting}
 use Rattle.worker.specs.declared.ErrorPart.{ErrorPart}
 use Rattle.worker.specs.declared.ErrorPart.the-variants.{Absent, Front}
 use Rattle.worker.specs.Events as E
-use Rattle.worker.specs.Opening as O
+use Rattle.worker.specs.Session as O
 use Rattle.worker.specs.Step.{Outcome, Lent, isEnded}
 
 -- the refusal's number, 0 for none

@@ -1,8 +1,8 @@
-pub mod Rows
+pub mod Tests
 pub mod Run
 pub mod Events
 pub mod Streaming
 pub mod Step
-pub mod Opening
+pub mod Session
 pub mod Answer
 pub mod Said

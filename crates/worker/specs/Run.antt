@@ -28,7 +28,7 @@ use Rattle.worker.specs.declared.Run.{Run}
 
 -- ---- states
 
--- a state's row in the step table, counted from 0; Ended has the next number
+-- a state's place in the step table, counted from 0; Ended has the next number
 abbrev pub stateNumber : State → ℕ
 stateNumber Opening = 0
 stateNumber Turn = 1
@@ -86,22 +86,26 @@ run settings state reader clock progress status drained pending whole offer metr
 -- a run before its first step, whose files are all at the start
 unfoldable pub freshRun : Settings → State → Lsn → Run
 freshRun s state start =
-    run s state fresh (clock noMoment noMoment noMoment) (F.progress (files start start start start) false noMoment (s .timing)) (lastStatus false (lsn 0) noMoment) 0 false
-    (wholeOf 0 0 false) (offer Nothing false false (lsn 0)) noCounts (lsn 0)
+    run s state fresh (clock noMoment noMoment noMoment) (F.progress (files start start start start) false noMoment (s .timing))
+    (lastStatus false (lsn 0) noMoment) 0 false (wholeOf 0 0 false) (offer Nothing false false (lsn 0)) noCounts (lsn 0)
 
 -- ---- one part changed
 
 abbrev pub withState : State → Run → Run
-withState x r = run (r .settings) x (r .reader) (r .clock) (r .progress) (r .status) (r .drained) (r .pending) (r .whole) (r .offer) (r .metrics) (r .server)
+withState x r =
+    run (r .settings) x (r .reader) (r .clock) (r .progress) (r .status) (r .drained) (r .pending) (r .whole) (r .offer) (r .metrics) (r .server)
 
 abbrev pub withReader : MessageReader → Run → Run
-withReader x r = run (r .settings) (r .state) x (r .clock) (r .progress) (r .status) (r .drained) (r .pending) (r .whole) (r .offer) (r .metrics) (r .server)
+withReader x r =
+    run (r .settings) (r .state) x (r .clock) (r .progress) (r .status) (r .drained) (r .pending) (r .whole) (r .offer) (r .metrics) (r .server)
 
 abbrev pub withClock : Clock → Run → Run
-withClock x r = run (r .settings) (r .state) (r .reader) x (r .progress) (r .status) (r .drained) (r .pending) (r .whole) (r .offer) (r .metrics) (r .server)
+withClock x r =
+    run (r .settings) (r .state) (r .reader) x (r .progress) (r .status) (r .drained) (r .pending) (r .whole) (r .offer) (r .metrics) (r .server)
 
 abbrev pub withProgress : Progress → Run → Run
-withProgress x r = run (r .settings) (r .state) (r .reader) (r .clock) x (r .status) (r .drained) (r .pending) (r .whole) (r .offer) (r .metrics) (r .server)
+withProgress x r =
+    run (r .settings) (r .state) (r .reader) (r .clock) x (r .status) (r .drained) (r .pending) (r .whole) (r .offer) (r .metrics) (r .server)
 
 -- the cell that a step sees: its position is the smallest of the four files
 abbrev pub cellIn : Run → ProgressCell
@@ -112,25 +116,32 @@ abbrev pub withCell : ProgressCell → Run → Run
 withCell c r = withProgress (beside (r .progress .files) c) r
 
 abbrev pub withLastStatus : LastStatus → Run → Run
-withLastStatus x r = run (r .settings) (r .state) (r .reader) (r .clock) (r .progress) x (r .drained) (r .pending) (r .whole) (r .offer) (r .metrics) (r .server)
+withLastStatus x r =
+    run (r .settings) (r .state) (r .reader) (r .clock) (r .progress) x (r .drained) (r .pending) (r .whole) (r .offer) (r .metrics) (r .server)
 
 abbrev pub withDrained : ℕ → Run → Run
-withDrained x r = run (r .settings) (r .state) (r .reader) (r .clock) (r .progress) (r .status) x (r .pending) (r .whole) (r .offer) (r .metrics) (r .server)
+withDrained x r =
+    run (r .settings) (r .state) (r .reader) (r .clock) (r .progress) (r .status) x (r .pending) (r .whole) (r .offer) (r .metrics) (r .server)
 
 abbrev pub withPending : Bool → Run → Run
-withPending x r = run (r .settings) (r .state) (r .reader) (r .clock) (r .progress) (r .status) (r .drained) x (r .whole) (r .offer) (r .metrics) (r .server)
+withPending x r =
+    run (r .settings) (r .state) (r .reader) (r .clock) (r .progress) (r .status) (r .drained) x (r .whole) (r .offer) (r .metrics) (r .server)
 
 abbrev pub withWhole : Whole → Run → Run
-withWhole x r = run (r .settings) (r .state) (r .reader) (r .clock) (r .progress) (r .status) (r .drained) (r .pending) x (r .offer) (r .metrics) (r .server)
+withWhole x r =
+    run (r .settings) (r .state) (r .reader) (r .clock) (r .progress) (r .status) (r .drained) (r .pending) x (r .offer) (r .metrics) (r .server)
 
 abbrev pub withOffer : Offer → Run → Run
-withOffer x r = run (r .settings) (r .state) (r .reader) (r .clock) (r .progress) (r .status) (r .drained) (r .pending) (r .whole) x (r .metrics) (r .server)
+withOffer x r =
+    run (r .settings) (r .state) (r .reader) (r .clock) (r .progress) (r .status) (r .drained) (r .pending) (r .whole) x (r .metrics) (r .server)
 
 abbrev pub withMetrics : Metrics → Run → Run
-withMetrics x r = run (r .settings) (r .state) (r .reader) (r .clock) (r .progress) (r .status) (r .drained) (r .pending) (r .whole) (r .offer) x (r .server)
+withMetrics x r =
+    run (r .settings) (r .state) (r .reader) (r .clock) (r .progress) (r .status) (r .drained) (r .pending) (r .whole) (r .offer) x (r .server)
 
 abbrev pub withServer : Lsn → Run → Run
-withServer x r = run (r .settings) (r .state) (r .reader) (r .clock) (r .progress) (r .status) (r .drained) (r .pending) (r .whole) (r .offer) (r .metrics) x
+withServer x r =
+    run (r .settings) (r .state) (r .reader) (r .clock) (r .progress) (r .status) (r .drained) (r .pending) (r .whole) (r .offer) (r .metrics) x
 
 -- ---- moments
 

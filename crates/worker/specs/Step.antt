@@ -1,4 +1,4 @@
--- One step: the step table, row by row and test by test, and the refusals 2 to 5 before it. SCOPE 6; 01, "Events and confirmations".
+-- One step: the step table, state by state and test by test, and the refusals 2 to 5 before it. SCOPE 6; 01, "Events and confirmations".
 use Prim.Native.Nat.{ℕ}
 use mathlib.Core.Bool.{Bool, true, false, not}
 use mathlib.Core.List.{List, [], _∷_}
@@ -9,7 +9,7 @@ use lib.Dec.{ltb, leb, eqb}
 use Rattle.wire.specs.Bytes.{pick, at, put}
 use Rattle.framing.specs.Read.{Result, limitOf, readOf}
 use Rattle.framing.specs.Read as R
-use Rattle.stream.specs.Tag.{isError, isCopyBothResponse}
+use Rattle.frames.specs.Tag.{isError, isCopyBothResponse}
 use Rattle.frontend.specs.Frontend.{statusUpdate, copyDone}
 use Rattle.lsn.specs.declared.Lsn.{Lsn}
 use Rattle.lsn.specs.Position.{isBelow}
@@ -31,7 +31,7 @@ use Rattle.worker.specs.declared.Input.{Input}
 use Rattle.worker.specs.declared.Run.{Run}
 use Rattle.worker.specs.Events.{dataGives}
 use Rattle.worker.specs.Events as E
-use Rattle.worker.specs.Rows.{_⇒_, firstOf, both, unless}
+use Rattle.worker.specs.Tests.{_⇒_, firstOf, both, unless}
 use Rattle.worker.specs.Run.{cellIn, lsn, lastStatus, wholeOf, offer, withState, withReader, withCell, withLastStatus, withDrained, withPending, withWhole, withOffer, withMetrics, withServer, accepted, waitBegun, stallBegun, micros}
 use Rattle.worker.specs.Streaming.{whileStreaming}
 
@@ -73,7 +73,16 @@ endedWith n r l = refusedWith n (withState Ended r) l
 -- a CopyDone is written, and the run ends
 abbrev pub doneWith : Event → Run → Lent → Outcome
 doneWith e r l =
-    record { run = withState Ended r; refusal = 0; taken = 0; event = E.saidBy e; written = 5; waited = none; payload = l .payload; out = put (l .out) 0 copyDone }
+    record {
+      run = withState Ended r;
+      refusal = 0;
+      taken = 0;
+      event = E.saidBy e;
+      written = 5;
+      waited = none;
+      payload = l .payload;
+      out = put (l .out) 0 copyDone;
+    }
 
 -- the outcome with its taken count and its payload buffer
 abbrev pub having : ℕ → List ℕ → Outcome → Outcome
@@ -246,7 +255,7 @@ abbrev pub givenOf : E.Given → Run → Lent → Outcome
 givenOf (E.given e reached) r l = offersAt e reached r l
 givenOf (E.refused n) r l = endedWith n r l
 
--- .. by the boundary in the data
+-- the boundary in the data says which event is offered
 abbrev pub boundaryBy : B.Said → ℕ → ℕ → ℤ → ℕ → ℕ → Run → Lent → Outcome
 boundaryBy b start end time from len r l = givenOf (dataGives b start end time from len) r l
 
@@ -317,7 +326,7 @@ offeringOf r i l = pick (r .offer .stalled) (stalledOf r i l) (firstBy (i .queue
 
 -- ---- one step
 
--- the row of a state
+-- the case of a state
 unfoldable pub stepIn : State → Run → Input → Lent → Outcome
 stepIn Opening r i l = openingOf r i l
 stepIn Turn r i l = turnOf r i l
@@ -342,7 +351,7 @@ isEnded Ended = true
 abbrev pub badMoment : Run → Moment → Bool
 badMoment r m = pick (inRange m) (isBefore m (r .clock .last)) true
 
--- 2 to 5 change nothing; then the state's row
+-- 2 to 5 change nothing; then the state's case
 unfoldable pub stepOf : Run → Input → Lent → Outcome
 stepOf r i l =
     firstOf

@@ -7,7 +7,7 @@ use mathlib.Core.Path.{_≡_, refl}
 use lib.Dec.{eqb}
 use borrow.Author.Tests.{eqb-true}
 use Rattle.wire.specs.Bytes.{pick}
-use Rattle.stream.specs.Tag.{isError, isCopyData}
+use Rattle.frames.specs.Tag.{isError, isCopyData}
 
 -- CopyDone, Byte1('c')
 abbrev pub isCopyDone : ℕ → Bool
@@ -35,6 +35,7 @@ pub record StreamingCases : Type 0 where
   pub ready : streamingKind (code "Z") ≡ 3
   pub done-only : (tag : ℕ) → isCopyDone tag ≡ true → tag ≡ code "c"
 
+-- each by computing the definitions, or by going through the tests
 pub streaming-cases : StreamingCases
 streaming-cases =
     record {

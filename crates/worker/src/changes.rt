@@ -1,4 +1,4 @@
-// Single changes of a run. A field that is or holds an enum is not stored to: the run is built anew.
+// Single changes of a run. A field that is or holds an enum, the state and the offer, is not stored to: the run is built anew.
 ghost use mathlib.Core.Path.{_≡_};
 ghost use Rattle.worker.specs.Run.{cellIn, wholeOf, offer, withState, withReader, withProgress, withCell, withDrained, withPending, withWhole, withOffer, withMetrics, withServer, accepted, waitBegun, stallBegun};
 use crate::Event;
@@ -12,8 +12,9 @@ use moment::Moment;
 use progress::ProgressCell;
 use progress::files::Progress;
 
-pub(crate) fn with_state(state: State, run: Run) -> Run
-    ensures { λ r. ⌜ r ≡ withState state run ⌝ }
+// The run with this state and this offer.
+fn rebuilt(state: State, offer: Offer, run: Run) -> Run
+    ensures { λ r. ⌜ r ≡ withState state (withOffer offer run) ⌝ }
 {
     let settings = run.settings;
     let reader = run.reader;
@@ -21,7 +22,6 @@ pub(crate) fn with_state(state: State, run: Run) -> Run
     let progress = run.progress;
     let status = run.status;
     let whole = run.whole;
-    let offer = run.offer;
     let metrics = run.metrics;
     let server = run.server;
     Run {
@@ -40,32 +40,18 @@ pub(crate) fn with_state(state: State, run: Run) -> Run
     }
 }
 
+pub(crate) fn with_state(state: State, run: Run) -> Run
+    ensures { λ r. ⌜ r ≡ withState state run ⌝ }
+{
+    let offer = run.offer;
+    rebuilt(state, offer, run)
+}
+
 pub(crate) fn with_offer(offer: Offer, run: Run) -> Run
     ensures { λ r. ⌜ r ≡ withOffer offer run ⌝ }
 {
-    let settings = run.settings;
     let state = run.state;
-    let reader = run.reader;
-    let clock = run.clock;
-    let progress = run.progress;
-    let status = run.status;
-    let whole = run.whole;
-    let metrics = run.metrics;
-    let server = run.server;
-    Run {
-        settings,
-        state,
-        reader,
-        clock,
-        progress,
-        status,
-        drained: run.drained,
-        pending: run.pending,
-        whole,
-        offer,
-        metrics,
-        server,
-    }
+    rebuilt(state, offer, run)
 }
 
 pub(crate) fn with_reader(reader: MessageReader, mut run: Run) -> Run

@@ -1,4 +1,4 @@
-// The ends of a step: how each row of the step table answers.
+// The ends of a step: how each case of the step table answers.
 ghost use mathlib.Core.Path.{_≡_};
 ghost use mathlib.Core.List.{List};
 ghost use Prim.Native.Nat.{ℕ, _≤_};

@@ -62,7 +62,8 @@ fn keep_alive(
     out: &mut [u8],
 ) -> Stepped
     requires { ⌜ 39 ≤ length (now out) ⌝ }
-    ensures { λ s. ⌜ ((u p : List ℕ) → outcomeBy s p (now (out .exit)) ≡ keepAliveBy («wal_end» .0) «server_time» reply run input (lent u p (now (out .entry)))) ⌝ }
+    ensures { λ s. ⌜ ((u p : List ℕ) → outcomeBy s p (now (out .exit))
+        ≡ keepAliveBy («wal_end» .0) «server_time» reply run input (lent u p (now (out .entry)))) ⌝ }
 {
     let event = Event::KeepAlive {
         wal_end,
@@ -116,6 +117,28 @@ fn commit(lsn: Lsn, end_lsn: Lsn, commit_time: i64) -> DataEvent
     DataEvent::Offered(event, end_lsn)
 }
 
+fn message(
+    transactional: bool,
+    lsn: Lsn,
+    prefix: usize,
+    prefix_len: usize,
+    content: usize,
+    content_len: usize,
+    end: Lsn,
+) -> DataEvent
+    ensures { λ r. ⌜ givenBy r ≡ given (Event.Message transactional lsn prefix «prefix_len» content «content_len») end ⌝ }
+{
+    let event = Event::Message {
+        transactional,
+        lsn,
+        prefix_from: prefix,
+        prefix_len,
+        content_from: content,
+        content_len,
+    };
+    DataEvent::Offered(event, end)
+}
+
 fn other(start: Lsn, end: Lsn, server_time: i64, from: usize, len: usize) -> DataEvent
     ensures { λ r. ⌜ givenBy r ≡ given (Event.XLogData start end «server_time» from len) end ⌝ }
 {
@@ -130,6 +153,7 @@ fn other(start: Lsn, end: Lsn, server_time: i64, from: usize, len: usize) -> Dat
 }
 
 // The event of an XLogData whose data begin at a place of the payload, with the position that it reaches; or why the data are refused.
+// It has a case for each boundary and nothing else; the layout gives each field of a case a line of its own, which is why it is long.
 pub fn event_at(
     payload: &[u8],
     from: usize,
@@ -161,15 +185,15 @@ pub fn event_at(
         } => {
             let prefix = from + prefix_from;
             let content = from + content_from;
-            let event = Event::Message {
+            message(
                 transactional,
                 lsn,
-                prefix_from: prefix,
+                prefix,
                 prefix_len,
-                content_from: content,
+                content,
                 content_len,
-            };
-            DataEvent::Offered(event, end)
+                end,
+            )
         }
         Boundary::NotBoundary => other(start, end, server_time, from, len),
         Boundary::Refused(refusal) => DataEvent::Refused(refusal),
@@ -185,7 +209,9 @@ fn xlog_data(
     run: Run,
     payload: &[u8],
 ) -> Stepped
-    ensures { λ s. ⌜ ((u o : List ℕ) → outcomeBy s (now (payload .entry)) o ≡ boundaryBy (boundaryOf (at (now (payload .entry)) from len)) (start .0) (end .0) «server_time» from len run (lent u (now (payload .entry)) o)) ⌝ }
+    ensures { λ s. ⌜ ((u o : List ℕ) → outcomeBy s (now (payload .entry)) o
+        ≡ boundaryBy (boundaryOf (at (now (payload .entry)) from len)) (start .0) (end .0) «server_time» from len run
+        (lent u (now (payload .entry)) o)) ⌝ }
 {
     match event_at(payload, from, len, start, end, server_time) {
         DataEvent::Offered(event, reached) => offers_at(event, reached, run),
@@ -203,7 +229,8 @@ fn copy_data_in(payload: &[u8], len: usize) -> CopyData
 
 fn copy_data(said: CopyData, run: Run, input: Input, payload: &[u8], out: &mut [u8]) -> Stepped
     requires { ⌜ 39 ≤ length (now out) ⌝ }
-    ensures { λ s. ⌜ ((u : List ℕ) → outcomeBy s (now (payload .entry)) (now (out .exit)) ≡ copyDataBy (saidBy said) run input (lent u (now (payload .entry)) (now (out .entry)))) ⌝ }
+    ensures { λ s. ⌜ ((u : List ℕ) → outcomeBy s (now (payload .entry)) (now (out .exit))
+        ≡ copyDataBy (saidBy said) run input (lent u (now (payload .entry)) (now (out .entry)))) ⌝ }
 {
     match said {
         CopyData::KeepAlive {
@@ -238,7 +265,8 @@ fn is_copy_done(tag: u8) -> bool
 // No byte is taken; the server's CopyDone is answered in kind, and the run ends.
 pub(crate) fn handling(run: Run, input: Input, payload: &[u8], out: &mut [u8]) -> Stepped
     requires { ⌜ 39 ≤ length (now out) ⌝ }
-    ensures { λ s. ⌜ ((u : List ℕ) → outcomeBy s (now (payload .entry)) (now (out .exit)) ≡ handlingOf run input (lent u (now (payload .entry)) (now (out .entry)))) ⌝ }
+    ensures { λ s. ⌜ ((u : List ℕ) → outcomeBy s (now (payload .entry)) (now (out .exit))
+        ≡ handlingOf run input (lent u (now (payload .entry)) (now (out .entry)))) ⌝ }
 {
     let tag = run.whole.tag;
     if is_error(tag) {

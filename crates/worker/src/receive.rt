@@ -48,7 +48,8 @@ fn opening_by(answer: Answer, run: Run) -> Stepped
 
 // The step that makes a message whole tests it, too.
 pub(crate) fn opening(run: Run, input: Input, unread: &[u8], payload: &mut [u8]) -> Stepped
-    ensures { λ s. ⌜ ((o : List ℕ) → outcomeBy s (now (payload .exit)) o ≡ openingOf run input (lent (now (unread .entry)) (now (payload .entry)) o)) ⌝ }
+    ensures { λ s. ⌜ ((o : List ℕ) → outcomeBy s (now (payload .exit)) o
+        ≡ openingOf run input (lent (now (unread .entry)) (now (payload .entry)) o)) ⌝ }
 {
     let reader = run.reader;
     let x = reader.read(run.settings.max_message_size, unread, input.ended, payload);
@@ -82,7 +83,8 @@ fn reading_by(answer: Answer, run: Run) -> Stepped
 }
 
 pub(crate) fn reading(run: Run, input: Input, unread: &[u8], payload: &mut [u8]) -> Stepped
-    ensures { λ s. ⌜ ((o : List ℕ) → outcomeBy s (now (payload .exit)) o ≡ readingOf run input (lent (now (unread .entry)) (now (payload .entry)) o)) ⌝ }
+    ensures { λ s. ⌜ ((o : List ℕ) → outcomeBy s (now (payload .exit)) o
+        ≡ readingOf run input (lent (now (unread .entry)) (now (payload .entry)) o)) ⌝ }
 {
     let reader = run.reader;
     let x = reader.read(run.settings.max_message_size, unread, input.ended, payload);

@@ -5,7 +5,7 @@ ghost use Prim.Native.Nat.{ℕ, _≤_};
 ghost use lib.ListN.{length};
 ghost use lib.Dec.{ltb, leb};
 ghost use Rattle.worker.specs.Answer.{lent, outcomeBy};
-ghost use Rattle.worker.specs.Rows.{both};
+ghost use Rattle.worker.specs.Tests.{both};
 ghost use Rattle.worker.specs.Step.{turnOf, drainOf, waits};
 use crate::Event;
 use crate::Input;

@@ -2,7 +2,7 @@
 ghost use mathlib.Core.Path.{_≡_};
 ghost use Rattle.progress.specs.Progress.{cellPosition};
 ghost use Rattle.worker.specs.Answer.{openedBy, alreadyOpenBy, reportingBy, errorPart, errorPartOf};
-ghost use Rattle.worker.specs.Opening.{badInterval, openOf, alreadyOpenOf, reportOf};
+ghost use Rattle.worker.specs.Session.{badInterval, openOf, alreadyOpenOf, reportOf};
 ghost use Rattle.worker.specs.Run.{cellIn, freshRun};
 use crate::AlreadyOpen;
 use crate::Clock;
@@ -89,7 +89,8 @@ pub fn open(
     start: Lsn,
     out: &mut [u8],
 ) -> Opened
-    ensures { λ a. ⌜ openedBy a (now (out .exit)) ≡ openOf settings (now (slot .entry)) (now (publications .entry)) position start (now (out .entry)) ⌝ }
+    ensures { λ a. ⌜ openedBy a (now (out .exit))
+        ≡ openOf settings (now (slot .entry)) (now (publications .entry)) position start (now (out .entry)) ⌝ }
 {
     let run = fresh_run(settings, State::Opening, start);
     if bad_interval(settings) {

@@ -44,7 +44,7 @@ fn bad_moment(run: Run, m: Moment) -> bool
     true
 }
 
-// The row of a state.
+// The case of a state.
 fn by_state(
     state: State,
     run: Run,
@@ -54,7 +54,8 @@ fn by_state(
     out: &mut [u8],
 ) -> Stepped
     requires { ⌜ 39 ≤ length (now out) ⌝ }
-    ensures { λ s. ⌜ outcomeBy s (now (payload .exit)) (now (out .exit)) ≡ stepIn state run input (lent (now (unread .entry)) (now (payload .entry)) (now (out .entry))) ⌝ }
+    ensures { λ s. ⌜ outcomeBy s (now (payload .exit)) (now (out .exit))
+        ≡ stepIn state run input (lent (now (unread .entry)) (now (payload .entry)) (now (out .entry))) ⌝ }
 {
     match state {
         State::Opening => opening(run, input, unread, payload),
@@ -68,9 +69,10 @@ fn by_state(
     }
 }
 
-// 2 to 5 change nothing; then the state's row.
+// 2 to 5 change nothing; then the state's case.
 pub fn step(run: Run, input: Input, unread: &[u8], payload: &mut [u8], out: &mut [u8]) -> Stepped
-    ensures { λ s. ⌜ outcomeBy s (now (payload .exit)) (now (out .exit)) ≡ stepOf run input (lent (now (unread .entry)) (now (payload .entry)) (now (out .entry))) ⌝ }
+    ensures { λ s. ⌜ outcomeBy s (now (payload .exit)) (now (out .exit))
+        ≡ stepOf run input (lent (now (unread .entry)) (now (payload .entry)) (now (out .entry))) ⌝ }
 {
     let state = run.state;
     if is_ended(state) {

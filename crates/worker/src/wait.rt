@@ -10,7 +10,7 @@ ghost use Rattle.moment.specs.Moment.{sinceOf};
 ghost use Rattle.framing.specs.Read.{saidBy};
 ghost use Rattle.progress.specs.Progress.{cellSignal};
 ghost use Rattle.worker.specs.Answer.{lent, outcomeBy};
-ghost use Rattle.worker.specs.Rows.{both, unless};
+ghost use Rattle.worker.specs.Tests.{both, unless};
 ghost use Rattle.worker.specs.Run.{cellIn};
 ghost use Rattle.worker.specs.Step.{intervalPassed, idleOf, waitingBy, waitingRead, waitingOf};
 use crate::Event;
@@ -93,7 +93,8 @@ fn waiting_read(
     out: &mut [u8],
 ) -> Stepped
     requires { ⌜ 39 ≤ length (now out) ⌝ }
-    ensures { λ s. ⌜ outcomeBy s (now (payload .exit)) (now (out .exit)) ≡ waitingRead run input (lent (now (unread .entry)) (now (payload .entry)) (now (out .entry))) ⌝ }
+    ensures { λ s. ⌜ outcomeBy s (now (payload .exit)) (now (out .exit))
+        ≡ waitingRead run input (lent (now (unread .entry)) (now (payload .entry)) (now (out .entry))) ⌝ }
 {
     let reader = run.reader;
     let x = reader.read(run.settings.max_message_size, unread, input.ended, payload);
@@ -111,7 +112,8 @@ pub(crate) fn waiting(
     out: &mut [u8],
 ) -> Stepped
     requires { ⌜ 39 ≤ length (now out) ⌝ }
-    ensures { λ s. ⌜ outcomeBy s (now (payload .exit)) (now (out .exit)) ≡ waitingOf run input (lent (now (unread .entry)) (now (payload .entry)) (now (out .entry))) ⌝ }
+    ensures { λ s. ⌜ outcomeBy s (now (payload .exit)) (now (out .exit))
+        ≡ waitingOf run input (lent (now (unread .entry)) (now (payload .entry)) (now (out .entry))) ⌝ }
 {
     if input.stop {
         return done(Event::Nothing, run, out);

@@ -39,9 +39,10 @@ returns-2 c =
 
 -- what the count of a name says
 fitting : (c : tie.After-known-told Inv-loop μ-loop)
-    → let l = c .before .before .before .before .before .before .before .before in
+    → let at-comma = c .before .before .before .before .before .before in
+    let l = c .before .before .before .before .before .before .before .before in
     let n = length (doubled (nameAt (l .before .args .names .now) (l .loop .i))) in
-    (n ≡ c .before .n .given .0 .0) × (c .before .n .given .0 .0 ≤ l .before .args .room - l .loop .need - c .before .before .before .before .before .before .comma .result)
+    (n ≡ c .before .n .given .0 .0) × (c .before .n .given .0 .0 ≤ l .before .args .room - l .loop .need - at-comma .comma .result)
 fitting c = counted-fits _ _ _ (c .before .before .before .count-name .ensures) (c .before .n .given .1)
 
 add-need : tie.Need-add-need Inv-loop μ-loop

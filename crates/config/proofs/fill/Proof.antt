@@ -36,10 +36,12 @@ fill-name-requires c κs =
 
 loop-again : tie.Need-loop-again Inv-loop μ-loop
 loop-again c =
+    let at-put-comma = c .before .before .before .before .before .before .before in
     let l = c .before .before .before .before .before .before .before .before .before .before in
     let s = l .before .before in
     let f = rw (listed-next (s .args .names .now) (l .loop .i) (omega arith)) at (l .loop .inv .1) in
-    (omega arith, filling-next (s .pre) _ (filling-next (s .pre) (commaAt (l .loop .i)) f (c .before .before .before .before .before .before .before .put-comma .ensures)) (c .before .before .fill-name .ensures))
+    let with-comma = filling-next (s .pre) (commaAt (l .loop .i)) f (at-put-comma .put-comma .ensures) in
+    (omega arith, filling-next (s .pre) _ with-comma (c .before .before .fill-name .ensures))
 
 same-length : tie.Need-same-length Inv-loop μ-loop
 same-length c = c .before .loop .inv .1 .same

@@ -19,7 +19,9 @@ use Rattle.frontend.proofs.write_startup.Statement.{statement}
 use Rattle.frontend.proofs.write_startup.Tie as tie
 
 -- the texts were counted
-counted : (c : tie.After-known-told) → let n = c .before .sum .given .0 .0 in (total (c .before .before .before .before .before .args .texts .now) ≡ n) × (n ≤ inputLimit)
+counted : (c : tie.After-known-told)
+    → let entry = c .before .before .before .before .before in let n = c .before .sum .given .0 .0 in
+    (total (entry .args .texts .now) ≡ n) × (n ≤ inputLimit)
 counted c = counted-fits _ _ _ (c .before .before .before .inputs-len .ensures) (c .before .sum .given .1)
 
 -- the texts have room
@@ -30,7 +32,8 @@ room : (c : tie.Else1) → let a = start c .args in 0 + length (startup (a .vers
 room c = let n = counted (c .before) in omega (arith, length-startup (start c .args .version) (start c .args .texts .now))
 
 -- the length and the version are written
-front : (c : tie.After-write-i32) → let s = start (c .before .before .before .before .before .before) in let t = s .args .texts .now in
+front : (c : tie.After-write-i32)
+    → let before-start = c .before .before .before .before .before .before in let s = start before-start in let t = s .args .texts .now in
     Filling (s .args .out .now) 0 (startup (s .args .version) t) (c .write-i32 .last .0) (c .write-i32 .result) (strings t ++ beBytes (length t % 2 + 1) 0)
 front c =
     let u = c .before .before .before .before .before .before in

@@ -5,7 +5,7 @@ use Rattle.frontend.proofs.Laws.{length-header, framed-header, length-f
 use Rattle.wire.proofs.Laws.{placed-fits}
 use Rattle.wire.proofs.Pieces.{filling-start, filling-next, filling-last}
 use Rattle.error.proofs.Laws.{no-room, wrote-placed}
-use Rattle.stream.specs.Message.{framed}
+use Rattle.frames.specs.Message.{framed}
 use Rattle.frontend.specs.Frontend.{copyData, statusBody, statusUpdate}
 use Rattle.frontend.specs.Code.{header}
 use Prim.Native.Nat.{ℕ, _+_, _≤_}
@@ -26,9 +26,10 @@ returns c =
 
 place-status-requires : tie.Need-place-status-requires
 place-status-requires c κs =
+    let at-if1 = c .before .before .before .before .before in
     let h = c .before .before .before .place-header in
     let p = placed-fits _ 0 (header 100 34) (omega (arith, length-header 100 34)) (h .ensures) in
-    omega (arith, p .0, length-header 100 34, h .kept .0, c .before .before .before .before .before .if1 .left)
+    omega (arith, p .0, length-header 100 34, h .kept .0, at-if1 .if1 .left)
 
 returns-2 : tie.Need-returns-2
 unfolding statusUpdate copyData

@@ -27,10 +27,15 @@ fill-requires : tie.Need-fill-requires
 fill-requires c κs = let h = counted (c .before .before) in omega arith
 
 add-result : tie.Need-add-result
-add-result c = omega (arith, counted (c .before .before .before .before .before) .1)
+add-result c =
+    let before-count = c .before .before .before .before .before in
+    omega (arith, counted before-count .1)
 
 returns-3 : tie.Need-returns-3
-returns-3 c = let h = counted (c .before .before .before .before .before) in placed-at _ _ _ _ _ (h .0) (omega arith) (c .before .before .fill .ensures)
+returns-3 c =
+    let before-count = c .before .before .before .before .before in
+    let h = counted before-count in
+    placed-at _ _ _ _ _ (h .0) (omega arith) (c .before .before .fill .ensures)
 
 pub place-spec : {M : Type 1} → statement M
 place-spec =

@@ -33,7 +33,8 @@ unmarked s out h e k z p = wrote-placed (length s) (lossyOf s) out h e k (p ∙ 
 
 returns-3 : tie.Need-returns-3
 returns-3 c =
-    let h = fitting (c .before .before .before .before .before .before) in
+    let before-fit = c .before .before .before .before .before .before in
+    let h = fitting before-fit in
     marked 0 _ _ _ (unmarked _ _ (omega arith) (h .0) (h .1) (omega arith) (c .before .before .place .ensures)) (sym (h .2))
 
 fill-requires : tie.Need-fill-requires
@@ -41,7 +42,8 @@ fill-requires c κs = let h = fitting (c .before .before .before) in omega arith
 
 returns-4 : tie.Need-returns-4
 returns-4 c =
-    let h = fitting (c .before .before .before .before .before .before) in
+    let before-fit = c .before .before .before .before .before .before in
+    let h = fitting before-fit in
     marked 0 _ _ _ (wrote _ _ _ _ _ (omega arith) (h .0) (h .1) (c .before .before .fill .ensures)) (sym (h .2))
 
 pub write-by-spec : {M : Type 1} → statement M

@@ -17,7 +17,8 @@ returns : tie.Need-returns
 unfolding authOf
 returns c = simp (told i32Of (c .before .before .read-i32 .ensures) (c .enum-told .given .1))
 
-code-read : (c : tie.After-known-told) → intAt 4 (c .before .before .before .before .before .args .payload .now) 0 ≡ some (c .before .code .given .0 .0)
+code-read : (c : tie.After-known-told)
+    → let entry = c .before .before .before .before .before in intAt 4 (entry .args .payload .now) 0 ≡ some (c .before .code .given .0 .0)
 code-read c = told i32Of (c .before .before .before .read-i32 .ensures) (c .before .code .given .1)
 
 sub-t6 : tie.Need-sub-t6

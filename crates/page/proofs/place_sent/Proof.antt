@@ -1,5 +1,5 @@
 -- A position, or a hyphen.
-use Rattle.config.specs.ReadBack.{ascii}
+use Rattle.text.specs.Ascii.{ascii}
 use borrow.Author.Needs.{needs}
 use Rattle.page.proofs.place_sent.Statement.{statement}
 use Rattle.page.proofs.place_sent.Tie as tie

@@ -1,5 +1,5 @@
 -- A line for each number of a state, and one for all others.
-use Rattle.config.specs.ReadBack.{ascii}
+use Rattle.text.specs.Ascii.{ascii}
 use borrow.Author.Needs.{needs}
 use Rattle.page.specs.Page.{stateNames}
 use Rattle.page.proofs.Laws.{ended}

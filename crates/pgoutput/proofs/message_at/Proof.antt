@@ -71,7 +71,7 @@ count-read : (c : tie.After-known-told4)
     → let p = prefix-before c in let a = start (flags-before (lsn-before p)) .args in fieldAt 4 (a .bytes .now) (a .at + 9 + p .before .len .given .0 .0 + 1) ≡ some (c .before .n .given .0 .0)
 count-read c = rw (count-place (prefix-before c)) at (told u32Of (c .before .before .before .u32-after .ensures) (c .before .n .given .1))
 
--- .. and over the content's length
+-- the reader stands behind the content's length
 content-place : (c : tie.After-known-told4) → let p = prefix-before c in let a = start (flags-before (lsn-before p)) .args in let n = p .before .len .given .0 .0 in
     skipped (a .bytes .now) (from-before p .place-after .result) (n + 5) ≡ a .at + 9 + n + 1 + 4
 content-place c =

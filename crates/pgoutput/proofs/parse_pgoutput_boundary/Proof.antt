@@ -14,7 +14,9 @@ returns-3 : tie.Need-returns-3
 returns-3 c = by-c _ _ (c .before .before .before .before .if1 .left) (c .before .before .if2 .left) (c .before .if3 .taken) (c .commit-at .ensures)
 
 returns-4 : tie.Need-returns-4
-returns-4 c = by-m _ _ (c .before .before .before .before .before .if1 .left) (c .before .before .before .if2 .left) (c .before .before .if3 .left) (c .before .if4 .taken) (c .message-at .ensures)
+returns-4 c =
+    let at-if1 = c .before .before .before .before .before in
+    by-m _ _ (at-if1 .if1 .left) (c .before .before .before .if2 .left) (c .before .before .if3 .left) (c .before .if4 .taken) (c .message-at .ensures)
 
 returns-5 : tie.Need-returns-5
 returns-5 c = by-other _ (c .before .before .before .before .if1 .left) (c .before .before .if2 .left) (c .before .if3 .left) (c .if4 .left)

@@ -1,7 +1,7 @@
 use lib.ListN.{length}
 use mathlib.Core.Path.{_≡_}
 use native.Mathlib.Omega.{arith}
-use Rattle.lines.proofs.Laws.{left-less}
+use Rattle.test_lines.proofs.Laws.{left-less}
 use borrow.Author.Needs.{needs}
 use Rattle.positions.proofs.run.Statement.{statement}
 use Rattle.positions.proofs.run.Tie as tie

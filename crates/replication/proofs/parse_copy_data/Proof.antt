@@ -11,7 +11,9 @@ returns-2 : tie.Need-returns-2
 returns-2 c = by-w _ _ (c .before .before .before .before .if1 .left) (c .before .before .if2 .taken) (c .xlog-data .ensures)
 
 returns-3 : tie.Need-returns-3
-returns-3 c = by-k _ _ (c .before .before .before .before .before .if1 .left) (c .before .before .before .if2 .left) (c .before .before .if3 .taken) (c .keep-alive .ensures)
+returns-3 c =
+    let at-if1 = c .before .before .before .before .before in
+    by-k _ _ (at-if1 .if1 .left) (c .before .before .before .if2 .left) (c .before .before .if3 .taken) (c .keep-alive .ensures)
 
 returns-4 : tie.Need-returns-4
 returns-4 c = by-other _ (c .before .before .before .if1 .left) (c .before .if2 .left) (c .if3 .left)

@@ -23,7 +23,9 @@ returns-3 : tie.Need-returns-3
 returns-3 c = xlog-time-cut 8 _ 16 (omega arith) (sym (ap i64Of (c .enum-told3 .given .1)) ∙ c .before .before .read-i64 .ensures)
 
 -- the last field ends within the body
-ends : (c : tie.After-server-time) → 24 ≤ length (c .before .before .before .before .before .before .before .before .before .before .before .before .args .body .now)
+ends : (c : tie.After-server-time)
+    → let entry = c .before .before .before .before .before .before .before .before .before .before .before .before in
+    24 ≤ length (entry .args .body .now)
 ends c = omega (arith, int-within 8 _ 16 _ (told i64Of (c .before .before .read-i64 .ensures) (c .server-time .given .1)))
 
 returns-4 : tie.Need-returns-4

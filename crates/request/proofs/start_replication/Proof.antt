@@ -49,7 +49,8 @@ request-len-requires c κs =
 
 -- the sum is the query's length
 sum-is : (c : tie.After-request-len)
-    → length (query (startReplication (start (c .before .before .before .before .before .before .before) .args .binary) (start (c .before .before .before .before .before .before .before) .args .slot .now) (start (c .before .before .before .before .before .before .before) .args .publications .now) (start (c .before .before .before .before .before .before .before) .args .position)))
+    → let a = start (c .before .before .before .before .before .before .before) .args in
+    length (query (startReplication (a .binary) (a .slot .now) (a .publications .now) (a .position)))
     ≡ c .request-len .result
 sum-is c =
     let names = c .before .before .before .before in
@@ -64,7 +65,9 @@ sum-is c =
     )
 
 returns-4 : tie.Need-returns-4
-returns-4 c = no-room _ _ _ (inputs-fit (c .before .before .before .before .before .before .before .before)) (omega (arith, c .if2 .taken, sum-is (c .before)))
+returns-4 c =
+    let before-inputs = c .before .before .before .before .before .before .before .before in
+    no-room _ _ _ (inputs-fit before-inputs) (omega (arith, c .if2 .taken, sum-is (c .before)))
 
 place-query-requires : tie.Need-place-query-requires
 place-query-requires c κs = (sym (sum-is (c .before .before)), omega (arith, c .before .if2 .left))
@@ -72,7 +75,9 @@ place-query-requires c κs = (sym (sum-is (c .before .before)), omega (arith, c 
 returns-5 : tie.Need-returns-5
 returns-5 c =
     let sum = c .before .before .before .before .before in
-    wrote-placed _ _ _ (inputs-fit (sum .before .before .before .before .before .before .before)) (sum-is sum) (omega (arith, c .before .before .before .before .if2 .left)) (c .before .before .place-query .ensures)
+    let before-inputs = sum .before .before .before .before .before .before .before in
+    wrote-placed _ _ _ (inputs-fit before-inputs) (sum-is sum)
+    (omega (arith, c .before .before .before .before .if2 .left)) (c .before .before .place-query .ensures)
 
 pub start-replication-spec : {M : Type 1} → statement M
 start-replication-spec =

@@ -20,7 +20,9 @@ returns-3 c = simp (ne-eqb _ _ (c .before .before .before .before .if1 .left)) (
 
 returns-4 : tie.Need-returns-4
 unfolding dueOf
-returns-4 c = simp (ne-eqb _ _ (c .before .before .before .before .before .if1 .left)) (omega arith)
+returns-4 c =
+    let at-if1 = c .before .before .before .before .before in
+    simp (ne-eqb _ _ (at-if1 .if1 .left)) (omega arith)
 
 pub due-spec : {M : Type 1} → statement M
 due-spec = tie.close (tie.spec returns returns-2 (search needs) returns-3 (search needs) returns-4)

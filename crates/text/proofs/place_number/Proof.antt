@@ -15,8 +15,10 @@ returns-2 c = unplaced _ _ _ (omega arith)
 
 returns-3 : tie.Need-returns-3
 returns-3 c =
+    let at-places = c .before .before .before .before .before .before in
     let a = c .before .before .before .before .before .before .before .before .args in
-    placed-at (a .out .now) (a .to) (c .before .before .before .before .before .before .places .result) (numeral (a .base) 20 (a .v)) _ (sym (c .before .before .before .before .before .before .places .ensures)) (omega arith) (c .before .before .spell .ensures)
+    placed-at (a .out .now) (a .to) (at-places .places .result) (numeral (a .base) 20 (a .v)) _
+    (sym (at-places .places .ensures)) (omega arith) (c .before .before .spell .ensures)
 
 pub place-number-spec : {M : Type 1} → statement M
 place-number-spec =

@@ -18,14 +18,14 @@ returns-2 c =
 returns-3 : tie.Need-returns-3
 unfolding afterOf
 returns-3 c =
-    let o = c .before .before .before .before in
-    rw (sym (o .before .has-no-file .ensures) ∙ o .if1 .left, c .before .before .tells .given .1, c .after-data .ensures)
+    let o = c .before .before .before in
+    rw (sym (o .before .has-no-file .ensures) ∙ o .if1 .left, c .before .enum-told2 .given .1, c .after-data .ensures)
 
 returns-4 : tie.Need-returns-4
 unfolding afterOf
 returns-4 c =
     let o = c .before .before in
-    rw (sym (o .before .has-no-file .ensures) ∙ o .if1 .left, c .enum-told2 .given .1)
+    rw (sym (o .before .has-no-file .ensures) ∙ o .if1 .left, c .enum-told3 .given .1)
 
 pub after-spec : {M : Type 1} → statement M
 after-spec =

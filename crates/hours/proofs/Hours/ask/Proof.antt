@@ -23,8 +23,8 @@ windows-right c = sym (c .before .are-windows .ensures) ∙ not-false _ (c .if1 
 offset-seen : (c : tie.After-struct-told) → let z = c .before .before .before .args .self .offset in toZ w64 (ofZ w64 z) ≡ z
 offset-seen c = toZ-ofZ w64 (c .before .before .before .args .self .offset) (record { sfits = c .struct-told .given .1 .1 .0 .1 })
 
-offset-test : (c : tie.After-is-offset) → c .is-offset .result ≡ isWithin 840 (c .before .before .before .before .args .self .offset)
-offset-test c = rw (offset-seen (c .before)) at (c .is-offset .ensures)
+offset-test : (c : tie.After-is-within) → c .is-within .result ≡ isWithin 840 (c .before .before .before .before .args .self .offset)
+offset-test c = rw (offset-seen (c .before)) at (c .is-within .ensures)
 
 offset-right : (c : tie.Else2) → isWithin 840 (c .before .before .before .before .before .args .self .offset) ≡ true
 offset-right c = sym (offset-test (c .before)) ∙ not-false _ (c .if2 .left)
@@ -32,9 +32,9 @@ offset-right c = sym (offset-test (c .before)) ∙ not-false _ (c .if2 .left)
 moment-seen : (s : tie.Start) → toZ w64 (ofZ w64 (s .args .moment)) ≡ s .args .moment
 moment-seen s = toZ-ofZ w64 (s .args .moment) (s .fits .moment)
 
-moment-test : (c : tie.After-is-moment) → let s = c .before .before .before .before .before .before in
-    c .is-moment .result ≡ isWithin 4611686018427387904 (s .args .moment)
-moment-test c = rw (moment-seen (c .before .before .before .before .before .before)) at (c .is-moment .ensures)
+moment-test : (c : tie.After-is-within2) → let s = c .before .before .before .before .before .before in
+    c .is-within2 .result ≡ isWithin 4611686018427387904 (s .args .moment)
+moment-test c = rw (moment-seen (c .before .before .before .before .before .before)) at (c .is-within2 .ensures)
 
 abbrev start : tie.Else3 → tie.Start
 start c = c .before .before .before .before .before .before .before

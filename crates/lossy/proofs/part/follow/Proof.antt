@@ -56,13 +56,15 @@ returns-5 c = behind-two (c .before) (matched-end (start (c .before .before .bef
 
 returns-6 : tie.Need-returns-6
 returns-6 c =
-    let a = start (c .before .before .before .before .before .before) .args in
+    let before-start = c .before .before .before .before .before .before in
+    let a = start before-start .args in
     behind-two (c .before .before .before)
     (matched-stop (a .l .due - 1 - 1) (a .at + 2) _ _ (a .s .now) (omega arith) (c .before .next-in3 .ensures) (not-true _ (c .if6 .taken)))
 
 returns-7 : tie.Need-returns-7
 returns-7 c =
-    let a = start (c .before .before .before .before .before .before) .args in
+    let before-start = c .before .before .before .before .before .before in
+    let a = start before-start .args in
     behind-two (c .before .before .before)
     (matched-next (a .l .due - 1 - 1) (a .at + 2) (a .at + 3) _ _ (a .s .now) (omega arith) (omega arith) (c .before .next-in3 .ensures) (not-false _ (c .if6 .left))
     (matched-all (a .l .due - 1 - 1 - 1) (drop (a .at + 3) (a .s .now))))

@@ -40,7 +40,9 @@ slice-aggregate-part c = simp length-take (omega (arith, slash-below (c .before 
 
 returns-2 : tie.Need-returns-2
 unfolding positionOf
-returns-2 c = simp (slash-found (c .before .before .before .before .before), told partOf (c .before .before .part .ensures) (c .enum-told2 .given .1))
+returns-2 c =
+    let before-slash = c .before .before .before .before .before in
+    simp (slash-found before-slash, told partOf (c .before .before .part .ensures) (c .enum-told2 .given .1))
 
 add-part : tie.Need-add-part
 add-part c = omega (arith, slash-below (slash (c .before)))
@@ -67,10 +69,14 @@ low-below : (c : tie.After-lo) → c .lo .given .0 .0 < 2 ^ 32
 low-below c = part-below _ _ (told partOf (c .before .before .part2 .ensures) (c .lo .given .1))
 
 mul-high : tie.Need-mul-t18
-mul-high c = omega (arith, high-below (c .before .before .before .before .before .before))
+mul-high c =
+    let before-high = c .before .before .before .before .before .before in
+    omega (arith, high-below before-high)
 
 add-low : tie.Need-add-t19
-add-low c = omega (arith, high-below (c .before .before .before .before .before .before), low-below (c .before))
+add-low c =
+    let before-high = c .before .before .before .before .before .before in
+    omega (arith, high-below before-high, low-below (c .before))
 
 returns-4 : tie.Need-returns-4
 unfolding positionOf joined

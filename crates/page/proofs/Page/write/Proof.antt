@@ -4,7 +4,7 @@ use Prim.Native.Nat.{_+_, _≤_}
 use native.Mathlib.Omega.{arith}
 use lib.ListN.{length}
 use Rattle.wire.proofs.Pieces.{filling-start, filling-next, filling-last}
-use Rattle.config.specs.ReadBack.{ascii}
+use Rattle.text.specs.Ascii.{ascii}
 use Rattle.error.proofs.Laws.{no-room, wrote-placed}
 use borrow.Author.Needs.{needs}
 use Rattle.page.specs.Page.{pageOf}

@@ -1,4 +1,4 @@
-use Rattle.lines.proofs.Laws.{pieces-next}
+use Rattle.test_lines.proofs.Laws.{pieces-next}
 use Rattle.positions.proofs.Laws.{held-bytes}
 use borrow.Author.Needs.{needs}
 use Rattle.positions.specs.Stored.{endTextsOf}
@@ -6,7 +6,7 @@ use Rattle.positions.proofs.stored.ended.Statement.{statement}
 use Rattle.positions.proofs.stored.ended.Tie as tie
 use Rattle.positions.proofs.stored.ended.Reads as reads
 use Rattle.positions.proofs.stored.ended.Lts as lts
-use Rattle.lines.proofs.end.Reads as end-reads
+use Rattle.test_lines.proofs.end.Reads as end-reads
 use Rattle.positions.proofs.stored.shown.Reads as shown-reads
 use Rattle.wire.proofs.store.least.Reads as least-reads
 

@@ -1,6 +1,6 @@
 use borrow.Author.Needs.{needs}
 use borrow.Author.Tests.{eq-eqb, ne-eqb}
-use Rattle.lines.proofs.Laws.{pieces-none}
+use Rattle.test_lines.proofs.Laws.{pieces-none}
 use Rattle.positions.specs.Stored.{endTextsOf, lastTexts}
 use Rattle.positions.proofs.stored.last.Statement.{statement}
 use Rattle.positions.proofs.stored.last.Tie as tie

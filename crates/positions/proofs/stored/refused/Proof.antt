@@ -1,5 +1,5 @@
 use mathlib.Core.List.{[], _∷_}
-use Rattle.lines.proofs.Laws.{pieces-one, pieces-two, pieces-next}
+use Rattle.test_lines.proofs.Laws.{pieces-one, pieces-two, pieces-next}
 use borrow.Author.Needs.{needs}
 use Rattle.positions.proofs.stored.refused.Statement.{statement}
 use Rattle.positions.proofs.stored.refused.Tie as tie

@@ -1,6 +1,6 @@
 use mathlib.Core.Path.{sym, ap, _∙_}
 use Rattle.lsn.specs.Position.{parseOutcome}
-use Rattle.lines.proofs.Laws.{pieces-one}
+use Rattle.test_lines.proofs.Laws.{pieces-one}
 use Rattle.positions.proofs.Laws.{shown-accepted, shown-refused}
 use borrow.Author.Needs.{needs}
 use Rattle.positions.proofs.stored.shown.Statement.{statement}

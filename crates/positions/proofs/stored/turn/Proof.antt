@@ -1,7 +1,7 @@
 use mathlib.Core.Path.{refl}
 use borrow.Author.Needs.{needs}
 use borrow.Author.Tests.{eq-eqb, ne-eqb, lt-ltb, le-ltb}
-use Rattle.lines.proofs.Laws.{pieces-none, pieces-one}
+use Rattle.test_lines.proofs.Laws.{pieces-none, pieces-one}
 use Rattle.positions.specs.Stored.{turnTexts, turnHeld, turnLine}
 use Rattle.positions.proofs.stored.turn.Statement.{statement}
 use Rattle.positions.proofs.stored.turn.Tie as tie
@@ -27,7 +27,8 @@ same-length-2 c = search needs
 returns : tie.Need-returns
 unfolding turnTexts turnHeld turnLine
 returns c =
-    let t = eq-eqb _ _ (c .before .before .before .before .before .if1 .taken) in
+    let at-if1 = c .before .before .before .before .before in
+    let t = eq-eqb _ _ (at-if1 .if1 .taken) in
     (simp t, simp t, simp t (c .before .before .ended .ensures))
 
 -- src/stored.rt:73:45

@@ -14,7 +14,9 @@ copy-all-requires c κs = simp length-take (omega arith)
 
 returns : tie.Need-returns
 unfolding copied
-returns c = copied-at _ _ _ _ (c .before .before .before .before .before .least .ensures) (c .before .before .copy-all .ensures)
+returns c =
+    let at-least = c .before .before .before .before .before in
+    copied-at _ _ _ _ (at-least .least .ensures) (c .before .before .copy-all .ensures)
 
 pub copy-spec : {M : Type 1} → statement M
 copy-spec =

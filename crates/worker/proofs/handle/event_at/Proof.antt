@@ -39,7 +39,7 @@ returns-2 c =
     )
 
 returns-3 : tie.Need-returns-3
-returns-3 c = rw (← c .before .before .before .boundary-at .ensures, c .before .transactional .given .1)
+returns-3 c = c .message .ensures ∙ rw (← c .before .before .before .before .boundary-at .ensures, c .before .before .transactional .given .1)
 
 returns-4 : tie.Need-returns-4
 returns-4 c =
@@ -58,5 +58,5 @@ pub event-at-spec : {M : Type 1} → statement M
 event-at-spec =
     tie.close
     (tie.spec (search needs) (search needs) (search needs) (search needs) (search needs) (search needs) add-prefix
-    add-content (search needs) (search needs) (search needs) returns returns-2 returns-3
+    add-content (search needs) (search needs) (search needs) (search needs) returns returns-2 returns-3
     returns-4 returns-5)

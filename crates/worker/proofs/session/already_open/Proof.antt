@@ -1,4 +1,4 @@
-use Rattle.worker.specs.Opening.{alreadyOpenOf}
+use Rattle.worker.specs.Session.{alreadyOpenOf}
 use borrow.Author.Needs.{needs}
 use Rattle.worker.proofs.session.already_open.Statement.{statement}
 use Rattle.worker.proofs.session.already_open.Tie as tie

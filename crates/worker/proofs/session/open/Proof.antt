@@ -1,4 +1,4 @@
-use Rattle.worker.specs.Opening.{openOf}
+use Rattle.worker.specs.Session.{openOf}
 use borrow.Author.Needs.{needs}
 use Rattle.worker.proofs.session.open.Statement.{statement}
 use Rattle.worker.proofs.session.open.Tie as tie

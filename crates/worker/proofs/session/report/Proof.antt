@@ -1,4 +1,4 @@
-use Rattle.worker.specs.Opening.{reportOf}
+use Rattle.worker.specs.Session.{reportOf}
 use borrow.Author.Needs.{needs}
 use Rattle.worker.proofs.session.report.Statement.{statement}
 use Rattle.worker.proofs.session.report.Tie as tie

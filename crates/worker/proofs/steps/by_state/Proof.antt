@@ -28,7 +28,9 @@ returns-5 c =
 
 returns-6 : tie.Need-returns-6
 unfolding stepIn
-returns-6 c = rw (c .before .before .before .before .before .enum-told6 .given .1) (c .before .before .handling .ensures _)
+returns-6 c =
+    let at-enum-told6 = c .before .before .before .before .before in
+    rw (at-enum-told6 .enum-told6 .given .1) (c .before .before .handling .ensures _)
 
 returns-7 : tie.Need-returns-7
 unfolding stepIn
@@ -36,7 +38,9 @@ returns-7 c = rw (c .before .before .before .before .enum-told7 .given .1) (c .b
 
 returns-8 : tie.Need-returns-8
 unfolding stepIn
-returns-8 c = rw (c .before .enum-told8 .given .1) (c .refused .ensures (lent (c .before .before .before .before .before .before .args .unread .now) _ _))
+returns-8 c =
+    let entry = c .before .before .before .before .before .before in
+    rw (c .before .enum-told8 .given .1) (c .refused .ensures (lent (entry .args .unread .now) _ _))
 
 pub by-state-spec : {M : Type 1} → statement M
 by-state-spec =

@@ -9,10 +9,12 @@ use Rattle.worker.proofs.steps.step.Tie as tie
 
 returns : tie.Need-returns
 unfolding stepOf
-returns c = rw (
-  ← c .before .before .is-ended .ensures,
-  c .before .if1 .taken,
-) (c .refused .ensures (lent (c .before .before .before .before .before .before .args .unread .now) _ _))
+returns c =
+    let entry = c .before .before .before .before .before .before in
+    rw (
+      ← c .before .before .is-ended .ensures,
+      c .before .if1 .taken,
+    ) (c .refused .ensures (lent (entry .args .unread .now) _ _))
 
 returns-2 : tie.Need-returns-2
 unfolding stepOf

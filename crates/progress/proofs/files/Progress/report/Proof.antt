@@ -12,12 +12,14 @@ returns c = rw (lt-ltb _ _ (c .if1 .taken))
 returns-2 : tie.Need-returns-2
 unfolding filedOf
 returns-2 c =
-    simp (le-ltb _ _ (c .before .before .before .before .before .before .before .if1 .left)) (rw (
+    let at-raised = c .before .before .before .before .before in
+    let at-if1 = c .before .before .before .before .before .before .before in
+    simp (le-ltb _ _ (at-if1 .if1 .left)) (rw (
       c .beside .ensures,
       c .before .before .raise .ensures,
       c .before .before .before .cell .ensures,
       c .before .before .before .before .smallest .ensures,
-      c .before .before .before .before .before .raised .ensures,
+      at-raised .raised .ensures,
     ))
 
 pub report-spec : {M : Type 1} → statement M

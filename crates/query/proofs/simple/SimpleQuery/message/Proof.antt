@@ -8,7 +8,7 @@ use Rattle.query.proofs.simple.SimpleQuery.message.Tie as tie
 
 returns : tie.Need-returns
 unfolding messageOf
-returns c = rw (c .before .match .keys1) (rw (← c .with-row .ensures))
+returns c = rw (c .before .match .keys1) (rw (← c .with-data-row .ensures))
 
 returns-2 : tie.Need-returns-2
 unfolding messageOf

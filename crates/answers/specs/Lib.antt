@@ -1,6 +1,0 @@
-pub mod Parts
-pub mod Next
-pub mod Read
-pub mod Fold
-pub mod Kinds
-pub mod Texts

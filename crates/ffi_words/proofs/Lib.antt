@@ -1,0 +1,4 @@
+pub mod RoundTrip
+pub mod Laws
+pub mod Parts
+pub mod Missing

@@ -1,4 +1,0 @@
-pub mod Laws
-pub mod Packed
-pub mod PackedCases
-pub mod Seen

@@ -1,0 +1,65 @@
+// A column, by its word.
+ghost use mathlib.Core.Path.{_≡_};
+ghost use mathlib.Core.List.{[]};
+ghost use mathlib.Core.Option.{some};
+ghost use lib.ListN.{getD};
+ghost use Rattle.relations.specs.Answers.{columnBy};
+ghost use Rattle.column_word.specs.Word.{columnIn};
+ghost use Rattle.packed_relations.specs.Packed.{packed, wordsOf, toldOf, columnTold};
+use crate::NAMES;
+use relations::COLUMNS;
+use relations::Column;
+use relations::Count;
+use relations::RELATIONS;
+use relations::find::count_of;
+use relations::find::slot_of;
+use rows::Part;
+
+// The word at a place, 0 outside.
+fn word_at(s: &[u64], i: usize) -> u64
+    ensures { λ r. ⌜ r ≡ getD (now (s .entry)) i 0 ⌝ }
+{
+    if i < s.len() {
+        return s[i];
+    }
+    0
+}
+
+// The column of a word. Its name is a part of the names whatever the word is.
+fn told_of(word: u64) -> Column
+    ensures { λ r. ⌜ columnBy r ≡ some (toldOf (columnIn word)) ⌝ }
+{
+    let c = column_word::column_in(word);
+    let from = wire::store::least(c.name_at as usize, NAMES);
+    let len = wire::store::least(c.name_len as usize, NAMES - from);
+    Column::Of {
+        name: Part { from, len },
+        key: c.key,
+        oid: c.type_oid,
+    }
+}
+
+// Column `index` of a relation.
+pub(crate) fn column_of(
+    held: u64,
+    ids: &[u32],
+    counts: &[u8],
+    words: &[u64],
+    id: u32,
+    index: usize,
+) -> Column
+    ensures { λ r. ⌜ columnBy r ≡ columnTold (packed held (now (ids .entry)) (now (counts .entry)) (wordsOf (now (words .entry)) [])) id index ⌝ }
+{
+    let slot = slot_of(held, ids, id);
+    if RELATIONS <= slot {
+        return Column::Absent;
+    }
+    let Count::Columns(n) = count_of(held, ids, counts, id) else {
+        return Column::Absent;
+    };
+    if n <= index {
+        return Column::Absent;
+    }
+    let word = word_at(words, COLUMNS * slot + index);
+    told_of(word)
+}

@@ -1,0 +1,3 @@
+pub mod EventLines
+pub mod Spelling
+pub mod Playing

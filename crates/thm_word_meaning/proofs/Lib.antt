@@ -1,0 +1,13 @@
+pub mod OneWord
+pub mod Words
+pub mod Cells
+pub mod Answers
+pub mod Within
+pub mod Texts
+pub mod KindWords
+pub mod Rows
+pub mod Touched
+pub mod TouchedEvents
+pub mod Hours
+pub mod Load
+pub mod Standing

@@ -1,0 +1,12 @@
+pub mod Words
+pub mod Cells
+pub mod Answers
+pub mod Kinds
+pub mod Within
+pub mod Texts
+pub mod Rows
+pub mod Touched
+pub mod TouchedEvents
+pub mod Hours
+pub mod Load
+pub mod Standing

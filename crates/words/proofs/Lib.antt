@@ -1,3 +1,0 @@
-pub mod RoundTrip
-pub mod Laws
-pub mod Parts

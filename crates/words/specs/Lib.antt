@@ -1,4 +1,0 @@
-pub mod Words
-pub mod Cells
-pub mod Step
-pub mod Calls
