@@ -39,6 +39,6 @@ for line in open(sys.argv[1], encoding="utf-8", newline="\n"):
 
 build_programs() {
     build
-    cargo build --offline --quiet --release -j1 --manifest-path e2e/Cargo.toml
+    cargo build --quiet --release -j1 -p e2e
     programs=$CARGO_TARGET_DIR/release
 }

@@ -61,6 +61,7 @@ fn value(column: Column) -> Value {
         Column::Null | Column::Unchanged => None,
         Column::Text(bytes) => Some((false, bytes.to_vec())),
         Column::Binary(bytes) => Some((true, bytes.to_vec())),
+        Column::Refused(refusal) => fail(&refusal.to_string()),
     }
 }
 
@@ -81,6 +82,7 @@ impl Met {
             Column::Unchanged => "unchanged",
             Column::Text(_) => "text",
             Column::Binary(_) => "binary",
+            Column::Refused(_) => "refused",
         });
     }
 }

@@ -1,5 +1,5 @@
 # What the scripts of this folder share, to be sourced: a private PostgreSQL 15 in a folder that is removed at the end, and the programs to try.
-# PG_BIN names the server's programs, CARGO_TARGET_DIR where ours are built.
+# PG_BIN names the server's programs, CARGO_TARGET_DIR where ours are built, else target-rust.
 cd "$(dirname "${BASH_SOURCE[0]}")/.."
 bin=${PG_BIN:-/usr/lib/postgresql/15/bin}
 e2e=$PWD/e2e
@@ -74,7 +74,7 @@ drop_slot() { until_true 10 sql -c "SELECT pg_drop_replication_slot('$1')" > /de
 ended() { ! kill -0 "$1" 2> /dev/null; }
 
 build() {
-    export CARGO_TARGET_DIR=${CARGO_TARGET_DIR:-$(cd .. && pwd)/target/host}
-    ./cargo build --quiet --release -j1
+    export CARGO_TARGET_DIR=${CARGO_TARGET_DIR:-$(cd .. && pwd)/target-rust}
+    cargo build --quiet --release -j1 -p follow
     follow=$CARGO_TARGET_DIR/release/follow
 }

@@ -1,7 +1,7 @@
 //! A small host of the library: follows a slot of its own on a blocking connection.
 use crate::fail::fail;
 use crate::plain::Plain;
-use rufflesquash::{Event, Input, Lsn, Moment, Queue, Run, Settings, State, STEP_OUTPUT};
+use rufflesquash::{Event, Input, Lsn, Moment, Queue, Run, Settings, State, Text, STEP_OUTPUT};
 use std::io::{Read, Write};
 use std::time::Instant;
 
@@ -23,7 +23,7 @@ impl Stream {
         plain.query(&format!("CREATE_REPLICATION_SLOT {slot} TEMPORARY LOGICAL pgoutput NOEXPORT_SNAPSHOT"));
         let settings = Settings { max_message_size: 4_194_304, binary, ..Settings::default() };
         let mut query = [0; 512];
-        let opened = Run::open(&settings, slot.as_bytes(), &[publication.as_bytes()], Lsn(0), Lsn(0), &mut query);
+        let opened = Run::open(&settings, slot.as_bytes(), &[Text::from(publication)], Lsn(0), Lsn(0), &mut query);
         let (run, n) = opened.unwrap_or_else(|refusal| fail(&format!("the stream is not opened: {refusal}")));
         plain.socket.write_all(&query[..n]).unwrap_or_else(|e| fail(&format!("the server takes no query: {e}")));
         let payload = vec![0; settings.payload_len()];

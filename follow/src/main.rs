@@ -27,7 +27,7 @@ use ffi::Waiter;
 use options::{Options, Wanted};
 use output::Output;
 use progress::Progress;
-use rufflesquash::{Lsn, Run, Settings, Touched};
+use rufflesquash::{Lsn, Run, Settings, Text, Touched};
 use session::{Clock, End, Host, Session, Totals};
 use startup::{Passwords, Talk};
 use std::io::{self, Write};
@@ -257,8 +257,8 @@ impl Following {
         let done = self.position();
         let from = done.max(options.startpos);
         let refused = |refusal| Failure::refused(refusal, options.max_message_size);
-        let names: Vec<Vec<u8>> = options.publications.iter().map(|name| slot::identifier(name).into_bytes()).collect();
-        let names: Vec<&[u8]> = names.iter().map(Vec::as_slice).collect();
+        let names: Vec<String> = options.publications.iter().map(|name| slot::identifier(name)).collect();
+        let names: Vec<Text> = names.iter().map(|name| Text::from(name.as_str())).collect();
         let mut query = Vec::new();
         let run = if options.plugin_options.is_empty() {
             query = vec![0; QUERY];

@@ -7,7 +7,7 @@ use std::fmt::Write;
 
 /// What the stream has described so far. The relation cache holds no names of schemas and tables, so they are kept here.
 pub struct Relations {
-    cache: RelationCache,
+    cache: Box<RelationCache>,
     tables: Tables,
 }
 
@@ -100,7 +100,7 @@ impl Cell {
 impl Relations {
     /// Nothing is described yet: a stream begins.
     pub fn new() -> Relations {
-        Relations { cache: RelationCache::new(), tables: Tables::new() }
+        Relations { cache: RelationCache::boxed(), tables: Tables::new() }
     }
 
     /// What data say; a description is kept.
@@ -278,6 +278,10 @@ impl Change<'_> {
                     out.raw(b"0x");
                     out.hex(bytes);
                 }
+                Column::Refused(refusal) => {
+                    out.raw(b"refused ");
+                    out.number(refusal.number().into());
+                }
             }
         }
         marks
@@ -325,6 +329,11 @@ fn cell_json(out: &mut Text, head: &[u8], value: Column, mut marks: usize) {
             out.raw(b"\"binary\":\"");
             out.hex(bytes);
             out.raw(b"\"");
+        }
+        Column::Refused(refusal) => {
+            out.raw(without(VALUE.len()));
+            out.raw(b"\"refusal\":");
+            out.number(refusal.number().into());
         }
     }
     marks_json(out, marks);

@@ -298,7 +298,7 @@ impl<'a> Session<'a> {
     }
 
     fn send_within(&mut self) -> Result<(), Failure> {
-        if !self.due_within().is_some_and(|due| due <= self.now) {
+        if self.due_within().is_none_or(|due| due > self.now) {
             return Ok(());
         }
         self.within = self.now;

@@ -6,7 +6,7 @@ use crate::ffi::{self, Waiter};
 use crate::link::{Address, Link};
 use crate::terminal;
 use crate::tls::Connector;
-use rufflesquash::{Column, DataRow, Message, MessageReader, Query, QueryAnswer, Refusal};
+use rufflesquash::{Column, DataRow, Message, MessageReader, Query, QueryAnswer, Refusal, Text};
 use std::time::{Duration, Instant};
 
 /// The longest answer that is taken here, and the longest error that is kept, in bytes.
@@ -416,17 +416,17 @@ fn unexpected() -> Failure {
 }
 
 fn startup_message(conninfo: &Conninfo) -> Result<Vec<u8>, Failure> {
-    let mut parameters: Vec<(&[u8], &[u8])> = vec![
-        (b"user", conninfo.user.as_bytes()),
-        (b"database", conninfo.dbname.as_bytes()),
-        (b"replication", b"database"),
-        (b"client_encoding", b"UTF8"),
-        (b"application_name", conninfo.application_name.as_bytes()),
+    let mut parameters = vec![
+        ["user", &conninfo.user].map(Text::from),
+        ["database", &conninfo.dbname].map(Text::from),
+        ["replication", "database"].map(Text::from),
+        ["client_encoding", "UTF8"].map(Text::from),
+        ["application_name", &conninfo.application_name].map(Text::from),
     ];
     if let Some(options) = &conninfo.options {
-        parameters.push((b"options", options.as_bytes()));
+        parameters.push(["options", options].map(Text::from));
     }
-    let mut out = vec![0; 9 + parameters.iter().map(|(name, value)| name.len() + value.len() + 2).sum::<usize>()];
+    let mut out = vec![0; 9 + parameters.as_flattened().iter().map(|text| text.len() + 1).sum::<usize>()];
     let n = rufflesquash::write_startup(&parameters, &mut out).map_err(|refusal| Failure::refused(refusal, 0))?;
     out.truncate(n);
     Ok(out)
@@ -581,7 +581,7 @@ mod tests {
         let waiter = Waiter::new(false).unwrap();
         let talk = |cases: Vec<(usize, Change)>| {
             let (server, plan) = (listener.try_clone().unwrap(), cases.clone());
-            let play_all = move || plan.into_iter().map(|case| play(&mut server.accept().unwrap().0, case)).last().flatten();
+            let play_all = move || plan.into_iter().fold(None, |_, case| play(&mut server.accept().unwrap().0, case));
             let served = thread::spawn(play_all);
             let results = cases.iter().map(|case| {
                 let mut tries = conninfo.clone();

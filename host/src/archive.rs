@@ -1,7 +1,7 @@
 //! Whether the archive that was linked is the one that this crate was made for.
 
 use crate::ffi;
-use std::fmt;
+use core::fmt;
 
 /// The archive that was linked has another list of words or functions than this crate.
 #[derive(Clone, Copy, Debug, PartialEq, Eq)]
@@ -12,11 +12,14 @@ pub struct WrongArchive {
 impl fmt::Display for WrongArchive {
     fn fmt(&self, f: &mut fmt::Formatter<'_>) -> fmt::Result {
         let (ours, archive) = (ffi::ABI, self.archive);
-        write!(f, "libexport.a has interface {archive}, this crate {ours}: build it anew with `rt staticlib export`, from the crate's own sources")
+        write!(
+            f,
+            "libffi_export.a has interface {archive}, this crate {ours}: build it anew with `rt staticlib ffi_export`, from the crate's own sources"
+        )
     }
 }
 
-impl std::error::Error for WrongArchive {}
+impl core::error::Error for WrongArchive {}
 
 /// Compares the number of the archive's interface with this crate's. The functions that begin something (a run, a cell, a reader, a query) compare
 /// it too, and panic where they differ.
@@ -42,13 +45,14 @@ pub(crate) fn assert_archive() {
 #[cfg(test)]
 mod tests {
     use super::*;
+    use std::{format, string::ToString};
 
     #[test]
     fn a_stale_archive_is_told() {
         assert_eq!(check_archive(), Ok(()));
         for other in [0, ffi::ABI - 1, ffi::ABI + 1, u64::MAX] {
             let line = compared(other).unwrap_err().to_string();
-            assert!(line.contains(&format!("interface {other}, this crate {}", ffi::ABI)) && line.contains("rt staticlib export"), "{line}");
+            assert!(line.contains(&format!("interface {other}, this crate {}", ffi::ABI)) && line.contains("rt staticlib ffi_export"), "{line}");
         }
     }
 }

@@ -3,10 +3,21 @@
 use crate::archive::assert_archive;
 use crate::ffi;
 use crate::{Lsn, Moment};
-use std::fmt;
+use core::fmt;
 
 /// The position that a status would confirm, and what is known of raises that no status has covered. A [`crate::Run`] has four files in its
 /// place; a host that keeps a cell of its own, for a session to come, carries what is pending over. It can be copied and kept.
+///
+/// ```
+/// use rufflesquash::{Lsn, Moment, ProgressCell};
+///
+/// let mut cell = ProgressCell::new(Lsn(0x10), true);
+/// assert!(cell.raise(Lsn(0x20), Moment(5)));
+/// assert_eq!((cell.load(), cell.pending_since()), (Lsn(0x20), Some(Moment(5))));
+/// // A status that confirms all of it leaves nothing pending.
+/// assert_eq!(cell.take_pending(Lsn(0x20), Moment(7)), Some(Moment(5)));
+/// assert_eq!(cell.pending_since(), None);
+/// ```
 #[derive(Clone, PartialEq, Eq)]
 pub struct ProgressCell {
     words: ffi::CellWords,

@@ -6,14 +6,20 @@ use crate::Refusal;
 
 /// Days of the week, in the order in which [`OpeningHours`] has their windows.
 #[derive(Clone, Copy, Debug, PartialEq, Eq, Hash)]
-#[allow(missing_docs)]
 pub enum Weekday {
+    /// The first window's day.
     Monday,
+    /// The second window's day.
     Tuesday,
+    /// The third window's day.
     Wednesday,
+    /// The fourth window's day.
     Thursday,
+    /// The fifth window's day.
     Friday,
+    /// The sixth window's day.
     Saturday,
+    /// The seventh window's day.
     Sunday,
 }
 

@@ -1,20 +1,18 @@
 //! The part of a PostgreSQL logical replication client that works after authentication: a run takes the server's bytes, hands on events
-//! and writes what is to be sent. It opens no socket, reads no clock and allocates nothing but the list of publication names: the host
-//! lends buffers and calls.
+//! and writes what is to be sent. It opens no socket, reads no clock and allocates nothing: the host lends buffers and calls.
 //!
 //! Each call is a function of Rattle that is proved to meet its contract; this crate lends it slices and reads its words.
 //!
 //! ```
-//! use rufflesquash::{Input, Lsn, Moment, Queue, Run, Settings};
+//! use rufflesquash::{Input, Lsn, Moment, Queue, Run, Settings, STEP_OUTPUT};
 //!
 //! let settings = Settings { max_message_size: 65_536, ..Settings::default() };
 //! let mut run = Run::already_open(&settings, Lsn(0x10))?;
-//! let mut payload = vec![0; run_limit(&settings)];
-//! let mut out = [0; 39];
+//! let mut payload = vec![0; settings.payload_len()];
+//! let mut out = [0; STEP_OUTPUT];
 //! let input = Input { moment: Moment(1), client_time_micros: 0, stop: false, queue: Queue::Free, ended: false };
 //! let step = run.step(&input, b"", &mut payload, &mut out);
 //! assert_eq!((step.refusal, step.written), (None, 39));
-//! # fn run_limit(s: &Settings) -> usize { s.payload_len() }
 //! # Ok::<(), rufflesquash::Refusal>(())
 //! ```
 //!
@@ -33,7 +31,15 @@
 //! assert_eq!(texts(&event)?, [b"ab"]);
 //! # Ok::<(), Refusal>(())
 //! ```
-#![deny(missing_docs, unsafe_code)]
+//!
+//! The crate needs neither std nor a heap; of the C library the archive calls `memcpy` and `memset` alone. The feature `std`, which is on unless
+//! `default-features = false` is said, adds what needs a heap: [`relations::RelationCache::boxed`].
+#![no_std]
+#![warn(missing_docs)]
+#![deny(unsafe_code)]
+
+#[cfg(any(feature = "std", test))]
+extern crate std;
 
 mod archive;
 mod cell;
@@ -46,6 +52,7 @@ pub mod relations;
 pub mod rows;
 mod run;
 mod startup;
+mod text;
 mod touched;
 mod types;
 
@@ -57,6 +64,7 @@ pub use messages::{write_copy_done, write_query, write_startup, write_status, wr
 pub use refusal::{Kind, Refusal};
 pub use run::Run;
 pub use startup::{error_field, AuthRequest, Column, DataRow, ErrorField, Message, MessageReader, Query, QueryAnswer, Read};
+pub use text::Text;
 pub use touched::{Files, Touched};
 pub use types::{Event, Input, LastStatus, Lsn, Metrics, Moment, NextStep, Queue, Settings, State, Step};
 
@@ -84,6 +92,15 @@ pub struct Lossy {
 
 /// Writes the text of bytes over the front of `out`, as `String::from_utf8_lossy` makes it, and answers its length and its marks.
 /// Refused (25, 4), `out` is as it was.
+///
+/// ```
+/// use rufflesquash::{lossy, Lossy};
+///
+/// let mut out = [0; 16];
+/// assert_eq!(lossy(b"gr\xFCn", &mut out)?, Lossy { bytes: 6, marks: 1 });
+/// assert_eq!(&out[..6], "gr\u{FFFD}n".as_bytes());
+/// # Ok::<(), rufflesquash::Refusal>(())
+/// ```
 pub fn lossy(text: &[u8], out: &mut [u8]) -> Result<Lossy, Refusal> {
     shown(ffi::lossy(text, out))
 }
@@ -99,6 +116,13 @@ pub fn well_formed_prefix(text: &[u8]) -> usize {
 
 /// Writes the text of the error that an ErrorResponse's payload holds over the front of `out`, and answers its length and the marks of the
 /// message and the code, which are all that it shows. Refused (25, 4), `out` is as it was.
+///
+/// ```
+/// let mut out = [0; 64];
+/// let text = rufflesquash::error_text(b"SFATAL\0C57P01\0Mthe server shuts down\0\0", &mut out)?;
+/// assert_eq!(&out[..text.bytes], b"the server shuts down (SQLSTATE 57P01)");
+/// # Ok::<(), rufflesquash::Refusal>(())
+/// ```
 pub fn error_text(payload: &[u8], out: &mut [u8]) -> Result<Lossy, Refusal> {
     shown(ffi::error_text(payload, out))
 }

@@ -1,15 +1,23 @@
 //! Messages of the client outside a run: each is written over the front of `out`, and its length is answered. Refused (25, 4), `out` is as it was.
 
 use crate::ffi;
-use crate::{written, Lsn, Refusal};
+use crate::{written, Lsn, Refusal, Text};
 
 /// The version of the protocol that a startup message asks for: 3.0.
 const PROTOCOL: i32 = 196_608;
 
-/// The startup message with its parameters: names and values.
-pub fn write_startup(parameters: &[(&[u8], &[u8])], out: &mut [u8]) -> Result<usize, Refusal> {
-    let texts: Vec<&[u8]> = parameters.iter().flat_map(|(name, value)| [*name, *value]).collect();
-    written(ffi::write_startup(PROTOCOL, &texts, out))
+/// The startup message with its parameters, each a name and a value.
+///
+/// ```
+/// use rufflesquash::{write_startup, Text};
+///
+/// let mut out = [0; 64];
+/// let len = write_startup(&[[Text::from("user"), Text::from("me")]], &mut out)?;
+/// assert_eq!(&out[..len], b"\0\0\0\x11\0\x03\0\0user\0me\0\0");
+/// # Ok::<(), rufflesquash::Refusal>(())
+/// ```
+pub fn write_startup(parameters: &[[Text<'_>; 2]], out: &mut [u8]) -> Result<usize, Refusal> {
+    written(ffi::write_startup(PROTOCOL, parameters.as_flattened(), out))
 }
 
 /// A simple query.

@@ -1,11 +1,19 @@
 //! Why a call was refused.
 
 use crate::ffi;
-use std::fmt;
+use core::fmt;
 
 macro_rules! refusals {
     ($($number:literal $name:ident $text:literal,)*) => {
         /// Why a call was refused. The number is the one in docs/SCOPE.md, section 7, and in `rufflesquash.h`.
+        ///
+        /// ```
+        /// use rufflesquash::{Kind, Refusal};
+        ///
+        /// let refusal = Refusal::from_number(8).expect("one of 1 to 35");
+        /// assert_eq!((refusal, refusal.kind()), (Refusal::EofInHeader, Kind::Io));
+        /// assert_eq!(refusal.to_string(), "the input ended in a message's header");
+        /// ```
         #[derive(Clone, Copy, Debug, PartialEq, Eq, Hash)]
         #[non_exhaustive]
         #[repr(u8)]
@@ -113,7 +121,7 @@ impl Refusal {
     }
 }
 
-impl std::error::Error for Refusal {}
+impl core::error::Error for Refusal {}
 
 /// Kinds of refusals.
 #[derive(Clone, Copy, Debug, PartialEq, Eq, Hash)]

@@ -17,19 +17,28 @@ use crate::ffi;
 use crate::rows::{Columns, Old, Row, Tuple};
 use crate::types::part;
 use crate::Refusal;
-use std::fmt;
-use std::iter::FusedIterator;
+use core::fmt;
+use core::iter::FusedIterator;
 
 /// What the Relation messages of a stream said of at most 64 relations, with at most 32 columns each, whose names have at most 63 bytes. A later
-/// message of a relation supersedes the earlier one; nothing is ever removed. The memory is allocated once, in [`new`](RelationCache::new).
+/// message of a relation supersedes the earlier one; nothing is ever removed.
+///
+/// A cache is its memory, some 142 KiB, and allocates nothing: it stands where the host puts it, in a `static` or, with the feature `std`, on the
+/// heap ([`boxed`](RelationCache::boxed)).
 pub struct RelationCache {
-    memory: Box<ffi::CacheMemory>,
+    memory: ffi::CacheMemory,
 }
 
 impl RelationCache {
     /// An empty cache.
-    pub fn new() -> RelationCache {
-        RelationCache { memory: ffi::CacheMemory::boxed() }
+    pub const fn new() -> RelationCache {
+        RelationCache { memory: ffi::CacheMemory::new() }
+    }
+
+    /// An empty cache on the heap.
+    #[cfg(feature = "std")]
+    pub fn boxed() -> std::boxed::Box<RelationCache> {
+        std::boxed::Box::new(RelationCache::new())
     }
 
     /// Holds nothing again, as a stream that begins anew asks for.

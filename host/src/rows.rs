@@ -16,8 +16,8 @@
 use crate::ffi;
 use crate::types::part;
 use crate::{Lsn, Refusal};
-use std::fmt;
-use std::iter::FusedIterator;
+use core::fmt;
+use core::iter::FusedIterator;
 
 /// A row, or what rows refer to. Identifiers are those of relations and types in the server's database.
 #[derive(Clone, Copy, Debug, PartialEq, Eq)]
@@ -91,7 +91,7 @@ impl<'a> Row<'a> {
         let name = || part(data, word(ffi::ROW_NAME_FROM), word(ffi::ROW_NAME_LEN));
         let items = Places::of_words(data, word(ffi::ROW_COUNT), word(ffi::ROW_FROM));
         let old = Places::of_words(data, word(ffi::ROW_OLD_COUNT), word(ffi::ROW_OLD_FROM));
-        let old = Old::of_letter(word(ffi::ROW_BYTE), Tuple(old));
+        let old = || Old::of_letter(word(ffi::ROW_BYTE), Tuple(old));
         Ok(Some(match word(ffi::ROW_KIND) {
             ffi::ROW_NONE => return Ok(None),
             ffi::ROW_RELATION => Row::Relation(Relation {
@@ -104,8 +104,8 @@ impl<'a> Row<'a> {
             ffi::ROW_TYPE => Row::Type { id, namespace: namespace(), name: name() },
             ffi::ROW_ORIGIN => Row::Origin { lsn: Lsn(word(ffi::ROW_ID)), name: name() },
             ffi::ROW_INSERT => Row::Insert { relation: id, new: Tuple(items) },
-            ffi::ROW_UPDATE => Row::Update { relation: id, old, new: Tuple(items) },
-            ffi::ROW_DELETE => Row::Delete { relation: id, old: old.ok_or(Refusal::Unknown)? },
+            ffi::ROW_UPDATE => Row::Update { relation: id, old: old()?, new: Tuple(items) },
+            ffi::ROW_DELETE => Row::Delete { relation: id, old: old()?.ok_or(Refusal::Unknown)? },
             ffi::ROW_TRUNCATE => Row::Truncate { relations: Identifiers(items), options: word(ffi::ROW_BYTE) as u8 },
             _ => return Err(Refusal::Unknown),
         }))
@@ -147,12 +147,14 @@ pub enum Old<'a> {
 }
 
 impl<'a> Old<'a> {
+    // By the letter before it, which is 0 where there is none. Another letter is not passed over as none.
     #[inline]
-    fn of_letter(letter: u64, tuple: Tuple<'a>) -> Option<Old<'a>> {
+    fn of_letter(letter: u64, tuple: Tuple<'a>) -> Result<Option<Old<'a>>, Refusal> {
         match u8::try_from(letter) {
-            Ok(b'K') => Some(Old::Key(tuple)),
-            Ok(b'O') => Some(Old::Row(tuple)),
-            _ => None,
+            Ok(0) => Ok(None),
+            Ok(b'K') => Ok(Some(Old::Key(tuple))),
+            Ok(b'O') => Ok(Some(Old::Row(tuple))),
+            _ => Err(Refusal::Unknown),
         }
     }
 
@@ -176,6 +178,23 @@ pub enum Column<'a> {
     Text(&'a [u8]),
     /// The value in binary format.
     Binary(&'a [u8]),
+    /// The column is of a kind that this crate does not know, which is [`Refusal::Unknown`]: the archive is not the one that it was made for.
+    Refused(Refusal),
+}
+
+impl<'a> Column<'a> {
+    // A kind that this crate does not know is no column that may be passed over.
+    #[inline]
+    fn of_words(words: &[u64; ffi::TUPLE_WORDS], data: &'a [u8]) -> Column<'a> {
+        let value = || part(data, words[ffi::TUPLE_FROM], words[ffi::TUPLE_LEN]);
+        match words[ffi::TUPLE_KIND] {
+            ffi::TUPLE_NULL => Column::Null,
+            ffi::TUPLE_UNCHANGED => Column::Unchanged,
+            ffi::TUPLE_TEXT => Column::Text(value()),
+            ffi::TUPLE_BINARY => Column::Binary(value()),
+            _ => Column::Refused(Refusal::Unknown),
+        }
+    }
 }
 
 /// A column of a relation.
@@ -323,13 +342,7 @@ impl<'a> Iterator for Columns<'a> {
     #[inline]
     fn next(&mut self) -> Option<Column<'a>> {
         let words = self.0.next(ffi::row_column)?;
-        let value = || part(self.0.data, words[ffi::TUPLE_FROM], words[ffi::TUPLE_LEN]);
-        Some(match words[ffi::TUPLE_KIND] {
-            ffi::TUPLE_NULL => Column::Null,
-            ffi::TUPLE_TEXT => Column::Text(value()),
-            ffi::TUPLE_BINARY => Column::Binary(value()),
-            _ => Column::Unchanged,
-        })
+        Some(Column::of_words(&words, self.0.data))
     }
 
     #[inline]
@@ -369,5 +382,46 @@ impl Iterator for IdentifierIter<'_> {
     #[inline]
     fn size_hint(&self) -> (usize, Option<usize>) {
         (self.0.left, Some(self.0.left))
+    }
+}
+
+#[cfg(test)]
+mod tests {
+    use super::*;
+
+    const DATA: &[u8] = b"value";
+
+    fn column(kind: u64) -> Column<'static> {
+        let mut words = [0; ffi::TUPLE_WORDS];
+        (words[ffi::TUPLE_KIND], words[ffi::TUPLE_LEN]) = (kind, 5);
+        Column::of_words(&words, DATA)
+    }
+
+    fn row(kind: u64, byte: u64) -> Result<Option<Row<'static>>, Refusal> {
+        let mut words = [0; ffi::ROW_WORDS];
+        (words[ffi::ROW_KIND], words[ffi::ROW_BYTE]) = (kind, byte);
+        Row::of_words(&words, DATA)
+    }
+
+    #[test]
+    fn a_column_of_an_unknown_kind_is_refused() {
+        assert_eq!([1, 2, 3, 4].map(column), [Column::Null, Column::Unchanged, Column::Text(DATA), Column::Binary(DATA)]);
+        for kind in [0, 5, 255, 256 + ffi::TUPLE_TEXT, 1 << 32 | ffi::TUPLE_NULL, u64::MAX] {
+            assert_eq!(column(kind), Column::Refused(Refusal::Unknown), "{kind}");
+        }
+    }
+
+    #[test]
+    fn a_row_of_an_unknown_kind_or_letter_is_refused() {
+        assert_eq!(row(ffi::ROW_NONE, 0), Ok(None));
+        for kind in [8, 255, 256 + ffi::ROW_INSERT, u64::MAX] {
+            assert_eq!(row(kind, 0), Err(Refusal::Unknown), "{kind}");
+        }
+        let update = |byte| row(ffi::ROW_UPDATE, byte).map(|row| matches!(row, Some(Row::Update { old: Some(_), .. })));
+        assert_eq!([0, b'K'.into(), b'O'.into()].map(update), [Ok(false), Ok(true), Ok(true)]);
+        for letter in [1, b'N'.into(), 256 + u64::from(b'K'), u64::MAX] {
+            assert_eq!((update(letter), row(ffi::ROW_DELETE, letter)), (Err(Refusal::Unknown), Err(Refusal::Unknown)), "{letter}");
+        }
+        assert_eq!(row(ffi::ROW_DELETE, 0), Err(Refusal::Unknown));
     }
 }

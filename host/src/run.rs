@@ -4,8 +4,8 @@ use crate::archive::assert_archive;
 use crate::ffi;
 use crate::types::part;
 use crate::{Input, LastStatus, Lsn, Metrics, Moment, NextStep, Queue, Refusal, Settings};
-use crate::{State, Step};
-use std::fmt;
+use crate::{State, Step, Text};
+use core::fmt;
 
 /// A run of the stream: its whole state. It can be copied and kept; a copy goes on by itself.
 #[derive(Clone, PartialEq, Eq)]
@@ -20,7 +20,7 @@ impl Run {
     pub fn open(
         settings: &Settings,
         slot: &[u8],
-        publications: &[&[u8]],
+        publications: &[Text<'_>],
         position: Lsn,
         start: Lsn,
         out: &mut [u8],

@@ -28,6 +28,16 @@ pub struct Read<'a> {
 }
 
 /// Cuts the server's bytes into messages, as the steps of a run do. It can be copied and kept.
+///
+/// ```
+/// use rufflesquash::{Message, MessageReader};
+///
+/// let (mut reader, mut payload) = (MessageReader::new(), [0; 1024]);
+/// let first = reader.read(1024, b"Z\0\0", false, &mut payload);
+/// assert_eq!((first.taken, first.message), (3, None));
+/// let second = reader.read(1024, b"\0\x05I", false, &mut payload);
+/// assert_eq!(second.message, Some(Message { tag: b'Z', payload: b"I" }));
+/// ```
 #[derive(Clone, Debug, PartialEq, Eq)]
 pub struct MessageReader {
     words: [u64; ffi::READER_WORDS],
@@ -80,6 +90,17 @@ pub enum QueryAnswer<'a> {
 }
 
 /// A simple query whose answers are awaited. It can be copied and kept.
+///
+/// ```
+/// use rufflesquash::{Column, DataRow, Message, Query, QueryAnswer};
+///
+/// let (mut query, mut error) = (Query::new(), [0; 256]);
+/// let row = Message { tag: b'D', payload: b"\0\x01\0\0\0\x02ok" };
+/// assert_eq!(query.message(row, &mut error), QueryAnswer::Row(1));
+/// assert_eq!(DataRow::parse(row.payload)?.column(0), Column::Value(b"ok"));
+/// assert_eq!(query.message(Message { tag: b'Z', payload: b"I" }, &mut error), QueryAnswer::Ready);
+/// # Ok::<(), rufflesquash::Refusal>(())
+/// ```
 #[derive(Clone, Debug, PartialEq, Eq)]
 pub struct Query {
     words: [u64; ffi::QUERY_WORDS],
@@ -208,6 +229,14 @@ pub enum ErrorField {
 }
 
 /// A field of the error that an ErrorResponse's payload holds, where it is given.
+///
+/// ```
+/// use rufflesquash::{error_field, ErrorField};
+///
+/// let payload = b"SFATAL\0C57P01\0Mthe server shuts down\0\0";
+/// assert_eq!(error_field(payload, ErrorField::Code), Some(&b"57P01"[..]));
+/// assert_eq!(error_field(payload, ErrorField::Hint), None);
+/// ```
 pub fn error_field(payload: &[u8], field: ErrorField) -> Option<&[u8]> {
     let words = ffi::error_field(payload, field as usize);
     (words[ffi::FIELD_GIVEN] != 0).then(|| part(payload, words[ffi::FIELD_FROM], words[ffi::FIELD_LEN]))

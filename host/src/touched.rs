@@ -3,7 +3,7 @@
 use crate::archive::assert_archive;
 use crate::ffi;
 use crate::{Event, Refusal};
-use std::fmt;
+use core::fmt;
 
 /// Which of the four files the rows of a transaction touched, by a list of relations and their files.
 ///
@@ -43,23 +43,16 @@ impl Touched {
             touched.identifiers[i] = *identifier;
             touched.files[i] = *file;
         }
-        Refusal::checked(touched.call(&[0; ffi::ANSWER_WORDS], &[])).map(|()| touched)
+        Refusal::checked(touched.call(ffi::EVENT_NOTHING, &[])).map(|()| touched)
     }
 
     /// The next event of the run; answers the files that were touched since the last Begin, or since the first event where there was none.
     pub fn event(&mut self, event: &Event<'_>) -> Files {
-        let mut answer = [0; ffi::ANSWER_WORDS];
-        let mut bytes: &[u8] = &[];
-        match event {
-            Event::Begin { .. } => answer[ffi::ANSWER_EVENT] = ffi::EVENT_BEGIN,
-            Event::XLogData { data, .. } => {
-                answer[ffi::ANSWER_EVENT] = ffi::EVENT_XLOG_DATA;
-                answer[ffi::ANSWER_EVENT_5] = data.len() as u64;
-                bytes = data;
-            }
-            _ => {}
-        }
-        self.call(&answer, bytes); // the list was not refused
+        let data = match event {
+            Event::XLogData { data, .. } => data,
+            _ => &[][..],
+        };
+        self.call(event.kind(), data); // the list was not refused
         self.files()
     }
 
@@ -68,8 +61,8 @@ impl Touched {
         Files(self.bits as u8)
     }
 
-    fn call(&mut self, answer: &[u64; ffi::ANSWER_WORDS], payload: &[u8]) -> u64 {
-        ffi::touched(&self.identifiers[..self.entries], &self.files[..self.entries], answer, payload, &mut self.bits)
+    fn call(&mut self, kind: u64, data: &[u8]) -> u64 {
+        ffi::touched(&self.identifiers[..self.entries], &self.files[..self.entries], kind, data, &mut self.bits)
     }
 }
 

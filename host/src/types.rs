@@ -3,11 +3,19 @@
 use crate::ffi;
 use crate::rows::Row;
 use crate::Refusal;
-use std::fmt;
-use std::str::FromStr;
-use std::time::Duration;
+use core::fmt;
+use core::str::FromStr;
+use core::time::Duration;
 
 /// A position in the server's log.
+///
+/// ```
+/// use rufflesquash::{Lsn, Refusal};
+///
+/// assert_eq!("16/b374d848".parse(), Ok(Lsn(0x16_B374_D848)));
+/// assert_eq!(Lsn(0x16_B374_D848).to_string(), "16/B374D848");
+/// assert_eq!("16".parse::<Lsn>(), Err(Refusal::MissingSlash));
+/// ```
 #[derive(Clone, Copy, Debug, Default, PartialEq, Eq, PartialOrd, Ord, Hash)]
 pub struct Lsn(pub u64);
 
@@ -40,7 +48,7 @@ impl fmt::Display for Lsn {
     fn fmt(&self, f: &mut fmt::Formatter<'_>) -> fmt::Result {
         let mut text = [0; 17];
         let n = self.write(&mut text).map_err(|_| fmt::Error)?;
-        f.write_str(std::str::from_utf8(&text[..n]).map_err(|_| fmt::Error)?)
+        f.write_str(core::str::from_utf8(&text[..n]).map_err(|_| fmt::Error)?)
     }
 }
 
@@ -253,6 +261,18 @@ impl<'a> Event<'a> {
             ffi::EVENT_STOPPED_AT => Event::StoppedAt { reached: Lsn(a) },
             _ => return Err(Refusal::Unknown),
         }))
+    }
+
+    // The number of its kind.
+    pub(crate) fn kind(&self) -> u64 {
+        match self {
+            Event::KeepAlive { .. } => ffi::EVENT_KEEP_ALIVE,
+            Event::Begin { .. } => ffi::EVENT_BEGIN,
+            Event::Commit { .. } => ffi::EVENT_COMMIT,
+            Event::Message { .. } => ffi::EVENT_MESSAGE,
+            Event::XLogData { .. } => ffi::EVENT_XLOG_DATA,
+            Event::StoppedAt { .. } => ffi::EVENT_STOPPED_AT,
+        }
     }
 
     /// The row in the data of an [`Event::XLogData`]; none of every other event. Refused (26, 27) where the data are no row of protocol version 1;

@@ -26,6 +26,19 @@ impl Draw {
         whole
     }
 
+    /// The run of any words.
+    fn run(&mut self) -> Run {
+        let mut words = [0; RUN_WORDS];
+        for word in &mut words {
+            *word = match self.below(4) {
+                0 => self.word(),
+                1 => self.below(300),
+                _ => self.below(3),
+            };
+        }
+        Run::from_words(words)
+    }
+
     fn input(&mut self, moment: &mut u64) -> Input {
         *moment += [0, 1, 1_000, 15_000_000][self.below(4) as usize];
         Input {
@@ -37,10 +50,6 @@ impl Draw {
         }
     }
 }
-
-/// Where a run's words have its state, and the number of a drain (rufflesquash.h).
-const RUN_STATE: usize = 7;
-const STATE_DRAIN: u64 = 2;
 
 /// A run with its buffers.
 #[derive(Clone, Debug, PartialEq)]
@@ -120,18 +129,12 @@ fn on_streams() {
 fn on_any_words() {
     let mut draw = Draw(8);
     for _ in 0..200_000 {
-        let mut words = [0; RUN_WORDS];
-        for word in &mut words {
-            *word = match draw.below(4) {
-                0 => draw.word(),
-                1 => draw.below(300),
-                _ => draw.below(3),
-            };
+        let drains = draw.below(2) == 0;
+        let mut run = draw.run();
+        while drains && run.state() != State::Drain {
+            run = draw.run();
         }
-        if draw.below(2) == 0 {
-            words[RUN_STATE] = STATE_DRAIN;
-        }
-        let mut held = Held::new(Run::from_words(words));
+        let mut held = Held::new(run);
         let bytes = [draw.message(), draw.message()].concat();
         let input = draw.input(&mut (draw.0 % (1 << 40)));
         same(&mut held, &input, &bytes);

@@ -4,14 +4,14 @@ mod common;
 
 use common::*;
 use rufflesquash::{error_text, lossy, well_formed_prefix, AuthRequest, Column, DataRow, Event, Lossy, Lsn, Metrics, Moment, NextStep};
-use rufflesquash::{ProgressCell, Queue, Refusal, Run, Settings, State, PAGE};
+use rufflesquash::{ProgressCell, Queue, Refusal, Run, Settings, State, Text, PAGE};
 use std::time::Duration;
 
 #[test]
 fn opening_writes_the_query() {
     let s = Settings { binary: true, ..settings() };
     let mut out = [FILL; 256];
-    let (run, n) = Run::open(&s, b"slot", &[b"a'b", b"c"], Lsn(0x1_0000_0002), Lsn(7), &mut out).unwrap();
+    let (run, n) = Run::open(&s, b"slot", &["a'b", "c"].map(Text::from), Lsn(0x1_0000_0002), Lsn(7), &mut out).unwrap();
     let text = "START_REPLICATION SLOT slot LOGICAL 1/2 (proto_version '1', publication_names 'a''b,c', messages 'true', binary 'true')\0";
     assert_eq!(out[..n], message(b'Q', text.as_bytes()));
     assert!(out[n..].iter().all(|&b| b == FILL));
@@ -121,7 +121,7 @@ fn a_report_of_no_file_changes_nothing() {
     while ended.run.state() != State::Ended {
         ended.step();
     }
-    let opening = Run::open(&s, b"s", &[b"p"], Lsn(0), Lsn(0), &mut [0; 256]).unwrap().0;
+    let opening = Run::open(&s, b"s", &[Text::new(b"p")], Lsn(0), Lsn(0), &mut [0; 256]).unwrap().0;
     for run in [fresh, streaming.run, ended.run, opening] {
         for file in [4, 5, 0xFF, 0x100, 0x103, 1 << 32, (1 << 32) + 1, 1 << 63, u64::MAX - 3, u64::MAX] {
             let mut told = run.clone();
@@ -311,9 +311,10 @@ fn a_cell_without_timing_stores_no_moment() {
     assert!(cell.raise(Lsn(u64::MAX), Moment(6)));
     cell.carry_pending(Moment(4));
     assert_eq!(cell.pending_since(), None);
-    assert_eq!(*cell.as_words(), [u64::MAX, 1, 0, 0]);
-    let any = ProgressCell::from_words([7, u64::MAX, 8, 2]);
-    assert_eq!((any.load(), any.pending_since()), (Lsn(7), Some(Moment(8))));
+    assert_eq!(cell.load(), Lsn(u64::MAX));
+    let mut copy = ProgressCell::from_words(*cell.as_words());
+    assert_eq!((copy.load(), copy.pending_since()), (cell.load(), cell.pending_since()));
+    assert_eq!(copy.take_signal(), cell.take_signal());
 }
 
 // Any words are the words of some run: every call takes them and answers what SCOPE 9 has.

@@ -4,7 +4,7 @@ mod common;
 
 use common::*;
 use rufflesquash::{error_text, lossy, AuthRequest, DataRow, Lsn, Moment, Refusal, Run};
-use rufflesquash::{Settings, State};
+use rufflesquash::{Settings, State, Text};
 use std::time::Duration;
 
 const DAY: Duration = Duration::from_secs(86_400);
@@ -25,7 +25,7 @@ fn long_intervals() -> Vec<Settings> {
 fn opening_refuses_an_interval_above_its_limit() {
     for s in long_intervals() {
         let mut out = [FILL; 256];
-        let refused = Run::open(&s, b"s", &[b"p"], Lsn(0), Lsn(0), &mut out);
+        let refused = Run::open(&s, b"s", &[Text::new(b"p")], Lsn(0), Lsn(0), &mut out);
         assert_eq!(refused, Err(Refusal::IntervalTooLong));
         assert_eq!(out, [FILL; 256]);
         assert_eq!(Run::already_open(&s, Lsn(0)), Err(Refusal::IntervalTooLong));
@@ -38,7 +38,7 @@ fn opening_refuses_an_interval_above_its_limit() {
 fn opening_refuses_long_inputs_before_a_short_output() {
     let slot = vec![b'a'; 1_048_576];
     let mut out = [FILL; 8];
-    let over = Run::open(&settings(), &slot, &[b"p"], Lsn(0), Lsn(0), &mut out);
+    let over = Run::open(&settings(), &slot, &[Text::new(b"p")], Lsn(0), Lsn(0), &mut out);
     assert_eq!(over, Err(Refusal::InputTooLong));
     let fits = Run::open(&settings(), &slot, &[], Lsn(0), Lsn(0), &mut out);
     assert_eq!(fits, Err(Refusal::OutputTooShort));
@@ -48,13 +48,13 @@ fn opening_refuses_long_inputs_before_a_short_output() {
 #[test]
 fn opening_needs_the_whole_query_as_output() {
     let mut out = [FILL; 256];
-    let (_, n) = Run::open(&settings(), b"s", &[b"p"], Lsn(0), Lsn(0), &mut out).unwrap();
+    let (_, n) = Run::open(&settings(), b"s", &[Text::new(b"p")], Lsn(0), Lsn(0), &mut out).unwrap();
     assert!(out[n..].iter().all(|&b| b == FILL));
     let mut exact = vec![FILL; n];
-    assert!(Run::open(&settings(), b"s", &[b"p"], Lsn(0), Lsn(0), &mut exact).is_ok());
+    assert!(Run::open(&settings(), b"s", &[Text::new(b"p")], Lsn(0), Lsn(0), &mut exact).is_ok());
     assert_eq!(exact, out[..n]);
     let mut short = vec![FILL; n - 1];
-    let refused = Run::open(&settings(), b"s", &[b"p"], Lsn(0), Lsn(0), &mut short);
+    let refused = Run::open(&settings(), b"s", &[Text::new(b"p")], Lsn(0), Lsn(0), &mut short);
     assert_eq!(refused, Err(Refusal::OutputTooShort));
     assert!(short.iter().all(|&b| b == FILL));
 }

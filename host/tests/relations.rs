@@ -180,8 +180,8 @@ fn played(mut messages: &[u8]) -> String {
 
 #[test]
 fn every_list_of_changes_is_answered_as_its_line_says() {
-    let mut records = &fs::read("../crates/changes/stdin").expect("the records")[..];
-    let lines = fs::read_to_string("../crates/changes/stdout").expect("the lines");
+    let mut records = &fs::read("../crates/test_changes/stdin").expect("the records")[..];
+    let lines = fs::read_to_string("../crates/test_changes/stdout").expect("the lines");
     let (mut lines, mut count) = (lines.lines(), 0);
     while records[0] != b'?' {
         let (head, rest) = records.split_at(10);

@@ -1,4 +1,4 @@
-//! Rows in the data of events: every record of the program `changes`, read by the crate and compared with the expected lines that stand beside it,
+//! Rows in the data of events: every record of the program `test_changes`, read by the crate and compared with the expected lines that stand beside it,
 //! and what the crate's own types promise.
 
 mod common;
@@ -21,6 +21,7 @@ fn tuple(tuple: Tuple) -> String {
             Column::Unchanged => words.push_str(" u"),
             Column::Text(value) => write!(words, " t{}", hex(value)).unwrap(),
             Column::Binary(value) => write!(words, " b{}", hex(value)).unwrap(),
+            Column::Refused(refusal) => panic!("{refusal}"),
         }
     }
     words
@@ -65,8 +66,8 @@ fn answered(data: &[u8]) -> String {
 
 #[test]
 fn every_record_of_changes_is_read_as_its_line_says() {
-    let mut records = &fs::read("../crates/changes/stdin").expect("the records")[..];
-    let lines = fs::read_to_string("../crates/changes/stdout").expect("the lines");
+    let mut records = &fs::read("../crates/test_changes/stdin").expect("the records")[..];
+    let lines = fs::read_to_string("../crates/test_changes/stdout").expect("the lines");
     let (mut lines, mut count) = (lines.lines(), 0);
     while records[0] != b'?' {
         let (head, rest) = records.split_at(10);

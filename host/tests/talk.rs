@@ -4,7 +4,7 @@ mod common;
 
 use common::*;
 use rufflesquash::{error_field, write_copy_done, write_query, write_startup, write_status, write_terminate};
-use rufflesquash::{ErrorField, Kind, Lsn, Message, MessageReader, Query, QueryAnswer, Refusal};
+use rufflesquash::{ErrorField, Kind, Lsn, Message, MessageReader, Query, QueryAnswer, Refusal, Text};
 
 fn written(write: impl Fn(&mut [u8]) -> Result<usize, Refusal>) -> Vec<u8> {
     let mut out = [FILL; 128];
@@ -18,7 +18,7 @@ fn written(write: impl Fn(&mut [u8]) -> Result<usize, Refusal>) -> Vec<u8> {
 
 #[test]
 fn messages_of_the_client() {
-    let startup = written(|out| write_startup(&[(b"user", b"me"), (b"a", b"")], out));
+    let startup = written(|out| write_startup(&[["user", "me"].map(Text::from), ["a", ""].map(Text::from)], out));
     assert_eq!(startup, b"\0\0\0\x14\0\x03\0\0user\0me\0a\0\0\0");
     assert_eq!(written(|out| write_query(b"SELECT 1", out)), message(b'Q', b"SELECT 1\0"));
     assert_eq!(written(write_copy_done), message(b'c', b""));
@@ -31,7 +31,7 @@ fn messages_of_the_client() {
     }
     let long = vec![b'a'; 1_048_577];
     assert_eq!(write_query(&long, &mut [0; 8]), Err(Refusal::InputTooLong));
-    assert_eq!(write_startup(&[(b"user", &long)], &mut [0; 8]), Err(Refusal::InputTooLong));
+    assert_eq!(write_startup(&[[Text::from("user"), Text::new(&long)]], &mut [0; 8]), Err(Refusal::InputTooLong));
 }
 
 #[test]

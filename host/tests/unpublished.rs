@@ -4,7 +4,7 @@
 mod common;
 
 use common::*;
-use rufflesquash::{Event, Input, Lsn, Moment, Queue, Run, Settings, State, Step, PAGE, STEP_OUTPUT};
+use rufflesquash::{Event, Input, Lsn, Moment, Queue, Run, Settings, State, Step, Text, PAGE, STEP_OUTPUT};
 
 /// A message of a stream, and how many bytes at its end are hidden.
 fn draw_message(draw: &mut Draw, limit: usize) -> (Vec<u8>, usize) {
@@ -137,7 +137,7 @@ fn draw_input(draw: &mut Draw, moment: &mut u64) -> Input {
 fn begun(settings: &Settings, opening: bool) -> Run {
     let mut out = [0; 256];
     match opening {
-        true => Run::open(settings, b"s", &[b"p"], Lsn(0), Lsn(1), &mut out).unwrap().0,
+        true => Run::open(settings, b"s", &[Text::new(b"p")], Lsn(0), Lsn(1), &mut out).unwrap().0,
         false => Run::already_open(settings, Lsn(1)).unwrap(),
     }
 }

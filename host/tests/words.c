@@ -1,6 +1,6 @@
-/* Reads and checks every word that rufflesquash.h documents, from C: of settings, runs, answers, events, metrics, cells, readers, queries,
- * parts and rows, on inputs whose numbers differ from word to word, so that two words that change places are seen. The expected numbers are
- * read off the header and the PostgreSQL documentation. host/test builds and runs it; it prints what differs, and its last line is how many
+/* Reads and checks every word that rufflesquash.h documents, from C: of settings, answers, events, metrics, parts and rows, on inputs whose
+ * numbers differ from word to word, so that two words that change places are seen; and runs, cells, readers and queries, which are opaque, by
+ * their calls. The expected numbers are read off the header and the PostgreSQL documentation. host/test builds and runs it; it prints what differs, and its last line is how many
  * checks were made. */
 #include "rufflesquash.h"
 #include <inttypes.h>
@@ -103,6 +103,12 @@ static struct text plain(char tag, const char *payload, size_t len) {
     return message;
 }
 
+static struct text at_the_stop(void) {
+    struct text data = {.len = 0};
+    put(&data, "Insert", 6);
+    return xlog_data(0x800000009, 0x90000000A, 5, &data);
+}
+
 /* ---- a run that is fed */
 
 #define MS 1000000u
@@ -122,16 +128,21 @@ static const uint64_t settings[R(SETTINGS_WORDS)] = {
 
 static uint64_t run[R(RUN_WORDS)], answer[R(ANSWER_WORDS)];
 static uint8_t payload[LIMIT + 8], out[64];
-static uint64_t moment, queue;
+/* What the page is to show as the server's end beside its other readers. */
+static uint64_t moment, queue, server;
 static bool stop, ended;
 
-/* What a status would confirm, of the words. */
-static uint64_t smallest(void) {
-    uint64_t least = run[R(RUN_FILE_0)];
-    for (size_t i = R(RUN_FILE_1); i <= R(RUN_FILE_3); i++) {
-        if (run[i] < least) least = run[i];
-    }
-    return least;
+/* A counter of the run, and a word of its last status. */
+static uint64_t metric(size_t at) {
+    uint64_t metrics[R(METRICS_WORDS)];
+    rufflesquash_metrics(run, metrics);
+    return metrics[at];
+}
+
+static uint64_t last_sent(size_t at) {
+    uint64_t last[R(STATUS_WORDS)];
+    rufflesquash_last_sent(run, last);
+    return last[at];
 }
 
 /* A position's text. */
@@ -140,16 +151,16 @@ static const char *shown(uint64_t position, char text[24]) {
     return text;
 }
 
-/* The service page shows the words; an output a byte short gets 4 and nothing. */
+/* The service page shows what the other calls tell; an output a byte short gets 4 and nothing. */
 static void same_page(void) {
     static const char *const states[] = {"OPENING", "TURN", "DRAIN", "READING", "WAITING", "HANDLING", "OFFERING", "ENDED"};
-    const uint64_t state = run[R(RUN_STATE)] < LEN(states) ? run[R(RUN_STATE)] : R(STATE_ENDED);
-    char page[199], position[24], sent[24], server[24];
+    char page[199], position[24], sent[24], end[24];
     uint8_t room[202];
     uint64_t n = 7;
     snprintf(page, sizeof page, "%-12s%20s\n%-12s%20s\n%-12s%20s\n%-12s%20" PRIu64 "\n%-12s%20" PRIu64 "\n%-12s%20s\n", "POSITION",
-             shown(smallest(), position), "SENT", run[R(RUN_STATUS_SENT)] ? shown(run[R(RUN_STATUS_POSITION)], sent) : "-", "SERVER",
-             shown(run[R(RUN_SERVER)], server), "EVENTS", run[R(RUN_EVENTS_FORWARDED)], "STALLS", run[R(RUN_STALL_COUNT)], "STATE", states[state]);
+             shown(rufflesquash_position(run), position), "SENT", last_sent(R(STATUS_SENT)) ? shown(last_sent(R(STATUS_POSITION)), sent) : "-",
+             "SERVER", shown(server, end), "EVENTS", metric(R(METRICS_EVENTS_FORWARDED)), "STALLS", metric(R(METRICS_STALL_COUNT)), "STATE",
+             states[rufflesquash_state(run)]);
     memset(room, FILL, sizeof room);
     SAME(rufflesquash_page(run, room, 197, &n), 4);
     SAME(n, 0);
@@ -160,25 +171,17 @@ static void same_page(void) {
     for (size_t i = 198; i < sizeof room; i++) SAME(room[i], FILL);
 }
 
-/* One step or advance with these bytes, a microsecond later; the words that the header documents are held to their other readers. */
+/* One step or advance with these bytes, a microsecond later. */
 static void call(bool several, const uint8_t *unread, size_t len) {
-    uint64_t metrics[R(METRICS_WORDS)], last[R(STATUS_WORDS)];
     moment += 1000;
     memset(out, FILL, sizeof out);
     memset(answer, FILL, sizeof answer);
     (several ? rufflesquash_advance : rufflesquash_step)(run, moment, CLIENT_TIME, stop, queue, ended, unread, len, payload, sizeof payload, out,
                                                          sizeof out, answer);
     for (size_t i = answer[R(ANSWER_WRITTEN)]; i < sizeof out; i++) SAME(out[i], FILL);
-    SAME(rufflesquash_state(run), run[R(RUN_STATE)]);
-    SAME(rufflesquash_position(run), smallest());
-    SAME(run[R(RUN_TIMED)], 1);
-    if (answer[R(ANSWER_REFUSAL)] == 0) SAME(run[R(RUN_LAST_MOMENT)], moment);
-    rufflesquash_metrics(run, metrics);
-    for (size_t i = 0; i < LEN(metrics); i++) SAME(metrics[i], run[R(RUN_EVENTS_FORWARDED) + i]);
-    rufflesquash_last_sent(run, last);
-    for (size_t i = 0; i < LEN(last); i++) SAME(last[i], run[R(RUN_STATUS_SENT) + i]);
-    for (size_t i = 0; i < LEN(settings); i++) SAME(run[i], settings[i]);
-    for (size_t i = R(RUN_SPARE); i < R(RUN_WORDS); i++) SAME(run[i], 0);
+    SAME(rufflesquash_state(run) <= R(STATE_ENDED), 1);
+    /* A message whose boundary is refused moves the counter and not the page. */
+    if (answer[R(ANSWER_REFUSAL)] == 0) server = metric(R(METRICS_LAST_WAL_END));
     same_page();
 }
 
@@ -189,7 +192,7 @@ static void step(const uint8_t *unread, size_t len) {
 static void begin_run(uint64_t start) {
     memset(run, FILL, sizeof run);
     memset(payload, FILL, sizeof payload);
-    moment = 5 * MS, queue = R(QUEUE_FREE), stop = false, ended = false;
+    moment = 5 * MS, queue = R(QUEUE_FREE), stop = false, ended = false, server = 0;
     SAME(rufflesquash_already_open(settings, start, run), 0);
 }
 
@@ -218,6 +221,19 @@ static const struct rufflesquash_bytes names[] = {{(const uint8_t *)"a'b", 3}, {
 static const char query[] =
     "START_REPLICATION SLOT slot LOGICAL 16/B374D848 (proto_version '1', publication_names 'a''b,c', messages 'true', binary 'true')";
 
+/* A run of which no step was made. */
+static void fresh_run(uint64_t state, uint64_t start) {
+    SAME(rufflesquash_state(run), state);
+    SAME(rufflesquash_position(run), start);
+    for (size_t i = 0; i < R(METRICS_WORDS); i++) SAME(metric(i), 0);
+    for (size_t i = 0; i < R(STATUS_WORDS); i++) SAME(last_sent(i), 0);
+    for (uint64_t file = 0; file < R(FILES); file++) {
+        SAME(rufflesquash_position(run), start);
+        SAME(rufflesquash_report(run, file, start + 1, 1), 0);
+    }
+    SAME(rufflesquash_position(run), start + 1);
+}
+
 static void opening(void) {
     const struct text expected = plain('Q', query, sizeof query);
     uint8_t room[512];
@@ -228,37 +244,34 @@ static void opening(void) {
     SAME(written, expected.len);
     BYTES(room, expected.at, expected.len);
     SAME(room[written], FILL);
-    /* A fresh run: settings, the state, the start for each file, whether it is timed; all else is 0. */
-    WORDS(run, 10 * MS, 30 * MS, LIMIT, 1, 0x900000009, 1, 1, R(STATE_OPENING), 0, 0, 0, 0, 0, 0, 0, 0, 0, 0, 0, 0x77, 0, 0, 1,
-          [R(RUN_FILE_1)] = 0x77, 0x77, 0x77);
-    SAME(run[R(RUN_FILE_0)], 0x77);
-    SAME(run[R(RUN_FILE_1)], 0x77);
-    SAME(run[R(RUN_FILE_2)], 0x77);
-    SAME(run[R(RUN_FILE_3)], 0x77);
-    SAME(run[R(RUN_TIMED)], 1);
+    fresh_run(R(STATE_OPENING), 0x77);
     SAME(rufflesquash_already_open(settings, 0x78, run), 0);
-    WORDS(run, 10 * MS, 30 * MS, LIMIT, 1, 0x900000009, 1, 1, R(STATE_TURN), 0, 0, 0, 0, 0, 0, 0, 0, 0, 0, 0, 0x78, 0, 0, 1,
-          [R(RUN_FILE_1)] = 0x78, 0x78, 0x78);
+    fresh_run(R(STATE_TURN), 0x78);
 }
 
-/* Each flag by itself: binary is seen in the query, timing in the run. */
+/* Each flag by itself: binary is seen in the query, timing in the answer with a status, the stop position after an event. */
 static void flags_of_settings(void) {
-    const struct text expected = plain('Q', query, sizeof query);
+    const struct text expected = plain('Q', query, sizeof query), message = at_the_stop();
     uint8_t room[512];
-    uint64_t written, flags[R(SETTINGS_WORDS)], other[R(RUN_WORDS)];
+    uint64_t written, flags[R(SETTINGS_WORDS)];
     memcpy(flags, settings, sizeof settings);
     flags[R(SETTINGS_BINARY)] = 0;
-    SAME(rufflesquash_open(flags, (const uint8_t *)"slot", 4, names, 2, 0x16B374D848, 0x77, other, room, sizeof room, &written), 0);
+    SAME(rufflesquash_open(flags, (const uint8_t *)"slot", 4, names, 2, 0x16B374D848, 0x77, run, room, sizeof room, &written), 0);
     SAME(written, expected.len - 15);
-    SAME(other[R(RUN_BINARY)], 0);
-    SAME(other[R(RUN_TIMED)], 1);
     flags[R(SETTINGS_BINARY)] = 1, flags[R(SETTINGS_TIMING)] = 0, flags[R(SETTINGS_HAS_STOP)] = 0;
-    SAME(rufflesquash_open(flags, (const uint8_t *)"slot", 4, names, 2, 0x16B374D848, 0x77, other, room, sizeof room, &written), 0);
+    SAME(rufflesquash_open(flags, (const uint8_t *)"slot", 4, names, 2, 0x16B374D848, 0x77, run, room, sizeof room, &written), 0);
     BYTES(room, expected.at, expected.len);
-    SAME(other[R(RUN_TIMING)], 0);
-    SAME(other[R(RUN_TIMED)], 0);
-    SAME(other[R(RUN_HAS_STOP)], 0);
-    SAME(other[R(RUN_BINARY)], 1);
+    begin_run(0x10);
+    SAME(rufflesquash_already_open(flags, 0x10, run), 0);
+    step(NULL, 0);
+    step(NULL, 0);
+    SAME(feed(&message), message.len);
+    SAME(answer[R(ANSWER_EVENT)], R(EVENT_XLOG_DATA));
+    SAME(rufflesquash_state(run), R(STATE_TURN));
+    for (uint64_t file = 0; file < R(FILES); file++) SAME(rufflesquash_report(run, file, 0x44, moment), 0);
+    moment += 10 * MS;
+    step(NULL, 0);
+    WORDS(answer, 0, 0, 39);
 }
 
 /* Refused, run and out are as they were and written is 0. */
@@ -287,20 +300,20 @@ static void opening_is_skipped_and_accepted(void) {
     struct text bytes = plain('N', "notice", 6), accepted = plain('W', "\0\0\0", 3);
     uint64_t written;
     uint8_t room[512];
-    moment = 5 * MS, queue = R(QUEUE_FREE), stop = false, ended = false;
+    moment = 5 * MS, queue = R(QUEUE_FREE), stop = false, ended = false, server = 0;
     SAME(rufflesquash_open(settings, NULL, 0, NULL, 0, 0, 0, run, room, sizeof room, &written), 0);
     uint64_t next[R(NEXT_WORDS)];
     rufflesquash_next_step(run, sizeof payload, R(QUEUE_FREE), next);
     WORDS(next, R(NEXT_ON_INPUT));
     step(bytes.at, bytes.len);
     WORDS(answer, 0, bytes.len);
-    SAME(run[R(RUN_STATE)], R(STATE_OPENING));
+    SAME(rufflesquash_state(run), R(STATE_OPENING));
     step(accepted.at, accepted.len);
     WORDS(answer, 0, accepted.len);
-    SAME(run[R(RUN_STATE)], R(STATE_TURN));
+    SAME(rufflesquash_state(run), R(STATE_TURN));
 }
 
-/* The states in turn, each word of the run that a state has, and a status with its waiting time. */
+/* The states in turn, and the first status. */
 static void states(void) {
     uint64_t next[R(NEXT_WORDS)];
     begin_run(0x10);
@@ -311,62 +324,53 @@ static void states(void) {
     WORDS(answer, 0, 0, 39);
     BYTES(out, first.at, first.len);
     const uint64_t sent = moment;
-    SAME(run[R(RUN_STATE)], R(STATE_DRAIN));
-    SAME(run[R(RUN_STATUS_SENT)], 1);
-    SAME(run[R(RUN_STATUS_POSITION)], 0x10);
-    SAME(run[R(RUN_STATUS_AT)], sent);
-    SAME(run[R(RUN_LAST_APPLIED_LSN)], 0x10);
+    SAME(rufflesquash_state(run), R(STATE_DRAIN));
+    SAME(last_sent(R(STATUS_SENT)), 1);
+    SAME(last_sent(R(STATUS_POSITION)), 0x10);
+    SAME(last_sent(R(STATUS_AT)), sent);
+    SAME(metric(R(METRICS_LAST_APPLIED_LSN)), 0x10);
     step(NULL, 0);
     WORDS(answer, 0);
-    SAME(run[R(RUN_STATE)], R(STATE_WAITING));
-    SAME(run[R(RUN_WAIT_BEGAN)], moment);
+    SAME(rufflesquash_state(run), R(STATE_WAITING));
     rufflesquash_next_step(run, sizeof payload, R(QUEUE_FREE), next);
     WORDS(next, R(NEXT_FROM), moment + 30 * MS);
 }
 
-/* Reports, in the words of the run, and the status that confirms the smallest; a lower report changes nothing, nor does one of no file. */
+/* Reports, and the status that confirms the smallest; a lower report changes nothing, nor does one of no file. */
 static void reports(void) {
     uint64_t next[R(NEXT_WORDS)], before[R(RUN_WORDS)];
     begin_waiting(0x10);
-    const uint64_t sent = run[R(RUN_STATUS_AT)], reported = moment + 5;
-    memcpy(before, run, sizeof run);
+    const uint64_t sent = last_sent(R(STATUS_AT)), reported = moment + 5;
     SAME(rufflesquash_report(run, 1, 0x55, reported - 3), 0);
     SAME(rufflesquash_report(run, 3, 0x77, reported - 2), 0);
     SAME(rufflesquash_report(run, 0, 0x44, reported - 1), 0);
-    before[R(RUN_FILE_0)] = 0x44, before[R(RUN_FILE_1)] = 0x55, before[R(RUN_FILE_3)] = 0x77;
-    BYTES(run, before, sizeof run);
     SAME(rufflesquash_position(run), 0x10);
     SAME(rufflesquash_report(run, 2, 0x66, reported), 0);
-    before[R(RUN_FILE_2)] = 0x66, before[R(RUN_SIGNALLED)] = 1, before[R(RUN_PENDING_SINCE)] = reported;
-    BYTES(run, before, sizeof run);
+    memcpy(before, run, sizeof run);
     SAME(rufflesquash_report(run, 2, 0x33, reported + 7), 0);
     SAME(rufflesquash_report(run, R(FILES), 0x99, reported + 7), 31);
     SAME(rufflesquash_report(run, UINT64_C(1) << 32, 0x99, reported + 7), 31);
     SAME(rufflesquash_report(run, UINT64_MAX, 0x99, reported + 7), 31);
     BYTES(run, before, sizeof run);
-    SAME(run[R(RUN_FILE_0)], 0x44);
-    SAME(run[R(RUN_SIGNALLED)], 1);
-    SAME(run[R(RUN_PENDING_SINCE)], reported);
     SAME(rufflesquash_position(run), 0x44);
     step(NULL, 0);
-    SAME(run[R(RUN_STATE)], R(STATE_TURN));
-    SAME(run[R(RUN_SIGNALLED)], 1);
-    SAME(run[R(RUN_PENDING)], 0);
-    /* A new wait clears the signal and fixes that a status is pending. */
+    SAME(rufflesquash_state(run), R(STATE_TURN));
+    /* A new wait has a status pending. */
     step(NULL, 0);
     step(NULL, 0);
-    SAME(run[R(RUN_STATE)], R(STATE_WAITING));
-    SAME(run[R(RUN_SIGNALLED)], 0);
-    SAME(run[R(RUN_PENDING)], 1);
+    SAME(rufflesquash_state(run), R(STATE_WAITING));
     rufflesquash_next_step(run, sizeof payload, R(QUEUE_FREE), next);
     WORDS(next, R(NEXT_FROM), sent + 10 * MS);
+    SAME(next[R(NEXT_KIND)], R(NEXT_FROM));
+    SAME(next[R(NEXT_MOMENT)], sent + 10 * MS);
     moment = sent + 10 * MS - 1000;
     step(NULL, 0);
     const struct text second = status(0x44, CLIENT_TIME, 0);
     WORDS(answer, 0, 0, 39, 1, moment - reported);
+    SAME(answer[R(ANSWER_WAITED_TOLD)], 1);
+    SAME(answer[R(ANSWER_WAITED_NANOS)], moment - reported);
     BYTES(out, second.at, second.len);
-    SAME(run[R(RUN_STATE)], R(STATE_TURN));
-    SAME(run[R(RUN_PENDING_SINCE)], 0);
+    SAME(rufflesquash_state(run), R(STATE_TURN));
     uint64_t last[R(STATUS_WORDS)], metrics[R(METRICS_WORDS)];
     rufflesquash_last_sent(run, last);
     WORDS(last, 1, 0x44, moment);
@@ -374,40 +378,27 @@ static void reports(void) {
     WORDS(metrics, 0, 2, 0, 0, 0, 0x44, 0);
 }
 
-/* The words of a message that is read by pieces, within a wait. */
+/* A message that is read by pieces, within a wait. */
 static void pieces(void) {
     const struct text message = keepalive(0x30, -5, 0);
     begin_waiting(0x10);
-    step((const uint8_t *)"d\x01\x02\x03", 4);
-    for (uint64_t i = 0; i < 5; i++) SAME(run[R(RUN_HEADER_0) + i], "d\x01\x02\x03"[i]);
-    begin_waiting(0x10);
     step(message.at, 3);
     WORDS(answer, 0, 3);
-    for (int i = 0; i < 3; i++) SAME(run[R(RUN_HEADER_0) + i], message.at[i]);
-    SAME(run[R(RUN_FILLED)], 3);
     step(message.at + 3, 7);
     WORDS(answer, 0, 7);
-    for (int i = 0; i < 5; i++) SAME(run[R(RUN_HEADER_0) + i], message.at[i]);
-    SAME(run[R(RUN_FILLED)], 10);
-    SAME(run[R(RUN_PAYLOAD_LEN)], message.len - 5);
-    SAME(run[R(RUN_READER_REFUSED)], 0);
-    SAME(run[R(RUN_STATE)], R(STATE_WAITING));
+    SAME(rufflesquash_state(run), R(STATE_WAITING));
     BYTES(payload, message.at + 5, 5);
     SAME(payload[5], FILL);
     step(message.at + 10, message.len - 10);
-    SAME(run[R(RUN_STATE)], R(STATE_HANDLING));
-    SAME(run[R(RUN_WHOLE_TAG)], 'd');
-    SAME(run[R(RUN_WHOLE_LEN)], message.len - 5);
-    SAME(run[R(RUN_WHOLE_IN_WAIT)], 1);
+    SAME(rufflesquash_state(run), R(STATE_HANDLING));
+    SAME(metric(R(METRICS_LAST_WAL_END)), 0);
     step(NULL, 0);
-    SAME(run[R(RUN_STATE)], R(STATE_OFFERING));
-    for (size_t i = 0; i < 7; i++) SAME(run[R(RUN_EVENT) + i], ((uint64_t[]){R(EVENT_KEEP_ALIVE), 0x30, (uint64_t)-5, 0, 0, 0, 0})[i]);
-    SAME(run[R(RUN_STALLED)], 0);
-    SAME(run[R(RUN_LAST_WAL_END)], 0x30);
-    SAME(run[R(RUN_SERVER)], 0x30);
+    SAME(rufflesquash_state(run), R(STATE_OFFERING));
+    SAME(metric(R(METRICS_LAST_WAL_END)), 0x30);
+    SAME(metric(R(METRICS_EVENTS_FORWARDED)), 0);
     step(NULL, 0);
     WORDS(answer, 0, 0, 0, 0, 0, R(EVENT_KEEP_ALIVE), 0x30, (uint64_t)-5, 0);
-    SAME(run[R(RUN_EVENTS_FORWARDED)], 1);
+    SAME(metric(R(METRICS_EVENTS_FORWARDED)), 1);
 }
 
 /* ---- events */
@@ -423,8 +414,7 @@ static void begins(void) {
     begin_waiting(0x10);
     SAME(feed(&message), message.len);
     WORDS(answer, 0, 0, 0, 0, 0, R(EVENT_BEGIN), 0x855667788, (uint64_t)-3, 0xFFFFFFFE);
-    SAME(run[R(RUN_LAST_WAL_END)], 0x52);
-    SAME(run[R(RUN_SERVER)], 0x52);
+    SAME(metric(R(METRICS_LAST_WAL_END)), 0x52);
 }
 
 static void events(void) {
@@ -438,6 +428,8 @@ static void events(void) {
     message = xlog_data(0x51, 0x53, 53, &data);
     SAME(feed(&message), message.len);
     WORDS(answer, 0, 0, 0, 0, 0, R(EVENT_COMMIT), 0x61, 0x62, (uint64_t)-63);
+    SAME(answer[R(ANSWER_EVENT_1)], 0x61);
+    SAME(answer[R(ANSWER_EVENT_2)], 0x62);
     for (int flags = 0; flags < 2; flags++) {
         data.len = 0;
         put(&data, "M", 1);
@@ -458,8 +450,8 @@ static void events(void) {
     SAME(feed(&message), message.len);
     WORDS(answer, 0, 0, 0, 0, 0, R(EVENT_XLOG_DATA), 0x81, 0x82, (uint64_t)-83, 25, 6);
     BYTES(payload + answer[R(ANSWER_EVENT_4)], "Insert", 6);
-    SAME(run[R(RUN_LAST_WAL_END)], 0x82);
-    SAME(run[R(RUN_EVENTS_FORWARDED)], 4);
+    SAME(metric(R(METRICS_LAST_WAL_END)), 0x82);
+    SAME(metric(R(METRICS_EVENTS_FORWARDED)), 4);
 }
 
 /* A keepalive that asks is answered before its event. */
@@ -476,27 +468,26 @@ static void reply(void) {
     WORDS(metrics, 1, 2, 1, 0, 0, 0x10, 0x30);
 }
 
-/* A stall, in words of the run, its counters and the next step. */
+/* A stall, its counters and the next step. */
 static void stall(void) {
     const struct text message = keepalive(0x31, 5, 0);
     uint64_t next[R(NEXT_WORDS)];
     begin_waiting(0x10);
     queue = R(QUEUE_FULL);
-    for (size_t at = 0; run[R(RUN_STALLED)] == 0 && at <= message.len; at += answer[R(ANSWER_TAKEN)]) step(message.at + at, message.len - at);
-    const uint64_t began = moment;
-    SAME(run[R(RUN_STATE)], R(STATE_OFFERING));
-    SAME(run[R(RUN_STALLED)], 1);
-    SAME(run[R(RUN_STALL_BEGAN)], began);
-    SAME(run[R(RUN_STALL_COUNT)], 1);
+    for (size_t at = 0; metric(R(METRICS_STALL_COUNT)) == 0 && at <= message.len; at += answer[R(ANSWER_TAKEN)]) {
+        step(message.at + at, message.len - at);
+    }
+    SAME(rufflesquash_state(run), R(STATE_OFFERING));
+    SAME(metric(R(METRICS_STALL_COUNT)), 1);
     rufflesquash_next_step(run, sizeof payload, R(QUEUE_FREE), next);
     WORDS(next, R(NEXT_AT_ONCE));
     rufflesquash_next_step(run, sizeof payload, R(QUEUE_FULL), next);
-    WORDS(next, R(NEXT_FROM), run[R(RUN_STATUS_AT)] + 10 * MS);
+    WORDS(next, R(NEXT_FROM), last_sent(R(STATUS_AT)) + 10 * MS);
     moment += 7 * 1000;
     queue = R(QUEUE_FREE);
     step(NULL, 0);
     WORDS(answer, 0, 0, 0, 0, 0, R(EVENT_KEEP_ALIVE), 0x31, 5, 0);
-    SAME(run[R(RUN_STALL_MICROS_TOTAL)], 8);
+    SAME(metric(R(METRICS_STALL_MICROS_TOTAL)), 8);
     uint64_t metrics[R(METRICS_WORDS)];
     rufflesquash_metrics(run, metrics);
     WORDS(metrics, 1, 1, 0, 1, 8, 0x10, 0x31);
@@ -505,15 +496,9 @@ static void stall(void) {
         begin_waiting(0x10);
         queue = closed;
         for (size_t at = 0, i = 0; i < 8; i++, at += answer[R(ANSWER_TAKEN)]) step(message.at + at, message.len - at);
-        SAME(run[R(RUN_EVENTS_FORWARDED)], 0);
-        SAME(run[R(RUN_LAST_WAL_END)], 0x31);
+        SAME(metric(R(METRICS_EVENTS_FORWARDED)), 0);
+        SAME(metric(R(METRICS_LAST_WAL_END)), 0x31);
     }
-}
-
-static struct text at_the_stop(void) {
-    struct text data = {.len = 0};
-    put(&data, "Insert", 6);
-    return xlog_data(0x800000009, 0x90000000A, 5, &data);
 }
 
 /* The stop position: an event, then StoppedAt with CopyDone, and the end. */
@@ -523,9 +508,7 @@ static void stopping(void) {
     begin_waiting(0x10);
     feed(&message);
     WORDS(answer, 0, 0, 0, 0, 0, R(EVENT_XLOG_DATA), 0x800000009, 0x90000000A, 5, 25, 6);
-    SAME(run[R(RUN_STATE)], R(STATE_OFFERING));
-    SAME(run[R(RUN_EVENT)], R(EVENT_STOPPED_AT));
-    SAME(run[R(RUN_EVENT_1)], 0x90000000A);
+    SAME(rufflesquash_state(run), R(STATE_OFFERING));
     step(NULL, 0);
     WORDS(answer, 0, 0, 5, 0, 0, R(EVENT_STOPPED_AT), 0x90000000A);
     BYTES(out, "c\0\0\0\x04", 5);
@@ -551,8 +534,11 @@ static void stop_is_remembered(void) {
     begin_waiting(0x10);
     queue = R(QUEUE_FULL);
     for (size_t at = 0, i = 0; i < 4; i++, at += answer[R(ANSWER_TAKEN)]) step(message.at + at, message.len - at);
-    SAME(run[R(RUN_STOPS)], 1);
-    SAME(run[R(RUN_REACHED)], 0x90000000A);
+    queue = R(QUEUE_FREE);
+    step(NULL, 0);
+    WORDS(answer, 0, 0, 0, 0, 0, R(EVENT_XLOG_DATA), 0x800000009, 0x90000000A, 5, 25, 6);
+    step(NULL, 0);
+    WORDS(answer, 0, 0, 5, 0, 0, R(EVENT_STOPPED_AT), 0x90000000A);
 }
 
 /* Each refusal of a step stands in its word; 2 to 5 change nothing. */
@@ -635,6 +621,7 @@ static void server_errors(void) {
     WORDS(answer, 19);
     rufflesquash_error_part(run, sizeof payload, part);
     WORDS(part, 1, sizeof error);
+    SAME(part[R(ERROR_GIVEN)], 1);
     BYTES(payload, error, sizeof error);
     rufflesquash_error_part(run, 9, part);
     WORDS(part, 1, 9);
@@ -652,7 +639,6 @@ static void several_steps(void) {
     call(true, NULL, 0);
     WORDS(answer, 0, 0, 39);
     BYTES(out, first.at, first.len);
-    SAME(run[R(RUN_DRAINED)], 0);
     /* The same run by steps. */
     const uint64_t began = moment;
     memcpy(drained, run, sizeof run);
@@ -665,20 +651,19 @@ static void several_steps(void) {
     WORDS(answer, 0, message.len, 0, 0, 0, R(EVENT_XLOG_DATA), 0x81, 0x82, (uint64_t)-83, 25, 6);
     BYTES(payload, message.at + 5, message.len - 5);
     SAME(payload[message.len - 5], FILL);
-    SAME(run[R(RUN_DRAINED)], 1);
-    SAME(run[R(RUN_STATE)], R(STATE_DRAIN));
+    SAME(rufflesquash_state(run), R(STATE_DRAIN));
     step(message.at, 4);
-    SAME(run[R(RUN_STATE)], R(STATE_TURN));
+    SAME(rufflesquash_state(run), R(STATE_TURN));
     WORDS(answer, 0);
     /* Turn, drain, and a wait that takes them. */
     call(true, message.at, 4);
-    SAME(run[R(RUN_STATE)], R(STATE_WAITING));
+    SAME(rufflesquash_state(run), R(STATE_WAITING));
     WORDS(answer, 0, 4);
     /* A status with its waiting time. */
     begin_waiting(0x10);
     for (uint64_t file = 0; file < R(FILES); file++) SAME(rufflesquash_report(run, file, 0x44, moment + 3), 0);
     const uint64_t reported = moment + 3;
-    moment = run[R(RUN_STATUS_AT)] + 10 * MS;
+    moment = last_sent(R(STATUS_AT)) + 10 * MS;
     call(true, NULL, 0);
     WORDS(answer, 0, 0, 39, 1, moment - reported);
     BYTES(out, second.at, second.len);
@@ -699,36 +684,37 @@ static void inside(uint64_t from, uint64_t len, uint64_t end) {
 
 typedef void stepping(uint64_t *, uint64_t, int64_t, bool, uint64_t, bool, const uint8_t *, size_t, uint8_t *, size_t, uint8_t *, size_t, uint64_t *);
 
-/* Parts lie within the buffer whatever words a call is given; spare words change nothing and come out as 0. */
+/* Parts lie within the buffer whatever words a call is given: words that offer an event or have ended with an error, some of them put in at random. */
 static void made_up_words(void) {
-    for (int i = 0; i < 20000; i++) {
-        uint64_t other[R(RUN_WORDS)], others[R(ANSWER_WORDS)], part[R(ERROR_WORDS)];
-        for (size_t w = 0; w < R(RUN_WORDS); w++) run[w] = random_word() >> (random_word() % 64);
-        run[R(RUN_MAX_MESSAGE_BYTES)] = random_word() % (sizeof payload + 1);
-        run[R(RUN_LAST_MOMENT)] = run[R(RUN_STATE)] = R(STATE_OFFERING);
-        run[R(RUN_EVENT)] = R(EVENT_MESSAGE) + (random_word() & 1);
-        memcpy(other, run, sizeof run);
-        for (size_t w = R(RUN_SPARE); w < R(RUN_WORDS); w++) other[w] = ~run[w];
-        const size_t room = run[R(RUN_MAX_MESSAGE_BYTES)];
+    struct text data = {.len = 0};
+    put(&data, "M\0\0\0\0\0\0\0\0\1p\0\0\0\0\2xy", 18);
+    const struct text offered = xlog_data(1, 2, 3, &data), error = plain('E', "Mno slot\0", 10);
+    uint64_t kept[2][R(RUN_WORDS)], part[R(ERROR_WORDS)];
+    unsigned handed_on = 0;
+    begin_waiting(0x10);
+    for (size_t at = 0, i = 0; i < 2; i++, at += answer[R(ANSWER_TAKEN)]) step(offered.at + at, offered.len - at);
+    SAME(rufflesquash_state(run), R(STATE_OFFERING));
+    memcpy(kept[0], run, sizeof run);
+    begin_waiting(0x10);
+    feed(&error);
+    memcpy(kept[1], run, sizeof run);
+    for (int i = 0; i < 40000; i++) {
+        const size_t room = random_word() & 1 ? sizeof payload : LIMIT;
         stepping *const move = random_word() & 1 ? rufflesquash_advance : rufflesquash_step;
-        move(run, 1000, 0, false, R(QUEUE_FREE), false, NULL, 0, payload, room, out, sizeof out, answer);
-        move(other, 1000, 0, false, R(QUEUE_FREE), false, NULL, 0, payload, room, out, sizeof out, others);
-        BYTES(answer, others, sizeof answer);
-        BYTES(run, other, sizeof run);
-        for (size_t w = R(RUN_SPARE); w < R(RUN_WORDS); w++) SAME(run[w], 0);
-        SAME(answer[R(ANSWER_REFUSAL)], 0);
+        memcpy(run, kept[i % 2], sizeof run);
+        for (uint64_t n = random_word() % 4; n < 8; n++) run[random_word() % R(RUN_WORDS)] = random_word() >> (random_word() % 64);
+        rufflesquash_error_part(run, room, part);
+        inside(0, part[R(ERROR_LEN)], room);
+        move(run, moment + 1000, 0, false, R(QUEUE_FREE), false, NULL, 0, payload, room, out, sizeof out, answer);
         if (answer[R(ANSWER_EVENT)] == R(EVENT_MESSAGE)) {
             inside(answer[R(ANSWER_EVENT_3)], answer[R(ANSWER_EVENT_4)], room);
             inside(answer[R(ANSWER_EVENT_5)], answer[R(ANSWER_EVENT_6)], room);
-        } else {
-            SAME(answer[R(ANSWER_EVENT)], R(EVENT_XLOG_DATA));
+            handed_on++;
+        } else if (answer[R(ANSWER_EVENT)] == R(EVENT_XLOG_DATA)) {
             inside(answer[R(ANSWER_EVENT_4)], answer[R(ANSWER_EVENT_5)], room);
         }
-        for (size_t w = 0; w < R(RUN_WORDS); w++) run[w] = random_word() >> (random_word() % 64);
-        run[R(RUN_STATE)] = R(STATE_ENDED), run[R(RUN_WHOLE_TAG)] = 'E';
-        rufflesquash_error_part(run, room, part);
-        inside(0, part[R(ERROR_LEN)], room);
     }
+    SAME(handed_on > 5000, 1);
 }
 
 /* ---- texts and positions */
@@ -807,33 +793,34 @@ static void position_texts(void) {
 static void cells(void) {
     uint64_t cell[R(CELL_WORDS)];
     rufflesquash_cell_new(0x11, true, cell);
-    WORDS(cell, 0x11, 0, 0, 1);
+    SAME(rufflesquash_cell_load(cell), 0x11);
+    SAME(rufflesquash_cell_pending_since(cell), 0);
     SAME(rufflesquash_cell_raise(cell, 0x11, 4), 0);
-    WORDS(cell, 0x11, 0, 0, 1);
+    SAME(rufflesquash_cell_pending_since(cell), 0);
     SAME(rufflesquash_cell_raise(cell, 0x22, 5), 1);
-    WORDS(cell, 0x22, 1, 5, 1);
     SAME(rufflesquash_cell_raise(cell, 0x33, 6), 0);
-    WORDS(cell, 0x33, 1, 5, 1);
     SAME(rufflesquash_cell_load(cell), 0x33);
     SAME(rufflesquash_cell_pending_since(cell), 5);
     SAME(rufflesquash_cell_take_signal(cell), 0x33);
-    WORDS(cell, 0x33, 0, 5, 1);
+    SAME(rufflesquash_cell_load(cell), 0x33);
+    SAME(rufflesquash_cell_pending_since(cell), 5);
     /* What was sent is below the position: the moment at which it was read is pending from now on. */
     SAME(rufflesquash_cell_take_pending(cell, 0x32, 8), 5);
-    WORDS(cell, 0x33, 0, 8, 1);
+    SAME(rufflesquash_cell_pending_since(cell), 8);
     SAME(rufflesquash_cell_take_pending(cell, 0x33, 9), 8);
-    WORDS(cell, 0x33, 0, 0, 1);
+    SAME(rufflesquash_cell_pending_since(cell), 0);
     rufflesquash_cell_carry_pending(cell, 7);
     rufflesquash_cell_carry_pending(cell, 6);
     rufflesquash_cell_carry_pending(cell, 10);
-    WORDS(cell, 0x33, 0, 6, 1);
-    SAME(cell[R(CELL_APPLIED)], 0x33);
-    SAME(cell[R(CELL_PENDING_SINCE)], 6);
+    SAME(rufflesquash_cell_pending_since(cell), 6);
+    SAME(rufflesquash_cell_load(cell), 0x33);
+    /* The signal was taken, so that a raise is new again. */
+    SAME(rufflesquash_cell_raise(cell, 0x34, 11), 1);
+    SAME(rufflesquash_cell_raise(cell, 0x35, 12), 0);
     rufflesquash_cell_new(0x12, false, cell);
-    SAME(cell[R(CELL_TIMED)], 0);
     SAME(rufflesquash_cell_raise(cell, 0x23, 5), 1);
-    WORDS(cell, 0x23, 1, 0, 0);
-    SAME(cell[R(CELL_SIGNALLED)], 1);
+    SAME(rufflesquash_cell_load(cell), 0x23);
+    SAME(rufflesquash_cell_pending_since(cell), 0);
     rufflesquash_cell_carry_pending(cell, 7);
     SAME(rufflesquash_cell_pending_since(cell), 0);
 }
@@ -888,19 +875,10 @@ static void readers(void) {
     uint64_t reader[R(READER_WORDS)] = {0}, read[R(READ_WORDS)];
     uint8_t room[8];
     memset(room, FILL, sizeof room);
-    rufflesquash_read(reader, sizeof room, (const uint8_t *)"T\x01\x02\x03", 4, false, room, sizeof room, read);
-    WORDS(reader, 'T', 1, 2, 3, 0, 4);
-    memset(reader, 0, sizeof reader);
     rufflesquash_read(reader, sizeof room, message.at, 3, false, room, sizeof room, read);
     WORDS(read, 0, 3);
-    WORDS(reader, 'T', 0, 0, 0, 0, 3);
     rufflesquash_read(reader, sizeof room, message.at + 3, 4, false, room, sizeof room, read);
     WORDS(read, 0, 4);
-    WORDS(reader, 'T', 0, 0, 0, 11, 7, 7, 0);
-    SAME(reader[R(READER_HEADER_0)], 'T');
-    SAME(reader[R(READER_HEADER_4)], 11);
-    SAME(reader[R(READER_FILLED)], 7);
-    SAME(reader[R(READER_PAYLOAD_LEN)], 7);
     BYTES(room, "ab\xAA\xAA\xAA\xAA\xAA\xAA", 8);
     rufflesquash_read(reader, sizeof room, message.at + 7, message.len - 7, true, room, sizeof room, read);
     WORDS(read, 0, 5, 1, 'T', 7);
@@ -924,7 +902,6 @@ static void refused_reads(void) {
         rufflesquash_read(reader, sizeof room, (const uint8_t *)refused[i].bytes, 5, false, room, refused[i].room, read);
         WORDS(read, refused[i].refusal, refused[i].taken);
         /* After 7 the reader is shut, after 6 it is at a new header. */
-        WORDS(reader, 0, 0, 0, 0, 0, 0, 0, refused[i].refusal == 7);
         rufflesquash_read(reader, sizeof room, message.at, message.len, false, room, sizeof room, read);
         WORDS(read, refused[i].refusal == 7 ? 7 : 0, refused[i].refusal == 7 ? 0 : 12, refused[i].refusal != 7, refused[i].refusal == 7 ? 0 : 'T',
               refused[i].refusal == 7 ? 0 : 7);
@@ -949,15 +926,9 @@ static void queries(void) {
     WORDS(fold, R(FOLD_READY));
     rufflesquash_query_message(query, 'E', (const uint8_t *)"Mfive\0", 7, error, sizeof error, fold);
     WORDS(fold, R(FOLD_MORE));
-    WORDS(query, 1, 7, 7, 0);
     BYTES(error, "Mfive\0\0\xAA", 8);
     rufflesquash_query_message(query, 'E', (const uint8_t *)"Mthirteen is", 13, error, sizeof error, fold);
-    WORDS(query, 1, 8, 13, 0);
-    SAME(query[R(QUERY_FAILED)], 1);
-    SAME(query[R(QUERY_KEPT)], 8);
-    SAME(query[R(QUERY_ERROR_LEN)], 13);
     BYTES(error, "Mthirtee", 8);
-    query[R(QUERY_SPARE)] = 77;
     rufflesquash_query_message(query, 'Z', (const uint8_t *)"I", 1, error, sizeof error, fold);
     WORDS(fold, R(FOLD_FAILED), 8, 13);
     WORDS(query, 0);
@@ -1294,14 +1265,12 @@ static void refused_rows(void) {
 
 /* ---- which files a transaction touched */
 
-static uint64_t touched_by(uint64_t kind, uint64_t from, uint64_t len, uint64_t *bits) {
+static uint64_t touched_by(uint64_t kind, size_t from, size_t len, uint64_t *bits) {
     static const uint32_t identifiers[] = {7, 8, 7};
     static const uint64_t files[] = {2, 0, 1};
     /* an Insert into relation 7, a Truncate of relations 7 and 8 */
     static const uint8_t bytes[] = "I\0\0\0\7N\0\1nT\0\0\0\2\0\0\0\0\7\0\0\0\10";
-    const uint64_t words[R(ANSWER_WORDS)] = {
-        [R(ANSWER_REFUSAL)] = 5, [R(ANSWER_EVENT)] = kind, [R(ANSWER_EVENT_4)] = from, [R(ANSWER_EVENT_5)] = len};
-    return rufflesquash_touched(identifiers, LEN(identifiers), files, LEN(files), words, bytes, sizeof bytes - 1, bits);
+    return rufflesquash_touched(identifiers, LEN(identifiers), files, LEN(files), kind, bytes + from, len, bits);
 }
 
 static void touched(void) {
@@ -1314,28 +1283,31 @@ static void touched(void) {
     SAME(bits, 5);
     SAME(touched_by(R(EVENT_BEGIN), 0, 9, &bits), 0);
     SAME(bits, 0);
-    /* a row that is cut, and a Truncate whose length goes past the payload buffer */
+    /* a row that is cut, and one with a surplus */
     SAME(touched_by(R(EVENT_XLOG_DATA), 0, 8, &bits), 0);
     SAME(bits, 0);
-    SAME(touched_by(R(EVENT_XLOG_DATA), 9, UINT64_MAX, &bits), 0);
-    SAME(bits, 5);
-    SAME(touched_by(R(EVENT_XLOG_DATA), UINT64_MAX, UINT64_MAX, &bits), 0);
-    SAME(bits, 5);
-    /* no other kind clears or is read, and bits above the four are not kept */
-    bits = UINT64_MAX - 2;
-    SAME(touched_by(R(EVENT_MESSAGE), 0, 9, &bits), 0);
+    SAME(touched_by(R(EVENT_XLOG_DATA), 0, 23, &bits), 0);
+    SAME(bits, 4);
+    /* no other number clears or is read, and bits above the four are not kept */
+    for (uint64_t kind = 0; kind < 16; kind++)
+        if (kind != R(EVENT_BEGIN) && kind != R(EVENT_XLOG_DATA)) {
+            bits = UINT64_MAX - 2;
+            SAME(touched_by(kind, 0, 9, &bits), 0);
+            SAME(bits, 13);
+        }
+    SAME(touched_by(UINT64_MAX, 0, 9, &bits), 0);
     SAME(bits, 13);
     /* a file above 3 leaves the word as it was; of two arrays the shorter length holds */
     const uint32_t ids[] = {1, 2};
     const uint64_t bad[] = {3, 4};
-    const uint64_t begin[R(ANSWER_WORDS)] = {[R(ANSWER_EVENT)] = R(EVENT_BEGIN)};
     bits = 0xF5;
-    SAME(rufflesquash_touched(ids, 2, bad, 2, begin, NULL, 0, &bits), 31);
+    SAME(rufflesquash_touched(ids, 2, bad, 2, R(EVENT_BEGIN), NULL, 0, &bits), 31);
     SAME(bits, 0xF5);
-    SAME(rufflesquash_touched(ids, 1, bad, 2, begin, NULL, 0, &bits), 0);
+    SAME(rufflesquash_touched(ids, 1, bad, 2, R(EVENT_BEGIN), NULL, 0, &bits), 0);
     SAME(bits, 0);
     bits = 3;
-    SAME(rufflesquash_touched(NULL, 0, NULL, 0, answer, NULL, 0, &bits), 0);
+    SAME(rufflesquash_touched(NULL, 0, NULL, 0, R(EVENT_COMMIT), NULL, 0, &bits), 0);
+    SAME(bits, 3);
 }
 
 /* ---- a relation cache */
@@ -1361,7 +1333,7 @@ static void caches(void) {
     static const uint8_t relation[] = "R\x10\x20\x30\x40sp\0rel\0f\0\2\1k\0\0\0\0\x17\xFF\xFF\xFF\xFF\xFEvalue\0\x80\0\0\1\0\0\0\0";
     static const uint8_t insert[] = "I\x10\x20\x30\x40N\0\2nu";
     uint64_t row[R(ROW_WORDS)], column[R(CACHE_COLUMN_WORDS)], columns = 1;
-    SAME(sizeof cache, R(CACHE_BYTES));
+    SAME(sizeof cache, 145736);
     memset(&cache, 0xA5, sizeof cache);
     cache_column(7, 0, column);
     WORDS(column, 0);

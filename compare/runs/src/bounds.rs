@@ -3,7 +3,7 @@
 use crate::draw::Draw;
 use crate::rust_leaves;
 use crate::scenario::LENT;
-use rufflesquash::{Lsn, Refusal, Run, Settings};
+use rufflesquash::{Lsn, Refusal, Run, Settings, Text};
 
 /// A slot and publications, so many bytes together.
 fn names(draw: &mut Draw, together: usize) -> (String, Vec<String>) {
@@ -36,7 +36,7 @@ pub fn compare_bounds(count: u64, seed: u64) -> Result<[u64; 3], String> {
         let room = draw.pick(&[due.len(), due.len() + 9, due.len() - 1, 0]);
         out.clear();
         out.resize(room, 0xA5);
-        let lent: Vec<&[u8]> = publications.iter().map(|name| name.as_bytes()).collect();
+        let lent: Vec<Text> = publications.iter().map(|name| Text::from(name.as_str())).collect();
         let answer = Run::open(&Settings::default(), slot.as_bytes(), &lent, Lsn(0), Lsn(0), &mut out).map(|(_, n)| n);
         let wanted = match (together > LENT, room < due.len()) {
             (true, _) => Err(Refusal::InputTooLong),

@@ -1,4 +1,4 @@
-//! The leaves compared: records of the program `leaves`, whoever answers them, and the first difference.
+//! The leaves compared: records of the program `test_leaves`, whoever answers them, and the first difference.
 
 mod archive;
 mod inputs;
@@ -92,7 +92,7 @@ pub fn texts(mut input: &[u8]) -> Vec<&[u8]> {
 
 // ---- the project's lines
 
-/// The proved program `leaves`, run anew for each lot of records.
+/// The proved program `test_leaves`, run anew for each lot of records.
 pub struct Program {
     pub path: PathBuf,
 }

@@ -3,7 +3,7 @@
 use crate::scenario::Scenario;
 use crate::stepped::{Answer, Stepped, Steps};
 use crate::trace::{Event, Metrics, STATUS};
-use rufflesquash::{Input, Lossy, Lsn, Moment, Run, Settings};
+use rufflesquash::{Input, Lossy, Lsn, Moment, Run, Settings, Text};
 use std::time::Duration;
 
 #[derive(Default)]
@@ -41,7 +41,7 @@ impl Steps for Ours {
             self.run = Some(Run::already_open(&settings, Lsn(s.start)).expect("settings within their bounds"));
             return Vec::new();
         }
-        let names: Vec<&[u8]> = s.publications.iter().map(|p| p.as_bytes()).collect();
+        let names: Vec<Text> = s.publications.iter().map(|name| Text::from(name.as_str())).collect();
         let length = 256 + s.slot.len() + names.iter().map(|n| 2 * n.len() + 1).sum::<usize>();
         let mut out = vec![0; length];
         let (run, n) =

@@ -1,4 +1,4 @@
-//! Scenarios as scripts of the program `replay`, with the lines that playing them must print.
+//! Scenarios as scripts of the program `test_replay`, with the lines that playing them must print.
 //!
 //! Events, bytes, waiting times, metrics and the refusal at the end are the Rust's: a scenario is recorded only where the model's trace of it
 //! is the Rust's in all of them. What the Rust has not (the state and the bytes taken after each step, the payload buffer's sum, a prefix

@@ -22,9 +22,9 @@ fn answer(mut side: impl Leaves, kind: u8, room: usize, input: &[u8]) -> String 
     String::from_utf8(side.answer(&record)).unwrap().trim_end().to_string()
 }
 
-/// The program `leaves`.
+/// The program `test_leaves`.
 fn project_in(kind: u8, room: usize, input: &[u8]) -> String {
-    let beside = PathBuf::from(env!("CARGO_MANIFEST_DIR")).join("../../target/bin/leaves");
+    let beside = PathBuf::from(env!("CARGO_MANIFEST_DIR")).join("../../target/bin/test_leaves");
     answer(Program { path: std::env::var_os("LEAVES").map_or(beside, PathBuf::from) }, kind, room, input)
 }
 
@@ -288,7 +288,7 @@ fn error_fields_that_are_skipped() {
     }
 }
 
-/// Fields as the program `leaves` prints them: the code, the message and the detail, of fifteen.
+/// Fields as the program `test_leaves` prints them: the code, the message and the detail, of fifteen.
 fn fields(code: &str, message: &str, detail: &str) -> String {
     format!("f 0 n {code} {message} {detail} n n n n n n n n n n n")
 }

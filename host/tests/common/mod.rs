@@ -1,7 +1,7 @@
 //! Messages of a server, and a run that is fed with them.
 #![allow(dead_code)]
 
-use rufflesquash::{Input, Lsn, Moment, Queue, Refusal, Run, Settings, State, Step, STEP_OUTPUT};
+use rufflesquash::{Input, Lsn, Moment, Queue, Refusal, Run, Settings, State, Step, Text, STEP_OUTPUT};
 use std::time::Duration;
 
 /// The limit of a message in these tests.
@@ -156,7 +156,7 @@ impl Fed {
     /// A run that waits for the server to begin the stream.
     pub fn opening(bytes: &[u8]) -> Fed {
         let mut out = [0; 256];
-        let opened = Run::open(&settings(), b"s", &[b"p"], Lsn(0), Lsn(0x10), &mut out);
+        let opened = Run::open(&settings(), b"s", &[Text::new(b"p")], Lsn(0), Lsn(0x10), &mut out);
         Fed::new(opened.unwrap().0, bytes)
     }
 

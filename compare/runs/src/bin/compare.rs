@@ -1,7 +1,7 @@
 //! Compares the Rust with the project: compare [--model] [SCENARIOS [LEAF INPUTS [SEED]]]
 //!
 //! With --model the runs are compared with the model in `vectors/` instead. LEAVES names the program
-//! `leaves`; unset, it is sought as compare/run leaves it.
+//! `test_leaves`; unset, it is sought as compare/run leaves it.
 
 use runs::bounds::compare_bounds;
 use runs::cell::{self, compare_with_the_project};
@@ -101,7 +101,7 @@ fn cells(lists: u64, seed: u64) {
 
 fn other_leaves(leaves: u64, seed: u64) {
     let begun = Instant::now();
-    let mut program = Program { path: std::env::var_os("LEAVES").unwrap_or("../bin/leaves".into()).into() };
+    let mut program = Program { path: std::env::var_os("LEAVES").unwrap_or("../bin/test_leaves".into()).into() };
     let tally = compare_leaves(&mut OriginalLeaves, &mut program, leaves, seed).unwrap_or_else(|difference| fails(difference));
     let must = leaves >= 1_000_000;
     show_tally(&tally, "other leaf inputs", begun, must);

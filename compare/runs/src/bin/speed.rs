@@ -33,10 +33,10 @@ const STREAM: usize = 1 << 20;
 const RUNS: usize = 200;
 /// What a server sent; of each stream the CopyData messages are played.
 const RECORDED: [&[u8]; 4] = [
-    include_bytes!("../../../../crates/streams/data/basic-text.bin"),
-    include_bytes!("../../../../crates/streams/data/encoding-sqlascii.bin"),
-    include_bytes!("../../../../crates/streams/data/messages.bin"),
-    include_bytes!("../../../../crates/streams/data/truncate.bin"),
+    include_bytes!("../../../../crates/test_streams/data/basic-text.bin"),
+    include_bytes!("../../../../crates/test_streams/data/encoding-sqlascii.bin"),
+    include_bytes!("../../../../crates/test_streams/data/messages.bin"),
+    include_bytes!("../../../../crates/test_streams/data/truncate.bin"),
 ];
 /// Bytes of a row's message of the plugin, and how many rows a transaction has.
 const SHAPES: [(usize, usize); 7] = [(30, 1), (30, 100), (64, 10), (100, 10), (600, 10), (1024, 10), (8192, 10)];

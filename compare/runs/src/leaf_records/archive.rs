@@ -1,10 +1,10 @@
-//! The project's answers by the exported calls of the archive, as the lines that the program `leaves` prints: inputs may have any length here.
+//! The project's answers by the exported calls of the archive, as the lines that the program `test_leaves` prints: inputs may have any length here.
 
 use super::lines::{number_at, put_answer, put_columns, put_hex, query_limit};
 use super::{records, room, texts, Leaves, Record};
 use crate::rust_leaves::{Answer, Row};
 use model::sum;
-use rufflesquash::{self as ours, AuthRequest, Column, DataRow, ErrorField, Lossy, Lsn, MessageReader, QueryAnswer, Refusal};
+use rufflesquash::{self as ours, AuthRequest, Column, DataRow, ErrorField, Lossy, Lsn, MessageReader, QueryAnswer, Refusal, Text};
 use std::io::Write;
 
 #[derive(Default)]
@@ -92,7 +92,7 @@ fn write_of(kind: u8, input: &[u8], out: &mut [u8]) -> Result<usize, Refusal> {
         b'x' => ours::write_terminate(out),
         b's' => {
             let all = texts(&input[4..]);
-            let pairs: Vec<(&[u8], &[u8])> = all.chunks_exact(2).map(|pair| (pair[0], pair[1])).collect();
+            let pairs: Vec<[Text; 2]> = all.chunks_exact(2).map(|pair| [pair[0], pair[1]].map(Text::new)).collect();
             ours::write_startup(&pairs, out)
         }
         kind => panic!("no exported call: {kind}"),

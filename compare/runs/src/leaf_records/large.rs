@@ -19,7 +19,7 @@ pub struct Bounds {
     pub over: bool,
 }
 
-/// The program `leaves`, whose records have so many bytes.
+/// The program `test_leaves`, whose records have so many bytes.
 pub const PROGRAM: Bounds = Bounds { kinds: b"pdluwefacbrqytzxosgm", input: 65_536, room: 65_536, name: 2, over: false };
 
 /// The archive: its exported calls alone, but inputs of any length.

@@ -1,4 +1,4 @@
-//! The Rust's answers, as the lines that the program `leaves` prints.
+//! The Rust's answers, as the lines that the program `test_leaves` prints.
 
 use super::large::lent;
 use super::{put_record, records, room, texts, Leaves, Record};

@@ -27,7 +27,7 @@ const fn kind(letter: u8, bytes: &'static str, most: u64, outcomes: &'static [u6
     Kind { letter, bytes, least, most, outcomes }
 }
 
-/// Of the program `leaves`.
+/// Of the program `test_leaves`.
 const PROGRAM: &[Kind] = &[
     kind(b'p', "p: a position's text, bytes", 65_535, &[0, 22, 23, 24]),
     kind(b'd', "d: Display of a position, bytes", 0, &[0, 4]),

@@ -1,6 +1,7 @@
 //! Reads rows with the crate over the proved archive and with plain Rust that makes the same checks, results compared: a row is judged to its end,
-//! then its columns are gone over to the last value. It prints what it measured; with --check it only compares. `bench/run` builds and runs it.
+//! then its columns are gone over to the last value. `cargo bench` prints what it measured; `cargo test --benches` only compares.
 
+use bench::measuring;
 use rufflesquash::rows::{Column, Row};
 use std::hint::black_box;
 use std::time::Instant;
@@ -88,6 +89,7 @@ fn mixed<'a>(relation: u32, columns: impl Iterator<Item = Column<'a>>) -> u64 {
             Column::Unchanged => (2, &[][..]),
             Column::Text(value) => (3, value),
             Column::Binary(value) => (4, value),
+            Column::Refused(refusal) => (u64::from(refusal.number()), &[][..]),
         };
         sum.wrapping_mul(31).wrapping_add(kind + value.len() as u64 + u64::from(value.last().copied().unwrap_or(0)))
     })
@@ -163,7 +165,7 @@ fn compared(data: &[u8]) {
 }
 
 fn main() {
-    let check = std::env::args().any(|a| a == "--check");
+    let check = !measuring();
     if !check {
         println!("| columns | bytes each | ours, ns a row | plain Rust, ns | ours / plain | plain in one pass, ns |");
         println!("|---|---|---|---|---|---|");

@@ -1,7 +1,7 @@
 //! A relation cache with plain arrays of types, flags and lengths, and with one word of each column: the same messages and lookups on both, answers
-//! compared. It prints the bytes of both, and the times of a lookup and of a replacement; with --check it only compares. `bench/run` builds and
-//! runs it.
+//! compared. `cargo bench` prints the bytes of both, and the times of a lookup and of a replacement; `cargo test --benches` only compares.
 
+use bench::measuring;
 use std::hint::black_box;
 use std::time::Instant;
 
@@ -210,7 +210,7 @@ fn lookups(cache: &mut dyn Cache, held: usize) -> f64 {
 fn replacements(cache: &mut dyn Cache, n: usize, len: usize) -> f64 {
     let list: Vec<_> = (0..2).flat_map(|turn| (0..RELATIONS as u32).map(move |id| relation(id, turn, n, len))).collect();
     time(20 * list.len(), || {
-        for data in std::iter::repeat(&list).take(20).flatten() {
+        for data in std::iter::repeat_n(&list, 20).flatten() {
             assert_eq!(black_box(cache.message(black_box(data))).0, 0);
         }
     })
@@ -218,7 +218,7 @@ fn replacements(cache: &mut dyn Cache, n: usize, len: usize) -> f64 {
 
 fn main() {
     compared();
-    if std::env::args().any(|a| a == "--check") {
+    if !measuring() {
         println!("bench: relation caches, plain arrays and words alike");
         return;
     }

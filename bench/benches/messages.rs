@@ -1,6 +1,7 @@
 //! Frames and parses a buffer of messages, with the Rattle functions and with plain Rust, results compared, beside memcpy of the same bytes.
-//! It prints what it measured; with --check it only compares, on short streams. `bench/run` builds and runs it.
+//! `cargo bench` prints what it measured; `cargo test --benches` only compares, on short streams.
 
+use bench::measuring;
 use std::hint::black_box;
 use std::time::Instant;
 
@@ -157,7 +158,7 @@ fn compared(bytes: &[u8], payload: &mut [u8]) -> (u64, usize) {
 }
 
 fn main() {
-    if std::env::args().any(|argument| argument == "--check") {
+    if !measuring() {
         let streams = SIZES.iter().map(|size| stream(*size, 1 << 20)).chain([load(1 << 20)]);
         let messages: usize = streams.map(|bytes| compared(&bytes, &mut vec![0u8; LIMIT]).1).sum();
         println!("bench: {messages} messages, the same results on both sides");

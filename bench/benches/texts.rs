@@ -1,7 +1,8 @@
 //! Writes lossy texts with the Rattle functions, on the plain path and by the table, and with `String::from_utf8_lossy`, each into a lent buffer, and
 //! finds how far a text is well-formed; results compared. MB/s.
-//! It prints what it measured; with --check it only compares, on short texts. `bench/run` builds and runs it.
+//! `cargo bench` prints what it measured; `cargo test --benches` only compares.
 
+use bench::measuring;
 use std::hint::black_box;
 use std::time::Instant;
 
@@ -95,7 +96,7 @@ fn compared(name: &str, text: &[u8]) {
 }
 
 fn main() {
-    let check = std::env::args().any(|a| a == "--check");
+    let check = !measuring();
     type Maker = fn(usize) -> Vec<u8>;
     let texts: [(&str, Maker); 7] = [
         ("ASCII", |n| well_formed("The exhibition opens at ten o'clock in the great hall. ", n)),
