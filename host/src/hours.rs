@@ -1,4 +1,4 @@
-//! Opening hours of a venue's hall.
+//! Opening hours of a venue.
 
 use crate::archive::assert_archive;
 use crate::ffi;
@@ -49,12 +49,12 @@ impl Window {
 /// A window for each weekday, on a clock that is so many minutes ahead of UTC. It is shut always until windows are given.
 ///
 /// ```
-/// use rufflesquash::{Hall, OpeningHours, Weekday, Window};
+/// use rufflesquash::{HoursAt, OpeningHours, Weekday, Window};
 ///
 /// // Saturdays from 10:00 to 18:00, an hour ahead of UTC.
 /// let hours = OpeningHours::new(60).with(Weekday::Saturday, Window::new(600, 1080));
 /// // At 2000-01-01 00:00 UTC, a Saturday, the hall is shut; nine hours later it opens.
-/// assert_eq!(hours.at(0)?, Hall { open: false, changes_at_micros: Some(9 * 3_600_000_000) });
+/// assert_eq!(hours.at(0)?, HoursAt { open: false, changes_at_micros: Some(9 * 3_600_000_000) });
 /// # Ok::<(), rufflesquash::Refusal>(())
 /// ```
 #[derive(Clone, Copy, Debug, Default, PartialEq, Eq, Hash)]
@@ -85,22 +85,22 @@ impl OpeningHours {
     /// Whether the hall is open at a moment, in microseconds from 2000-01-01 00:00 UTC, and the first later moment at which that changes. The
     /// answer may lie past the last moment that can be asked for, which is 4,611,686,018,427,387,904. Refused are, in this order: a window that
     /// opens after it closes or has a minute above 1,440 (32), an offset outside its range (33), a moment outside its own (34).
-    pub fn at(&self, moment_micros: i64) -> Result<Hall, Refusal> {
+    pub fn at(&self, moment_micros: i64) -> Result<HoursAt, Refusal> {
         assert_archive();
         let opens = self.windows.map(|window| u64::from(window.opens_minute));
         let closes = self.windows.map(|window| u64::from(window.closes_minute));
         let (number, words) = ffi::hours(&opens, &closes, i64::from(self.offset_minutes), moment_micros);
-        Refusal::checked(number).map(|()| Hall {
+        Refusal::checked(number).map(|()| HoursAt {
             open: words[ffi::HOURS_OPEN] != 0,
             changes_at_micros: (words[ffi::HOURS_CHANGES] != 0).then_some(words[ffi::HOURS_MOMENT] as i64),
         })
     }
 }
 
-/// The state of the hall at a moment.
+/// What the hours say at a moment.
 #[derive(Clone, Copy, Debug, PartialEq, Eq, Hash)]
-pub struct Hall {
-    /// Whether it is open.
+pub struct HoursAt {
+    /// Whether the venue is open.
     pub open: bool,
     /// The first later moment at which that changes, in microseconds from 2000-01-01 00:00 UTC; none where it never does.
     pub changes_at_micros: Option<i64>,

@@ -58,7 +58,7 @@ mod types;
 
 pub use archive::{check_archive, WrongArchive};
 pub use cell::ProgressCell;
-pub use hours::{Hall, OpeningHours, Weekday, Window};
+pub use hours::{HoursAt, OpeningHours, Weekday, Window};
 pub use load::{write_load, Load};
 pub use messages::{write_copy_done, write_query, write_startup, write_status, write_terminate};
 pub use refusal::{Kind, Refusal};

@@ -1,6 +1,6 @@
 //! Opening hours by the crate's calendar.
 
-use rufflesquash::{Hall, Kind, OpeningHours, Refusal, Weekday, Window};
+use rufflesquash::{HoursAt, Kind, OpeningHours, Refusal, Weekday, Window};
 
 const MINUTE: i64 = 60_000_000;
 const DAY: i64 = 1440 * MINUTE;
@@ -8,8 +8,8 @@ const MOST: i64 = 4_611_686_018_427_387_904;
 const WEEK: [Weekday; 7] =
     [Weekday::Saturday, Weekday::Sunday, Weekday::Monday, Weekday::Tuesday, Weekday::Wednesday, Weekday::Thursday, Weekday::Friday];
 
-fn hall(open: bool, changes_at_micros: i64) -> Result<Hall, Refusal> {
-    Ok(Hall { open, changes_at_micros: Some(changes_at_micros) })
+fn told(open: bool, changes_at_micros: i64) -> Result<HoursAt, Refusal> {
+    Ok(HoursAt { open, changes_at_micros: Some(changes_at_micros) })
 }
 
 #[test]
@@ -19,20 +19,20 @@ fn each_weekday_has_its_own_window() {
         let hours = OpeningHours::new(0).with(weekday, Window::new(600, 660));
         let begins = days as i64 * DAY;
         assert_eq!(hours.window(weekday), Window::new(600, 660));
-        assert_eq!(hours.at(begins + 600 * MINUTE - 1), hall(false, begins + 600 * MINUTE));
-        assert_eq!(hours.at(begins + 600 * MINUTE), hall(true, begins + 660 * MINUTE));
-        assert_eq!(hours.at(begins + 660 * MINUTE - 1), hall(true, begins + 660 * MINUTE));
-        assert_eq!(hours.at(begins + 660 * MINUTE), hall(false, begins + 7 * DAY + 600 * MINUTE));
+        assert_eq!(hours.at(begins + 600 * MINUTE - 1), told(false, begins + 600 * MINUTE));
+        assert_eq!(hours.at(begins + 600 * MINUTE), told(true, begins + 660 * MINUTE));
+        assert_eq!(hours.at(begins + 660 * MINUTE - 1), told(true, begins + 660 * MINUTE));
+        assert_eq!(hours.at(begins + 660 * MINUTE), told(false, begins + 7 * DAY + 600 * MINUTE));
     }
 }
 
 #[test]
 fn midnight_between_two_open_days_is_no_change() {
     let hours = OpeningHours::new(0).with(Weekday::Saturday, Window::OPEN).with(Weekday::Sunday, Window::new(0, 1));
-    assert_eq!(hours.at(0), hall(true, DAY + MINUTE));
+    assert_eq!(hours.at(0), told(true, DAY + MINUTE));
     let later = hours.with(Weekday::Sunday, Window::new(1, 2));
-    assert_eq!(later.at(0), hall(true, DAY));
-    assert_eq!(later.at(DAY), hall(false, DAY + MINUTE));
+    assert_eq!(later.at(0), told(true, DAY));
+    assert_eq!(later.at(DAY), told(false, DAY + MINUTE));
 }
 
 #[test]
@@ -41,14 +41,14 @@ fn the_offset_is_added_to_utc() {
     for offset_minutes in [-840, -90, 90, 599] {
         let there = OpeningHours { offset_minutes, ..hours };
         let opens = (600 - i64::from(offset_minutes)) * MINUTE;
-        assert_eq!(there.at(opens - 1), hall(false, opens));
-        assert_eq!(there.at(opens), hall(true, opens + 60 * MINUTE));
+        assert_eq!(there.at(opens - 1), told(false, opens));
+        assert_eq!(there.at(opens), told(true, opens + 60 * MINUTE));
     }
 }
 
 #[test]
 fn some_hours_never_change() {
-    let never = |open| Ok(Hall { open, changes_at_micros: None });
+    let never = |open| Ok(HoursAt { open, changes_at_micros: None });
     assert_eq!(OpeningHours::default().at(MOST), never(false));
     assert_eq!(OpeningHours { windows: [Window::OPEN; 7], offset_minutes: -840 }.at(-MOST), never(true));
     assert_eq!(OpeningHours { windows: [Window::new(1440, 1440); 7], offset_minutes: 0 }.at(0), never(false));

@@ -29,10 +29,14 @@ add-second c =
     omega (arith, h)
 
 same-length-3 : tie.Need-same-length-3
-same-length-3 c = omega (arith, c .before .before .before .before .payload2 .given, c .before .before .before .before .before .before .before .before .before .before .before .before .before .before .before .before .payload .given)
+same-length-3 c =
+    let at-payload = c .before .before .before .before .before .before .before .before .before .before .before .before .before .before .before .before in
+    omega (arith, c .before .before .before .before .payload2 .given, at-payload .payload .given)
 
 same-length-4 : tie.Need-same-length-4
-same-length-4 c = omega (arith, c .before .before .out2 .given, c .before .before .before .before .before .before .before .before .before .before .before .before .before .before .out .given)
+same-length-4 c =
+    let at-out = c .before .before .before .before .before .before .before .before .before .before .before .before .before .before in
+    omega (arith, c .before .before .out2 .given, at-out .out .given)
 
 returns-2 : tie.Need-returns-2
 returns-2 c =

@@ -17,7 +17,9 @@ refused : {r : Loaded} {o : List ℕ} {y : (ℕ × ℕ) × List ℕ} (x : Refusa
 refused x e q = rw (← e, q)
 
 returns : tie.Need-returns
-returns c = wrote _ (c .before .before .before .before .before .write-load .ensures) (c .before .n .given .1)
+returns c =
+    let at-write-load = c .before .before .before .before .before in
+    wrote _ (at-write-load .write-load .ensures) (c .before .n .given .1)
 
 returns-2 : tie.Need-returns-2
 returns-2 c = refused _ (c .before .before .before .before .write-load .ensures) (c .enum-told .given .1)

@@ -15,12 +15,14 @@ short n = numeral-length 10 20 n
 
 array-share-prefix-value : tie.Need-array-share-prefix-value
 array-share-prefix-value c =
-    let n = c .before .before .before .before .before .before .args .n in
+    let at-args = c .before .before .before .before .before .before in
+    let n = at-args .args .n in
     omega (arith, short n, stored _ _ (short n) (c .before .before .place-decimal .ensures) .0)
 
 slice-aggregate-place-line : tie.Need-slice-aggregate-place-line
 slice-aggregate-place-line c =
-    let n = c .before .before .before .before .before .before .before .args .n in
+    let at-args = c .before .before .before .before .before .before .before in
+    let n = at-args .args .n in
     let s = stored _ _ (short n) (c .before .before .before .place-decimal .ensures) in
     rw (s .1) (omega (arith, s .0))
 

@@ -14,12 +14,14 @@ short s = omega (arith, display-short (s .args .p .0) (omega arith))
 
 array-share-prefix-value : tie.Need-array-share-prefix-value
 array-share-prefix-value c =
-    let l = short (c .before .before .before .before .before .before) in
+    let at-before = c .before .before .before .before .before in
+    let l = short (at-before .before) in
     omega (arith, l, stored _ _ l (c .before .before .place .ensures) .0)
 
 slice-aggregate-place-line : tie.Need-slice-aggregate-place-line
 slice-aggregate-place-line c =
-    let l = short (c .before .before .before .before .before .before .before) in
+    let at-before = c .before .before .before .before .before .before in
+    let l = short (at-before .before) in
     let s = stored _ _ l (c .before .before .before .place .ensures) in
     rw (s .1) (omega (arith, s .0))
 
@@ -31,8 +33,10 @@ place-line-requires c κs =
 
 returns : tie.Need-returns
 returns c =
-    let l = short (c .before .before .before .before .before .before .before .before .before .before) in
-    rw (stored _ _ l (c .before .before .before .before .before .before .place .ensures) .1) at (c .before .before .place-line .ensures)
+    let at-before = c .before .before .before .before .before .before .before .before .before in
+    let at-place = c .before .before .before .before .before .before in
+    let l = short (at-before .before) in
+    rw (stored _ _ l (at-place .place .ensures) .1) at (c .before .before .place-line .ensures)
 
 pub place-position-spec : {M : Type 1} → statement M
 place-position-spec =

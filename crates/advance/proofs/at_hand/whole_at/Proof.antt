@@ -17,7 +17,8 @@ returns c = (rw (lt-ltb _ _ (c .if1 .taken)), omega arith)
 returns-2 : tie.Need-returns-2
 unfolding wholeAt
 returns-2 c =
-    let u = c .before .before .before .before .before .before .before .before .args .unread .now in
+    let at-args = c .before .before .before .before .before .before .before .before in
+    let u = at-args .args .unread .now in
     let e : _≡_ {A = Option ℕ} none (some (be (at u 1 4))) = (rw (c .enum-told .given .1) at (c .before .before .read-u32 .ensures)) ∙ field-whole 4 u 1 (omega arith) in
     let z : _≡_ {A = ℕ} 0 1 = cc e in
     absurd (omega arith)

@@ -15,19 +15,22 @@ use Rattle.advance.proofs.at_hand.xlog_data.Tie as tie
 
 returns : tie.Need-returns
 returns c =
-    let s = c .before .before .before .before .before .args .payload .now in
+    let at-args = c .before .before .before .before .before in
+    let s = at-args .args .payload .now in
     let h = field-short 8 s 1 (sym (ap u64Of (c .before .enum-told .given .1)) ∙ c .before .before .before .read-u64 .ensures) in
     (c .none .ensures ∙ xlog-short s (omega arith), rw (c .none .ensures) (omega arith))
 
 returns-2 : tie.Need-returns-2
 returns-2 c =
-    let s = c .before .before .before .before .before .before .before .before .before .args .payload .now in
+    let at-args = c .before .before .before .before .before .before .before .before .before in
+    let s = at-args .args .payload .now in
     let h = field-short 8 s 9 (sym (ap u64Of (c .before .enum-told2 .given .1)) ∙ c .before .before .before .read-u642 .ensures) in
     (c .none2 .ensures ∙ xlog-short s (omega arith), rw (c .none2 .ensures) (omega arith))
 
 returns-3 : tie.Need-returns-3
 returns-3 c =
-    let s = c .before .before .before .before .before .before .before .before .before .before .before .before .before .args .payload .now in
+    let at-args = c .before .before .before .before .before .before .before .before .before .before .before .before .before in
+    let s = at-args .args .payload .now in
     let h = int-short 8 s 17 (sym (ap i64Of (c .before .enum-told3 .given .1)) ∙ c .before .before .before .read-i64 .ensures) in
     (c .none3 .ensures ∙ xlog-short s (omega arith), rw (c .none3 .ensures) (omega arith))
 

@@ -43,6 +43,8 @@ cast-set-byte c =
 
 returns-3 : tie.Need-returns-3
 returns-3 c =
+    let at-set-word = c .before .before .before .before .before .before .before in
+    let at-store-columns = c .before .before .before .before .before .before .before .before .before .before .before .before .before .before .before .before .before in
     let e = c .before .before .before .before .before .before .before .before .before .before .before .before .before .before .before .before .before .before .before .before .before .before in
     let f = e .before in
     let s = f .before .before in
@@ -50,7 +52,7 @@ returns-3 c =
     let a = t .args in
     kept-stored (memory (a .held .now) (a .ids .now) (a .counts .now) (columns (a .types .now) (a .flags .now) (a .lens .now) (a .names .now))) (a .id)
     (describedFrom (a .bytes .now) (a .n) (a .from)) (s .slot-of .result) (s .slot-of .ensures) (omega arith) (sym (not-false _ (e .if2 .left)) ∙ f .fit .ensures)
-    (a .n) (t .pre) (c .most .ensures) (c .before .before .before .before .before .before .before .set-word .ensures) (c .before .before .before .set-byte .ensures) (c .before .before .before .before .before .before .before .before .before .before .before .before .before .before .before .before .before .store-columns .ensures)
+    (a .n) (t .pre) (c .most .ensures) (at-set-word .set-word .ensures) (c .before .before .before .set-byte .ensures) (at-store-columns .store-columns .ensures)
 
 pub keep-spec : {M : Type 1} → statement M
 keep-spec =

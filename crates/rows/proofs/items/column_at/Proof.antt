@@ -47,9 +47,10 @@ returns-4 c =
 
 returns-5 : tie.Need-returns-5
 returns-5 c =
+    let at-if1 = c .before .before .before .before .before in
     let k = c .before .before .before .before .before .before in
     let a = start k .args in
-    sym (column-binary (a .bytes .now) (a .at) _ (letter-read k) (c .before .before .before .before .before .if1 .left)
+    sym (column-binary (a .bytes .now) (a .at) _ (letter-read k) (at-if1 .if1 .left)
     (c .before .before .before .before .if2 .left)
     (c .before .before .before .if3 .left) (c .before .before .if4 .taken) (c .before .bytes-at2 .ensures) (c .binary-of .ensures))
 

@@ -33,20 +33,24 @@ returns-2 c =
 
 returns-3 : tie.Need-returns-3
 returns-3 c =
+    let at-name-at = c .before .before .before .before .before .before in
     let k = c .before .before .before .before .before .before .before in
     let a = start k .args in
     second-missing (a .bytes .now) _ (id-read k) (rw (c .before .before .before .before .namespace .given .1) at
-    (c .before .before .before .before .before .before .name-at .ensures))
+    (at-name-at .name-at .ensures))
     (both (number 1) (many 2 nothing describedLayout)) (λ v. headOf (relationOf v))
     (rw (c .enum-told3 .given .1) at (c .before .before .name-at2 .ensures))
 
 returns-4 : tie.Need-returns-4
 returns-4 c =
+    let at-namespace = c .before .before .before .before .before .before .before .before in
+    let at-name-at = c .before .before .before .before .before .before .before .before .before .before in
+    let at-name-at2 = c .before .before .before .before .before .before in
     let k = c .before .before .before .before .before .before .before .before .before .before .before in
     let a = start k .args in
-    identity-missing (a .bytes .now) _ (id-read k) (rw (c .before .before .before .before .before .before .before .before .namespace .given .1) at
-    (c .before .before .before .before .before .before .before .before .before .before .name-at .ensures))
-    (rw (c .before .before .before .before .name .given .1) at (c .before .before .before .before .before .before .name-at2 .ensures))
+    identity-missing (a .bytes .now) _ (id-read k) (rw (at-namespace .namespace .given .1) at
+    (at-name-at .name-at .ensures))
+    (rw (c .before .before .before .before .name .given .1) at (at-name-at2 .name-at2 .ensures))
     (said u8Of (c .before .before .read-u8 .ensures) (c .enum-told4 .given .1))
 
 add-counted-at : tie.Need-add-counted-at
@@ -54,14 +58,18 @@ add-counted-at c = omega (arith, field-within 1 _ _ _ (said u8Of (c .before .bef
 
 returns-5 : tie.Need-returns-5
 returns-5 c =
+    let at-namespace = c .before .before .before .before .before .before .before .before .before .before .before in
+    let at-name-at = c .before .before .before .before .before .before .before .before .before .before .before .before .before in
+    let at-name = c .before .before .before .before .before .before .before in
+    let at-name-at2 = c .before .before .before .before .before .before .before .before .before in
+    let at-read-u8 = c .before .before .before .before .before in
     let k = c .before .before .before .before .before .before .before .before .before .before .before .before .before .before in
     let a = start k .args in
-    relation-whole (a .bytes .now) _ (id-read k) (rw (c .before .before .before .before .before .before .before .before .before .before .before
-    .namespace .given .1) at (c .before .before .before .before .before .before .before .before .before .before .before .before .before .name-at
+    relation-whole (a .bytes .now) _ (id-read k) (rw (at-namespace .namespace .given .1) at (at-name-at .name-at
     .ensures))
-    (rw (c .before .before .before .before .before .before .before .name .given .1) at
-    (c .before .before .before .before .before .before .before .before .before .name-at2 .ensures)) _
-    (said u8Of (c .before .before .before .before .before .read-u8 .ensures) (c .before .before .before .identity .given .1))
+    (rw (at-name .name .given .1) at
+    (at-name-at2 .name-at2 .ensures)) _
+    (said u8Of (at-read-u8 .read-u8 .ensures) (c .before .before .before .identity .given .1))
     (c .before .counted-at .ensures) (c .related .ensures)
 
 pub relation-at-spec : {M : Type 1} → statement M

@@ -32,9 +32,11 @@ returns-3 c =
 
 returns-4 : tie.Need-returns-4
 returns-4 c =
+    let at-if1 = c .before .before .before .before .before .before in
+    let at-read-u8 = c .before .before .before .before .before in
     let k = c .before .before .before .before .before .before .before in
-    truncate-whole (start k .args .bytes .now) _ (count-read k) (c .before .before .before .before .before .before .if1 .left) _
-    (said u8Of (c .before .before .before .before .before .read-u8 .ensures) (c .before .before .before .options .given .1))
+    truncate-whole (start k .args .bytes .now) _ (count-read k) (at-if1 .if1 .left) _
+    (said u8Of (at-read-u8 .read-u8 .ensures) (c .before .before .before .options .given .1))
     (c .before .after-all .ensures) (c .truncated .ensures)
 
 pub truncate-at-spec : {M : Type 1} → statement M

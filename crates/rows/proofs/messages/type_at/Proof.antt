@@ -30,18 +30,21 @@ returns-2 c =
 
 returns-3 : tie.Need-returns-3
 returns-3 c =
+    let at-name-at = c .before .before .before .before .before .before in
     let k = c .before .before .before .before .before .before .before in
     let a = start k .args in
     type-missing (a .bytes .now) _ (id-read k) (rw (c .before .before .before .before .namespace .given .1) at
-    (c .before .before .before .before .before .before .name-at .ensures))
+    (at-name-at .name-at .ensures))
     (rw (c .enum-told3 .given .1) at (c .before .before .name-at2 .ensures))
 
 returns-4 : tie.Need-returns-4
 returns-4 c =
+    let at-namespace = c .before .before .before .before .before in
+    let at-name-at = c .before .before .before .before .before .before .before in
     let k = c .before .before .before .before .before .before .before .before in
     let a = start k .args in
-    type-whole (a .bytes .now) _ (id-read k) (rw (c .before .before .before .before .before .namespace .given .1) at
-    (c .before .before .before .before .before .before .before .name-at .ensures))
+    type-whole (a .bytes .now) _ (id-read k) (rw (at-namespace .namespace .given .1) at
+    (at-name-at .name-at .ensures))
     (rw (c .before .name .given .1) at (c .before .before .before .name-at2 .ensures))
 
 pub type-at-spec : {M : Type 1} → statement M

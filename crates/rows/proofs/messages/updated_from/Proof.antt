@@ -6,9 +6,10 @@ use Rattle.rows.proofs.messages.updated_from.Tie as tie
 
 returns : tie.Need-returns
 returns c =
+    let at-counted-at = c .before .before .before .before .before in
     let a = c .before .before .before .before .before .before .before .args in
     from-whole (a .bytes .now) (a .relation) (a .which) (rw (c .before .before .before .old .given .1) at
-    (c .before .before .before .before .before .counted-at .ensures)) (c .before .new-at .ensures) (c .updated-to .ensures)
+    (at-counted-at .counted-at .ensures)) (c .before .new-at .ensures) (c .updated-to .ensures)
 
 returns-2 : tie.Need-returns-2
 returns-2 c =
