@@ -6,7 +6,7 @@ began=$SECONDS
 export CARGO_TARGET_DIR=${CARGO_TARGET_DIR:-$top/target-rust}
 # The crate of Rattle that is the library, and the one that is measured.
 library=ffi_export
-measured=bench
+measured=ffi_bench
 # The crates that the workspace uses, with what their builds need.
 packages=(librust-bytes-dev librust-libc-dev librust-native-tls-dev librust-postgres-protocol-dev gcc libc6-dev)
 mkdir -p "$top/target"
