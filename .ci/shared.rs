@@ -9,7 +9,7 @@ const READING: [&str; 5] = ["thm_any_calls", "thm_page_shown", "thm_host_calls",
 // Files of them that illustrate by literal cases, list the modules, or are the list itself.
 const LEFT_OUT: [&str; 3] = ["Lib.antt", "Shared.antt", "Mixed.antt"];
 // What the statements are about: calls, and what a host reads of their contracts.
-const SUBJECTS: [&str; 22] = [
+const SUBJECTS: [&str; 23] = [
     "stepOf",
     "advanceOf",
     "openOf",
@@ -25,6 +25,7 @@ const SUBJECTS: [&str; 22] = [
     "openCall",
     "alreadyOpenCall",
     "reportCall",
+    "reportEachCall",
     "stateCall",
     "metricsCall",
     "positionCall",

@@ -33,7 +33,7 @@ extern "C" {
 #endif
 
 /* The interface: its number grows with every change of a function, of a constant or of what they mean. */
-#define RUFFLESQUASH_ABI 13 /* A host compares this number, which it was built with, with the one that rufflesquash_abi answers. */
+#define RUFFLESQUASH_ABI 14 /* A host compares this number, which it was built with, with the one that rufflesquash_abi answers. */
 
 /* Settings: intervals are nanoseconds, a flag is true unless 0. */
 #define RUFFLESQUASH_SETTINGS_WORDS 7                      /* How many words settings have. */
@@ -52,7 +52,8 @@ extern "C" {
 #define RUFFLESQUASH_QUERY_WORDS 4  /* How many words a simple query has of which the answer is read. All of them are 0 before its first message. */
 
 /* Files: they are numbered from 0, and every other number is none. */
-#define RUFFLESQUASH_FILES 4 /* How many files a run has. */
+#define RUFFLESQUASH_FILES 4           /* How many files a run has. */
+#define RUFFLESQUASH_POSITIONS_WORDS 4 /* How many positions are handed in where each file is reported for, in the order of their numbers. */
 
 /* States of a run: every other number is RUFFLESQUASH_STATE_ENDED. */
 #define RUFFLESQUASH_STATE_OPENING 0  /* The server has not yet begun the stream. */
@@ -322,6 +323,10 @@ void rufflesquash_advance(uint64_t run[RUFFLESQUASH_RUN_WORDS], uint64_t moment,
  * A status confirms the smallest over the four files of the largest of the start and that file's reports; a host with fewer files reports for all
  * four. */
 uint64_t rufflesquash_report(uint64_t run[RUFFLESQUASH_RUN_WORDS], uint64_t file, uint64_t position, uint64_t moment);
+
+/* Each of the four files has applied all before its position: reports of the files 0 to 3, in this order and at one moment, of which none is
+ * refused. Answers what a status would confirm now. */
+uint64_t rufflesquash_report_each(uint64_t run[RUFFLESQUASH_RUN_WORDS], const uint64_t positions[RUFFLESQUASH_POSITIONS_WORDS], uint64_t moment);
 
 /* When a step moves next while no byte is unread, the input has not ended, no stop is requested, the queue stays as it is and nothing is reported.
  *

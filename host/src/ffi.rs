@@ -109,6 +109,11 @@ pub fn report(run: &mut RunWords, file: u64, position: u64, moment: u64) -> u64 
     unsafe { rufflesquash_report(run, file, position, moment) }
 }
 
+pub fn report_each(run: &mut RunWords, positions: &[u64; POSITIONS_WORDS], moment: u64) -> u64 {
+    // SAFETY: both arrays have the lengths that the function names.
+    unsafe { rufflesquash_report_each(run, positions, moment) }
+}
+
 pub fn next_step(run: &RunWords, payload_len: usize, queue: u64) -> [u64; NEXT_WORDS] {
     let mut next = [0; NEXT_WORDS];
     // SAFETY: both arrays have the lengths that the function names.

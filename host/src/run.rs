@@ -66,11 +66,14 @@ impl Run {
         Refusal::checked(ffi::report(&mut self.words, file, position.0, moment.0))
     }
 
-    /// The same for all four files, none of which is refused: what a consumer does that has fewer of them.
-    pub fn report_all(&mut self, position: Lsn, moment: Moment) {
-        for file in 0..Self::FILES {
-            ffi::report(&mut self.words, file, position.0, moment.0);
-        }
+    /// The same for each of the four files in one call, none of which is refused, and what a status would confirm now.
+    pub fn report_each(&mut self, positions: [Lsn; ffi::POSITIONS_WORDS], moment: Moment) -> Lsn {
+        Lsn(ffi::report_each(&mut self.words, &positions.map(|position| position.0), moment.0))
+    }
+
+    /// The same with one position for all four files: what a consumer does that has fewer of them.
+    pub fn report_all(&mut self, position: Lsn, moment: Moment) -> Lsn {
+        self.report_each([position; ffi::POSITIONS_WORDS], moment)
     }
 
     /// When to step again while nothing new comes, with a payload buffer of this length and the queue as it is now.

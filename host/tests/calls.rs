@@ -109,6 +109,34 @@ fn four_reports_are_one_report_for_all() {
     }
 }
 
+// Positions below and above the start and each other, moments in any order, timing or none.
+#[test]
+fn one_call_for_each_file_is_four_reports_in_their_order() {
+    let mut drawn = 1u64;
+    let mut draw = |below: u64| {
+        drawn = drawn.wrapping_mul(6_364_136_223_846_793_005).wrapping_add(1_442_695_040_888_963_407);
+        (drawn >> 33) % below
+    };
+    for timing in [false, true] {
+        let s = Settings { timing, ..settings() };
+        let mut four = Run::already_open(&s, Lsn(0x10)).unwrap();
+        let mut one = four.clone();
+        let mut highest = [0x10; Run::FILES as usize];
+        for n in 0..1000 {
+            let positions = [0; Run::FILES as usize].map(|_| Lsn(draw(0x20 + n)));
+            let moment = Moment(draw(100));
+            for (file, position) in positions.into_iter().enumerate() {
+                four.report(file as u64, position, moment).unwrap();
+                highest[file] = highest[file].max(position.0);
+            }
+            let confirmed = one.report_each(positions, moment);
+            assert_eq!(one, four);
+            assert_eq!(Some(&confirmed.0), highest.iter().min());
+            assert_eq!(one.position(), confirmed);
+        }
+    }
+}
+
 // 31 on a fresh, a streaming and an ended run, for every number above 3: none is narrowed before the test.
 #[test]
 fn a_report_of_no_file_changes_nothing() {

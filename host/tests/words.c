@@ -353,6 +353,10 @@ static void reports(void) {
     SAME(rufflesquash_report(run, UINT64_MAX, 0x99, reported + 7), 31);
     BYTES(run, before, sizeof run);
     SAME(rufflesquash_position(run), 0x44);
+    /* Lower positions of all files change nothing; the answer is the smallest all the same. */
+    const uint64_t lower[R(POSITIONS_WORDS)] = {0x43, 0x55, 0x11, 0};
+    SAME(rufflesquash_report_each(run, lower, reported + 8), 0x44);
+    BYTES(run, before, sizeof run);
     step(NULL, 0);
     SAME(rufflesquash_state(run), R(STATE_TURN));
     /* A new wait has a status pending. */

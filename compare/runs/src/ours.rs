@@ -76,6 +76,10 @@ impl Steps for Ours {
         told.map_or_else(|refusal| refusal.number(), |()| 0)
     }
 
+    fn report_all(&mut self, position: u64, moment: Moment) {
+        self.run.as_mut().expect("a run that was begun").report_all(Lsn(position), moment);
+    }
+
     fn metrics(&self) -> Metrics {
         let m = self.run.as_ref().expect("a run that was begun").metrics();
         [m.events_forwarded, m.feedback_sent, m.keepalive_replies, m.stall_count, m.stall_micros_total, m.last_applied_lsn.0, m.last_wal_end.0]

@@ -6,3 +6,4 @@ pub mod next;
 pub mod part;
 pub mod read;
 pub mod reply;
+pub mod shown;

@@ -10,6 +10,7 @@ use Rattle.error.specs.Writer.{outcome}
 use Rattle.lsn.specs.declared.Lsn.{Lsn}
 use Rattle.moment.specs.declared.Moment.{Moment}
 use Rattle.progress.specs.Files.{fileVerdict}
+use Rattle.progress.specs.Progress.{cellPosition}
 use Rattle.schedule.specs.declared.NextStep.{NextStep}
 use Rattle.schedule.specs.NextStep.{nextBy, nextStepOf}
 use Rattle.worker.specs.declared.AlreadyOpen.{AlreadyOpen}
@@ -23,11 +24,12 @@ use Rattle.worker.specs.declared.Settings.{Settings}
 use Rattle.worker.specs.declared.Stepped.{Stepped}
 use Rattle.worker.specs.Answer.{verdictNumber, waitedOption, outcomeBy, openedBy, alreadyOpenBy, reportingBy, errorPart, errorPartOf}
 use Rattle.worker.specs.Events.{saidBy}
+use Rattle.worker.specs.Run.{cellIn}
 use Rattle.worker.specs.Session as O
 use Rattle.worker.specs.Session.{openOf, alreadyOpenOf, reportOf}
 use Rattle.worker.specs.Step.{Lent, Outcome}
 use Rattle.ffi_words.specs.Step.{clipped, answerWords}
-use Rattle.ffi_words.specs.Calls.{standing, stepLeft, openLeft, runLeft}
+use Rattle.ffi_words.specs.Calls.{standing, stepLeft, openLeft, runLeft, confirmsLeft}
 use Rattle.ffi_words.specs.Words.{runOf, wordsOf}
 use Rattle.ffi_answers.specs.Next.{nextWords}
 use Rattle.ffi_answers.specs.Parts.{errorWords}
@@ -97,6 +99,25 @@ module _ (a : Reporting) {n : ℕ} {r z : Run} (file : ℕ) (p : Lsn) (m : Momen
 
   pub not-reported : (before : List ℕ) → (n ≡ 0 → ⊥) → (n, standing before) ≡ runLeft before (reportOf z file p m)
   not-reported before k = rw (← same-report, ← v, ne-eqb _ _ k)
+
+-- from four reports, each of the run that the one before it left
+module _ (a b c d : Reporting) {r z : Run} (p q s t : Lsn) (m : Moment) (pr : r ≡ z) (ea : reportingBy a ≡ reportOf r 0 p m)
+    (eb : reportingBy b ≡ reportOf (a .run) 1 q m) (ec : reportingBy c ≡ reportOf (b .run) 2 s m) (ed : reportingBy d ≡ reportOf (c .run) 3 t m) where
+  run-by : {x y : ℕ × Run} → x ≡ y → x .1 ≡ y .1
+  run-by e = ap (λ (x : ℕ × Run). x .1) e
+
+  all-runs : d .run ≡ reportOf (reportOf (reportOf (reportOf z 0 p m .1) 1 q m .1) 2 s m .1) 3 t m .1
+  all-runs =
+      let a-run : a .run ≡ reportOf z 0 p m .1 = run-by ea ∙ ap (λ (x : Run). reportOf x 0 p m .1) pr in
+      let b-run : b .run ≡ reportOf (reportOf z 0 p m .1) 1 q m .1 = run-by eb ∙ ap (λ (x : Run). reportOf x 1 q m .1) a-run in
+      let c-run : c .run ≡ reportOf (reportOf (reportOf z 0 p m .1) 1 q m .1) 2 s m .1 = run-by ec ∙ ap (λ (x : Run). reportOf x 2 s m .1) b-run in
+      run-by ed ∙ ap (λ (x : Run). reportOf x 3 t m .1) c-run
+
+  pub all-reported : {n : Lsn} {ws : List ℕ}
+      → (ws ≡ wordsOf (d .run)) × (runOf ws ≡ d .run)
+      → n ≡ cellPosition (cellIn (d .run))
+      → (n .0, standing ws) ≡ confirmsLeft (reportOf (reportOf (reportOf (reportOf z 0 p m .1) 1 q m .1) 2 s m .1) 3 t m .1)
+  all-reported pw pn = rw (← all-runs, pw .1, pw .0, pn)
 
 -- the settings of their words for the settings that a call was given
 module _ {s z : Settings} (ps : s ≡ z) where

@@ -15,7 +15,7 @@ ghost use mathlib.Core.Path.{_≡_};
 ghost use Rattle.advance.specs.Advance.{advanceOf};
 ghost use Rattle.worker.specs.Answer.{lent};
 ghost use Rattle.worker.specs.Step.{stepOf};
-ghost use Rattle.ffi_words.specs.Calls.{standing, stepCall, openCall, alreadyOpenCall, reportCall, stateCall, metricsCall, positionCall, lastSentCall};
+ghost use Rattle.ffi_words.specs.Calls.{standing, stepCall, openCall, alreadyOpenCall, reportCall, reportEachCall, stateCall, metricsCall, positionCall, lastSentCall};
 ghost use Rattle.ffi_answers.specs.Next.{nextStepCall};
 ghost use Rattle.ffi_answers.specs.Pages.{pageCall};
 ghost use Rattle.ffi_answers.specs.Parts.{errorPartCall};
@@ -26,6 +26,7 @@ use ffi_answers::part::error_words;
 use ffi_answers::reply::lossy_reply;
 use ffi_answers::reply::parsed_reply;
 use ffi_answers::reply::written_reply;
+use ffi_answers::shown::page_of;
 use ffi_words::layout;
 use ffi_words::run::last_status_of;
 use ffi_words::run::last_status_words;
@@ -188,6 +189,29 @@ pub extern "C" fn rufflesquash_report(
     refusal
 }
 
+// Each of the four files has applied all before its position: reports of the files 0 to 3, in this order and at one moment, of which none is refused.
+// Answers what a status would confirm now.
+#[no_mangle]
+pub extern "C" fn rufflesquash_report_each(
+    run: &mut [u64; layout::RUN_WORDS],
+    positions: &[u64; layout::POSITIONS_WORDS],
+    moment: u64,
+) -> u64
+    ensures { λ r. ⌜ (r, standing (now (run .exit))) ≡ reportEachCall (now (run .entry)) (now (positions .entry)) moment ⌝ }
+{
+    let p = *positions;
+    let at = Moment(moment);
+    let before = run_of(*run);
+    let zero = worker::session::report(before, 0, Lsn(p[0]), at);
+    let one = worker::session::report(zero.run, 1, Lsn(p[1]), at);
+    let two = worker::session::report(one.run, 2, Lsn(p[2]), at);
+    let three = worker::session::report(two.run, 3, Lsn(p[3]), at);
+    let after = three.run;
+    *run = words_of(after);
+    let position = worker::session::position(after);
+    position.0
+}
+
 // When a step moves next while no byte is unread, the input has not ended, no stop is requested, the queue stays as it is and nothing is reported.
 //
 // A host that has unread bytes, an ended input or a stop request steps at once instead.
@@ -276,8 +300,8 @@ pub extern "C" fn rufflesquash_page(
 ) -> u64
     ensures { λ r. ⌜ ((r, now (written .exit)), now (out .exit)) ≡ pageCall (now (run .entry)) (now (out .entry)) ⌝ }
 {
-    let shown = run_of(*run);
-    let reply = written_reply(run_page::write(shown, out));
+    let page = page_of(*run);
+    let reply = written_reply(page.write(out));
     *written = reply.value;
     reply.refusal
 }

@@ -3,11 +3,12 @@
 use Prim.Native.Nat.{ℕ}
 use mathlib.Core.Bool.{Bool}
 use mathlib.Core.List.{List}
-use lib.ListN.{length}
+use lib.ListN.{length, getD}
 use lib.IntN.{ℤ}
 use lib.Dec.{eqb}
 use denote.Ref.{RefT}
 use Rattle.wire.specs.Bytes.{pick}
+use Rattle.moment.specs.declared.Moment.{Moment}
 use Rattle.progress.specs.Progress.{cellPosition}
 use Rattle.worker.specs.declared.Input.{Input}
 use Rattle.worker.specs.declared.Run.{Run}
@@ -68,6 +69,21 @@ alreadyOpenCall before settings start = runLeft before (alreadyOpenOf (settingsO
 -- `rufflesquash_report`
 abbrev pub reportCall : List ℕ → ℕ → ℕ → ℕ → ℕ × Standing
 reportCall w file p m = runLeft w (reportOf (runOf w) file (lsn p) (moment m))
+
+-- the run after reports of the files 0 to 3, in this order and at one moment; none of them is refused
+abbrev pub reportedEach : Run → List ℕ → Moment → Run
+reportedEach r ps m =
+    reportOf
+    (reportOf (reportOf (reportOf r 0 (lsn (getD ps 0 0)) m .1) 1 (lsn (getD ps 1 0)) m .1) 2 (lsn (getD ps 2 0)) m .1) 3 (lsn (getD ps 3 0)) m
+    .1
+
+-- what a status would confirm after a call, and the run
+abbrev pub confirmsLeft : Run → ℕ × Standing
+confirmsLeft r = (cellPosition (cellIn r) .0, written r)
+
+-- `rufflesquash_report_each`, of four positions
+abbrev pub reportEachCall : List ℕ → List ℕ → ℕ → ℕ × Standing
+reportEachCall w ps m = confirmsLeft (reportedEach (runOf w) ps (moment m))
 
 -- ---- calls that look at a run
 

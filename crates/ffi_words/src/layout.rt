@@ -220,6 +220,9 @@ pub const QUERY_SPARE: usize = 3;
 // How many files a run has.
 pub const FILES: u64 = 4;
 
+// How many positions are handed in where each file is reported for, in the order of their numbers.
+pub const POSITIONS_WORDS: usize = 4;
+
 // ---- states of a run: every other number is `STATE_ENDED`
 
 // The server has not yet begun the stream.

@@ -37,9 +37,9 @@ use Rattle.schedule.specs.NextStep.{nextStepOf}
 use Rattle.advance.specs.Advance.{advanceOf}
 use Rattle.advance.specs.Steps.{UpTo}
 use Rattle.advance.proofs.Steps.{advance-is-steps}
-use Rattle.ffi_words.specs.Calls.{Standing, standing, written, answered, stepLeft, unlessRefused, openLeft, runLeft}
+use Rattle.ffi_words.specs.Calls.{Standing, standing, written, answered, stepLeft, unlessRefused, openLeft, runLeft, reportedEach}
 use Rattle.ffi_words.specs.Step.{queueOf, inputOf, clipped, waitedWords}
-use Rattle.ffi_words.specs.Words.{settingsOf, runOf, eventWords, sevenOf, metricsWords, lastStatusWords}
+use Rattle.ffi_words.specs.Words.{settingsOf, runOf, wordsOf, eventWords, sevenOf, metricsWords, lastStatusWords}
 use Rattle.ffi_answers.specs.Next.{nextWords}
 use Rattle.ffi_answers.specs.Parts as P
 use Rattle.run_page.specs.RunPage.{shownBy}
@@ -49,7 +49,7 @@ use Rattle.thm_any_calls.specs.Tests as T
 use Rattle.thm_any_calls.specs.Plain.{isRefusedEarly, plainOf}
 use Rattle.thm_any_calls.specs.HandsOn.{NoQueueCloses}
 use Rattle.thm_any_calls.specs.Happened.{Happened, happenedOf}
-use Rattle.thm_any_calls.specs.Trace.{Setup, boundsOf, Trace, stateAfter, takenBy, handedBy, observationsOf}
+use Rattle.thm_any_calls.specs.Trace.{Setup, boundsOf, Trace, stateAfter, takenBy, handedBy, observationsOf, confirmedOf}
 use Rattle.thm_any_calls.specs.Calls.{Beginning, opens, is-open, Call, step, report, Played, stepped, lentTo, playOne, playAll, begun, played, runBegun, setupOf}
 use Rattle.thm_any_calls.specs.Table.{limitBy, lastMessage, responseOf}
 use Rattle.thm_any_calls.specs.Traced.{Answers, traceOne, traceAll, traceOf}
@@ -69,9 +69,9 @@ use Rattle.thm_page_shown.specs.PageShown.{pageAfter}
 use Rattle.thm_page_shown.proofs.Shown.{page-traced}
 use Rattle.thm_host_calls.specs.Mixed.{mixAll, stepsOf, Same}
 use Rattle.thm_host_calls.specs.HostWords.{word, flag, Words, settingsBy, queueBy, inputBy, waitWords, errorWords}
-use Rattle.thm_host_calls.specs.Exported.{HostCall, advance, state, metrics, position, last-sent, error-part, next-step, page, Held, Reply, Stepped, Reported, Called, CalledAll, none, next, mixedOf, Opened, by-open, already, heldFirst}
+use Rattle.thm_host_calls.specs.Exported.{HostCall, advance, state, metrics, position, last-sent, error-part, next-step, page, Held, Reply, Stepped, Reported, ReportedEach, Called, CalledAll, none, next, mixedIn, mixedOf, Opened, by-open, already, heldFirst}
 use Rattle.thm_host_calls.specs.Exported as X
-use Rattle.thm_host_calls.specs.Told.{stepsIn, after, afterAll, stepsAll, upTo, refusedBy, bufferAfter, nextIn, StepTold, pageLeft, ReportTold, ErrorTold, Says, Told, Openings-told, Exported-told}
+use Rattle.thm_host_calls.specs.Told.{stepsIn, after, afterAll, stepsAll, upTo, refusedBy, bufferAfter, nextIn, StepTold, pageLeft, ReportTold, ReportEachTold, ErrorTold, Says, Told, Openings-told, Exported-told}
 use Rattle.thm_host_calls.proofs.Mixed.{play-append, together}
 use Rattle.thm_host_calls.proofs.Reader.{Fine, step-fine}
 use Rattle.thm_host_calls.proofs.NextStep.{next-told}
@@ -198,6 +198,51 @@ reported-stands bytes {b = b} v file p m c =
       taken = c .taken ∙ v .taken;
     }
 
+-- the reports of the files 0 to 3
+abbrev fourReports : List ℕ → ℕ → List Call
+fourReports ps m =
+    report 0 (lsn (word ps 0)) (record { 0 = m }) ∷ report 1 (lsn (word ps 1)) (record { 0 = m }) ∷ report 2 (lsn (word ps 2)) (record { 0 = m })
+    ∷ report 3 (lsn (word ps 3)) (record { 0 = m }) ∷ []
+
+-- a report of all files leaves the run that they leave
+all-stand : (bytes : List ℕ) {b : Held} {z : Played} → Stands b z → (ps : List ℕ) (m : ℕ) {g : Held} {y : Reply} → ReportedEach b ps m g y
+    → Stands g (playAll bytes z (fourReports ps m))
+unfolding playAll
+all-stand bytes v ps m c =
+    record {
+      run = ap (λ (x : ℕ × Standing). x .1 .1) (c .ensures) ∙ ap (λ (x : Run). reportedEach x ps (record { 0 = m })) (v .run);
+      payload = c .payload ∙ v .payload;
+      taken = c .taken ∙ v .taken;
+    }
+
+-- a report of one of the four files writes the run's words
+one-written : {b g : Held} {y : Reply} (file p m : ℕ) → ltb 3 file ≡ false → Reported b file p m g y
+    → standing (g .words) ≡ written (reportOf (runOf (b .words)) file (lsn p) (record { 0 = m }) .1)
+one-written {b = b} file p m t c =
+    let o : ℕ × Run = reportOf (runOf (b .words)) file (lsn p) (record { 0 = m }) in
+    let e : o .0 ≡ 0 = report-left (runOf (b .words)) file (lsn p) (record { 0 = m }) .0 ∙ ap (λ (x : Bool). pick x 31 0) t in
+    ap (λ (x : ℕ × Standing). x .1) (c .ensures) ∙ ap (λ (n : ℕ). unlessRefused n (o .1) (b .words)) e
+
+run-in : {w : List ℕ} {r : Run} → standing w ≡ written r → runOf w ≡ r
+run-in e = ap (λ (x : Standing). x .1) e
+
+-- so do four of them: the words are those of a report of all files
+four-written : (bytes ps : List ℕ) (m : ℕ) {b g : Held}
+    → CalledAll bytes b (X.report 0 (word ps 0) m ∷ X.report 1 (word ps 1) m ∷ X.report 2 (word ps 2) m ∷ X.report 3 (word ps 3) m ∷ []) g
+    → g .words ≡ wordsOf (reportedEach (runOf (b .words)) ps (record { 0 = m }))
+four-written bytes ps m {b = b} (next _ c (next _ d (next _ e (next _ f none)))) =
+    let at : Moment = record { 0 = m } in
+    let c-run = run-in (one-written 0 (word ps 0) m refl c) in
+    let d-run = run-in (one-written 1 (word ps 1) m refl d) ∙ ap (λ (x : Run). reportOf x 1 (lsn (word ps 1)) at .1) c-run in
+    let e-run = run-in (one-written 2 (word ps 2) m refl e) ∙ ap (λ (x : Run). reportOf x 2 (lsn (word ps 2)) at .1) d-run in
+    ap (λ (x : Standing). x .0) (one-written 3 (word ps 3) m refl f)
+    ∙ ap (λ (x : Run). wordsOf (reportOf x 3 (lsn (word ps 3)) at .1)) e-run
+
+all-mixed : (bytes : List ℕ) {b : Held} {z : Played} → Stands b z → (ps : List ℕ) (m : ℕ) {g : Held} {y : Reply} → ReportedEach b ps m g y
+    → Stands g (mixAll bytes z (mixedIn (X.report-each ps m)))
+unfolding mixAll playAll
+all-mixed bytes v ps m c = all-stand bytes v ps m c
+
 -- the words after a list stand for what its steps, advances and reports leave
 pub mixed-stand : (bytes : List ℕ) (cs : List HostCall) {b g : Held} {z : Played} → Stands b z → CalledAll bytes b cs g
     → Stands g (mixAll bytes z (mixedOf cs))
@@ -206,6 +251,7 @@ mixed-stand bytes [] v none = v
 mixed-stand bytes (X.step a n out ∷ cs) v (next y c d) = mixed-stand bytes cs (stands-on bytes v stepOf a n out c) d
 mixed-stand bytes (advance a n out ∷ cs) v (next y c d) = mixed-stand bytes cs (stands-on bytes v advanceOf a n out c) d
 mixed-stand bytes (X.report file p m ∷ cs) v (next y c d) = mixed-stand bytes cs (reported-stands bytes v file p m c) d
+mixed-stand bytes (X.report-each ps m ∷ cs) v (next y c d) = mixed-stand bytes cs (all-mixed bytes v ps m c) d
 mixed-stand bytes (state ∷ cs) v (next y c d) = mixed-stand bytes cs (same-held (c .0) v) d
 mixed-stand bytes (metrics ∷ cs) v (next y c d) = mixed-stand bytes cs (same-held (c .0) v) d
 mixed-stand bytes (position ∷ cs) v (next y c d) = mixed-stand bytes cs (same-held (c .0) v) d
@@ -247,6 +293,7 @@ module _ (s : Setup) (h : Trace) (z : Played) (w : Preserved s h z) {b : Held} (
       let q = advance-same (inputBy a) n out in
       record { run = e .run ∙ q .run; payload = e .payload ∙ q .payload; taken = e .taken ∙ q .taken }
   call-stands (X.report file p m) g y c = reported-stands (s .bytes) v file p m c
+  call-stands (X.report-each ps m) g y c = all-stand (s .bytes) v ps m c
   call-stands state g y c = same-held (c .0) v
   call-stands metrics g y c = same-held (c .0) v
   call-stands position g y c = same-held (c .0) v
@@ -402,6 +449,18 @@ module _ (s : Settings) (b : Beginning) (bytes p : List ℕ) (ds : List Call) {g
             bytes = λ q j. impossible (ap count (rw f at j));
           }
 
+  -- after a report of all files a status would confirm what the trace says
+  all-position : (ps : List ℕ) (m : ℕ) (k : Held) (y : Reply) → ReportedEach g ps m k y
+      → y .result ≡ confirmedOf (x .start) (traceAll x t (fourReports ps m)) .0
+  unfolding played playAll
+  all-position ps m k y c =
+      let fs : List Call = fourReports ps m in
+      ap (λ (q : ℕ × Standing). q .0) (c .ensures)
+      ∙ (ap (λ (q : Run). cellPosition (cellIn (reportedEach q ps (record { 0 = m }))) .0) (v .run)
+      ∙ (ap (λ (q : Played). cellPosition (cellIn (q .run)) .0) (sym (play-append bytes (begun (runBegun s b) p) ds fs))
+      ∙ (ap (λ (q : Page). q .position .0) (page-traced s b bytes p (ds ++ fs))
+      ∙ ap (λ (h : Trace). confirmedOf (x .start) h .0) (trace-append x [] ds fs))))
+
   says : (c : HostCall) (k : Held) (y : Reply) → Called bytes g c k y → Says x t c g k y
   unfolding traceAll
   says (X.step a n out) k y c =
@@ -417,6 +476,11 @@ module _ (s : Settings) (b : Beginning) (bytes p : List ℕ) (ds : List Call) {g
       (ap (λ (q : Standing × List ℕ × List ℕ × List ℕ). q .2) e) (ap (λ (q : Standing × List ℕ × List ℕ × List ℕ). q .1) e)
       (ap (λ (q : Standing × List ℕ × List ℕ × List ℕ). q .3) e)
   says (X.report file q m) k y c = report-told file q m c
+  says (X.report-each ps m) k y c =
+      record {
+        position = all-position ps m k y c;
+        four = λ f d. ap (λ (q : ℕ × Standing). q .1 .0) (c .ensures) ∙ sym (four-written bytes ps m d);
+      }
   says state k y c = c .1 ∙ (ap (λ (q : Run). stateNumber (q .state)) (v .run) ∙ ap stateNumber (w .follows .state))
   says metrics k y c = c .1 ∙ (ap (λ (q : Run). metricsWords (q .metrics)) (v .run) ∙ ap metricsWords (counters-traced s b bytes p ds))
   says position k y c = c .1 ∙ (ap (λ (q : Run). cellPosition (cellIn q) .0) (v .run) ∙ ap (λ (q : Page). q .position .0) (page-traced s b bytes p ds))

@@ -11,7 +11,7 @@ use Rattle.worker.specs.declared.Run.{Run}
 use Rattle.worker.specs.Answer.{lent}
 use Rattle.worker.specs.Step.{Lent, Outcome, stepOf}
 use Rattle.advance.specs.Advance.{advanceOf}
-use Rattle.ffi_words.specs.Calls.{standing, stepCall, openCall, alreadyOpenCall, reportCall, stateCall, metricsCall, positionCall, lastSentCall}
+use Rattle.ffi_words.specs.Calls.{standing, stepCall, openCall, alreadyOpenCall, reportCall, reportEachCall, stateCall, metricsCall, positionCall, lastSentCall}
 use Rattle.ffi_answers.specs.Next.{nextStepCall}
 use Rattle.ffi_answers.specs.Parts.{errorPartCall}
 use Rattle.ffi_answers.specs.Pages.{pageCall}
@@ -20,12 +20,13 @@ use Rattle.thm_any_calls.specs.Calls.{Beginning, opens, is-open}
 use Rattle.thm_host_calls.specs.Mixed as M
 use Rattle.thm_host_calls.specs.HostWords.{word, moment, Words, inputBy}
 
--- an exported call: a step or an advance with so many of the next untaken bytes and an output; a report of a file at a position and a moment; a look
--- at the state, the metrics, the position, the last status, the error with a payload buffer's length, the next step with that length and the queue's
--- word, the page with an output
+-- an exported call: a step or an advance with so many of the next untaken bytes and an output; a report of a file at a position and a moment; one of
+-- all files at four positions and a moment; a look at the state, the metrics, the position, the last status, the error with a payload buffer's length,
+-- the next step with that length and the queue's word, the page with an output
 pub data HostCall : Type 0 where
   step advance : Words → ℕ → List ℕ → HostCall
   report : ℕ → ℕ → ℕ → HostCall
+  report-each : List ℕ → ℕ → HostCall
   state metrics position last-sent : HostCall
   error-part : ℕ → HostCall
   next-step : ℕ → ℕ → HostCall
@@ -59,11 +60,18 @@ pub record Reported (h : Held) (file p m : ℕ) (g : Held) (y : Reply) : Type 0 
   pub payload : g .payload ≡ h .payload
   pub taken : g .taken ≡ h .taken
 
+-- `rufflesquash_report_each`
+pub record ReportedEach (h : Held) (ps : List ℕ) (m : ℕ) (g : Held) (y : Reply) : Type 0 where
+  pub ensures : (y .result, standing (g .words)) ≡ reportEachCall (h .words) ps m
+  pub payload : g .payload ≡ h .payload
+  pub taken : g .taken ≡ h .taken
+
 -- one exported call, from what the host has before to what it has after, and its reply; a look changes nothing
 abbrev pub Called : List ℕ → Held → HostCall → Held → Reply → Type 0
 Called bytes h (step a n out) g y = Stepped stepOf bytes h a n out g y
 Called bytes h (advance a n out) g y = Stepped advanceOf bytes h a n out g y
 Called bytes h (report file p m) g y = Reported h file p m g y
+Called bytes h (report-each ps m) g y = ReportedEach h ps m g y
 Called bytes h state g y = (g ≡ h) × (y .result ≡ stateCall (h .words))
 Called bytes h metrics g y = (g ≡ h) × (y .answer ≡ metricsCall (h .words))
 Called bytes h position g y = (g ≡ h) × (y .result ≡ positionCall (h .words))
@@ -84,6 +92,9 @@ abbrev pub mixedIn : HostCall → List M.Call
 mixedIn (step a n out) = M.step (inputBy a) n out ∷ []
 mixedIn (advance a n out) = M.advance (inputBy a) n out ∷ []
 mixedIn (report file p m) = M.report file (lsn p) (moment m) ∷ []
+mixedIn (report-each ps m) =
+    M.report 0 (lsn (word ps 0)) (moment m) ∷ M.report 1 (lsn (word ps 1)) (moment m) ∷ M.report 2 (lsn (word ps 2)) (moment m)
+    ∷ M.report 3 (lsn (word ps 3)) (moment m) ∷ []
 mixedIn state = []
 mixedIn metrics = []
 mixedIn position = []

@@ -33,7 +33,7 @@ use Rattle.thm_any_calls.specs.Views.{hasFailed}
 use Rattle.thm_any_calls.specs.HandsOn.{NoQueueCloses}
 use Rattle.thm_page_shown.specs.PageShown.{pageAfter}
 use Rattle.thm_host_calls.specs.HostWords.{word, flag, moment, settingsBy, queueBy, inputBy, waitWords, TellsEvent, errorWords}
-use Rattle.thm_host_calls.specs.Exported.{HostCall, step, advance, report, state, metrics, position, last-sent, error-part, next-step, page, Held, Reply, Called, CalledAll, Opened, heldFirst}
+use Rattle.thm_host_calls.specs.Exported.{HostCall, step, advance, report, report-each, state, metrics, position, last-sent, error-part, next-step, page, Held, Reply, Called, CalledAll, Opened, heldFirst}
 
 -- ---- the steps and reports that a call stands for
 
@@ -59,11 +59,14 @@ upTo (suc k) s h i n out =
     let y : Response = responseOf s h i n (length out) in
     C.step i n out ∷ pick (isQuiet y) (upTo k s (traceOne s h (C.step i n out)) i (n - y .taken) out) []
 
--- an advance is up to four steps, a look none
+-- an advance is up to four steps, a report of all files is four reports, a look is none
 abbrev pub stepsIn : Setup → Trace → HostCall → List Call
 stepsIn s h (step a n out) = C.step (inputBy a) n out ∷ []
 stepsIn s h (advance a n out) = upTo 4 s h (inputBy a) n out
 stepsIn s h (report file p m) = C.report file (lsn p) (moment m) ∷ []
+stepsIn s h (report-each ps m) =
+    C.report 0 (lsn (word ps 0)) (moment m) ∷ C.report 1 (lsn (word ps 1)) (moment m) ∷ C.report 2 (lsn (word ps 2)) (moment m)
+    ∷ C.report 3 (lsn (word ps 3)) (moment m) ∷ []
 stepsIn s h state = []
 stepsIn s h metrics = []
 stepsIn s h position = []
@@ -177,6 +180,13 @@ pub record ReportTold (file : ℕ) (b a : Held) (y : Reply) : Type 0 where
   pub refusal : y .result ≡ pick (ltb 3 file) 31 0
   pub words : 3 < file → a .words ≡ b .words
 
+-- a report of all files answers what a status would confirm then, and leaves the words that four single reports leave
+pub record ReportEachTold (s : Setup) (h : Trace) (ps : List ℕ) (m : ℕ) (b a : Held) (y : Reply) : Type 0 where
+  pub position : y .result ≡ confirmedOf (s .start) (after s h (report-each ps m)) .0
+  pub four : (g : Held)
+      → CalledAll (s .bytes) b (report 0 (word ps 0) m ∷ report 1 (word ps 1) m ∷ report 2 (word ps 2) m ∷ report 3 (word ps 3) m ∷ []) g
+      → a .words ≡ g .words
+
 -- a page, of its text: 4 and nothing written where the output is too short
 abbrev pub pageLeft : List ℕ → List ℕ → (ℕ × ℕ) × List ℕ
 pageLeft text out = pick (ltb (length out) (length text)) ((4, 0), out) ((0, length text), onto text out)
@@ -191,6 +201,7 @@ abbrev pub Says : Setup → Trace → HostCall → Held → Held → Reply → T
 Says s h (step w n out) b a y = StepTold s h (after s h (step w n out)) out (a .payload) y
 Says s h (advance w n out) b a y = StepTold s h (after s h (advance w n out)) out (a .payload) y
 Says s h (report file p m) b a y = ReportTold file b a y
+Says s h (report-each ps m) b a y = ReportEachTold s h ps m b a y
 Says s h state b a y = y .result ≡ placeOf (stateAfter (s .opening) h)
 Says s h metrics b a y =
     y .answer

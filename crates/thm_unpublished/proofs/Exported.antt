@@ -21,7 +21,7 @@ use Rattle.worker.specs.Events as E
 use Rattle.worker.specs.Session.{Opened as OpenedRun, openOf, alreadyOpenOf, reportOf}
 use Rattle.worker.specs.Step.{Lent, Outcome, stepOf}
 use Rattle.advance.specs.Advance.{advanceOf}
-use Rattle.ffi_words.specs.Calls.{Standing, standing, written, answered, stepLeft, unlessRefused, reportCall, stateCall, metricsCall, positionCall, lastSentCall}
+use Rattle.ffi_words.specs.Calls.{Standing, standing, written, answered, stepLeft, unlessRefused, reportCall, reportEachCall, stateCall, metricsCall, positionCall, lastSentCall}
 use Rattle.ffi_words.specs.Words.{wordsOf, runOf}
 use Rattle.ffi_words.specs.Step.{clipped, answerWords}
 use Rattle.ffi_answers.specs.Next.{nextStepCall}
@@ -39,7 +39,7 @@ use Rattle.thm_unpublished.specs.Alike.{Alike}
 use Rattle.thm_unpublished.specs.Same.{Same}
 use Rattle.thm_unpublished.specs.Unpublished.{AlikeCalls, Indistinct}
 use Rattle.thm_unpublished.specs.Unpublished as U
-use Rattle.thm_unpublished.specs.Exported.{AlikeCall, step, advance, report, state, metrics, position, last-sent, error-part, next-step, page, AlikeHostCalls, none, next}
+use Rattle.thm_unpublished.specs.Exported.{AlikeCall, step, advance, report, report-each, state, metrics, position, last-sent, error-part, next-step, page, AlikeHostCalls, none, next}
 use Rattle.thm_unpublished.specs.Exported.{Writes, outputOf, RepliesAlike, HeldAlike, Exported-alike, Exported-indistinct}
 use Rattle.thm_unpublished.proofs.Contained.{hidden-is-alike}
 use Rattle.thm_unpublished.proofs.Calls.{alike-indistinct, writes-over}
@@ -52,6 +52,7 @@ calls-alike none = U.none
 calls-alike (next (step l) h) = U.step l (calls-alike h)
 calls-alike (next (advance l) h) = U.advance l (calls-alike h)
 calls-alike (next report h) = U.report (calls-alike h)
+calls-alike (next report-each h) = U.report (U.report (U.report (U.report (calls-alike h))))
 calls-alike (next state h) = calls-alike h
 calls-alike (next metrics h) = calls-alike h
 calls-alike (next position h) = calls-alike h
@@ -94,6 +95,7 @@ calls-own bytes [] X.none w = w
 calls-own bytes (X.step a n out ∷ cs) (X.next y c d) w = calls-own bytes cs d (step-own stepOf bytes a n out c)
 calls-own bytes (X.advance a n out ∷ cs) (X.next y c d) w = calls-own bytes cs d (step-own advanceOf bytes a n out c)
 calls-own bytes (X.report file p m ∷ cs) (X.next y c d) w = calls-own bytes cs d (report-own file p m c w)
+calls-own bytes (X.report-each ps m ∷ cs) (X.next y c d) w = calls-own bytes cs d (own-written _ (ap (λ (x : ℕ × Standing). x .1) (c .ensures)))
 calls-own bytes (X.state ∷ cs) (X.next y c d) w = calls-own bytes cs d (look-own (c .0) w)
 calls-own bytes (X.metrics ∷ cs) (X.next y c d) w = calls-own bytes cs d (look-own (c .0) w)
 calls-own bytes (X.position ∷ cs) (X.next y c d) w = calls-own bytes cs d (look-own (c .0) w)
@@ -200,6 +202,9 @@ module _ (a b : List ℕ) {g g' : Held} {z z' : Played} (v : Stands g z) (v' : S
   replies (report {file = file} {p = p} {m = m}) k k' y y' c c' =
       ap (λ (x : ℕ × Standing). x .0) (c .ensures)
       ∙ (ap (λ (x : List ℕ). reportCall x file p m .0) ew ∙ sym (ap (λ (x : ℕ × Standing). x .0) (c' .ensures)))
+  replies (report-each {ps = ps} {m = m}) k k' y y' c c' =
+      ap (λ (x : ℕ × Standing). x .0) (c .ensures)
+      ∙ (ap (λ (x : List ℕ). reportEachCall x ps m .0) ew ∙ sym (ap (λ (x : ℕ × Standing). x .0) (c' .ensures)))
   replies state k k' y y' c c' = c .1 ∙ (ap stateCall ew ∙ sym (c' .1))
   replies metrics k k' y y' c c' = c .1 ∙ (ap metricsCall ew ∙ sym (c' .1))
   replies position k k' y y' c c' = c .1 ∙ (ap positionCall ew ∙ sym (c' .1))

@@ -20,6 +20,7 @@ pub data AlikeCall : HostCall → HostCall → Type 0 where
   step : {a : Words} {n : ℕ} {out out' : List ℕ} → length out ≡ length out' → AlikeCall (X.step a n out) (X.step a n out')
   advance : {a : Words} {n : ℕ} {out out' : List ℕ} → length out ≡ length out' → AlikeCall (X.advance a n out) (X.advance a n out')
   report : {file p m : ℕ} → AlikeCall (X.report file p m) (X.report file p m)
+  report-each : {ps : List ℕ} {m : ℕ} → AlikeCall (X.report-each ps m) (X.report-each ps m)
   state : AlikeCall X.state X.state
   metrics : AlikeCall X.metrics X.metrics
   position : AlikeCall X.position X.position
@@ -47,6 +48,7 @@ abbrev pub outputOf : HostCall → List ℕ
 outputOf (X.step a n out) = out
 outputOf (X.advance a n out) = out
 outputOf (X.report file p m) = []
+outputOf (X.report-each ps m) = []
 outputOf X.state = []
 outputOf X.metrics = []
 outputOf X.position = []
@@ -60,6 +62,7 @@ abbrev pub RepliesAlike : HostCall → List ℕ → Reply → Reply → Type 0
 RepliesAlike (X.step a n out) out' y y' = (y .answer ≡ y' .answer) × Writes out out' 2 y y'
 RepliesAlike (X.advance a n out) out' y y' = (y .answer ≡ y' .answer) × Writes out out' 2 y y'
 RepliesAlike (X.report file p m) out' y y' = y .result ≡ y' .result
+RepliesAlike (X.report-each ps m) out' y y' = y .result ≡ y' .result
 RepliesAlike X.state out' y y' = y .result ≡ y' .result
 RepliesAlike X.metrics out' y y' = y .answer ≡ y' .answer
 RepliesAlike X.position out' y y' = y .result ≡ y' .result

@@ -7,7 +7,7 @@
 // ---- The interface: its number grows with every change of a function, of a constant or of what they mean.
 
 /// A host compares this number, which it was built with, with the one that `rufflesquash_abi` answers.
-pub const ABI: u64 = 13;
+pub const ABI: u64 = 14;
 
 // ---- Settings: intervals are nanoseconds, a flag is true unless 0.
 
@@ -43,6 +43,8 @@ pub const QUERY_WORDS: usize = 4;
 
 /// How many files a run has.
 pub const FILES: u64 = 4;
+/// How many positions are handed in where each file is reported for, in the order of their numbers.
+pub const POSITIONS_WORDS: usize = 4;
 
 // ---- States of a run: every other number is `STATE_ENDED`.
 
@@ -539,6 +541,10 @@ extern "C" {
     /// A status confirms the smallest over the four files of the largest of the start and that file's reports; a host with fewer files reports for
     /// all four.
     pub fn rufflesquash_report(run: *mut [u64; RUN_WORDS], file: u64, position: u64, moment: u64) -> u64;
+
+    /// Each of the four files has applied all before its position: reports of the files 0 to 3, in this order and at one moment, of which none is
+    /// refused. Answers what a status would confirm now.
+    pub fn rufflesquash_report_each(run: *mut [u64; RUN_WORDS], positions: *const [u64; POSITIONS_WORDS], moment: u64) -> u64;
 
     /// When a step moves next while no byte is unread, the input has not ended, no stop is requested, the queue stays as it is and nothing is
     /// reported.
