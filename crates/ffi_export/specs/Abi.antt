@@ -5,8 +5,8 @@ use mathlib.Core.Path.{_≡_}
 
 -- `rufflesquash_abi`
 abbrev pub abiCall : ℕ
-abiCall = 13
+abiCall = 14
 
 -- literally
 abbrev pub Abi-number : Type 0
-Abi-number = abiCall ≡ 13
+Abi-number = abiCall ≡ 14

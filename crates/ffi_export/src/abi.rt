@@ -34,4 +34,4 @@
 // ---- the interface: its number grows with every change of a function, of a constant or of what they mean
 
 // A host compares this number, which it was built with, with the one that `rufflesquash_abi` answers.
-pub const ABI: u64 = 13;
+pub const ABI: u64 = 14;
