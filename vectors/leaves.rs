@@ -73,16 +73,17 @@ impl Vectors {
         writeln!(self.lines, "{line}").unwrap();
     }
 
-    /// Kind `l` is the plain path, `u` the one by the table.
+    /// Kind `l` is the plain path, `u` the writer as it is called, `U` the one by the table throughout.
     fn lossy(&mut self, kind: u8, text: &[u8], out_len: usize, fill: u8) {
         let shown = String::from_utf8_lossy(text).into_owned();
         self.marked(kind, out_len, fill, text, shown.as_bytes(), marks(text));
     }
 
-    fn lossy_around(&mut self, text: &[u8]) {
+    fn lossy_around(&mut self, kinds: &[u8], text: &[u8]) {
         let shown = String::from_utf8_lossy(text).into_owned();
-        self.marked_around(b'l', text, shown.as_bytes(), marks(text));
-        self.marked_around(b'u', text, shown.as_bytes(), marks(text));
+        for kind in kinds {
+            self.marked_around(*kind, text, shown.as_bytes(), marks(text));
+        }
     }
 
     /// How far the text is well-formed.
@@ -252,17 +253,18 @@ fn lossy_texts(v: &mut Vectors, draw: &mut Draw) {
         &[0xED, 0xA0, 0x80],
     ];
     for text in standard {
-        v.lossy_around(text);
+        v.lossy_around(b"luU", text);
         v.prefix(text);
         for n in 0..text.len() {
-            v.lossy_roomy(b'l', &text[..n]);
-            v.lossy_roomy(b'u', &text[..n]);
+            for kind in *b"luU" {
+                v.lossy_roomy(kind, &text[..n]);
+            }
         }
     }
     // a byte that is ill-formed within a character is looked at again; the end of the text within one is one mark
     let again: [&[u8]; 4] = [&[0xE2, 0x42], &[0xE2, 0xE2, 0x82, 0xAC], &[0xF0, 0x9F, 0xC3, 0xA4], &[0xC3, 0xF4, 0x8F]];
     for text in again {
-        v.lossy_around(text);
+        v.lossy_around(b"luU", text);
     }
     // U+FFFD of the text's own, alone, twice, cut, and beside ill-formed parts
     let own: [&[u8]; 6] = [
@@ -274,13 +276,14 @@ fn lossy_texts(v: &mut Vectors, draw: &mut Draw) {
         &[0xEF, 0xEF, 0xBF, 0xBD, 0xBF, 0xBD],
     ];
     for text in own {
-        v.lossy_around(text);
+        v.lossy_around(b"luU", text);
         v.prefix(text);
     }
     prefixes(v);
     for b in 0..=255u8 {
-        v.lossy_roomy(b'l', &[b]);
-        v.lossy_roomy(b'u', &[b]);
+        for kind in *b"luU" {
+            v.lossy_roomy(kind, &[b]);
+        }
     }
     lossy_edges(v);
     lossy_mixed(v, draw);
@@ -292,7 +295,7 @@ fn lossy_texts(v: &mut Vectors, draw: &mut Draw) {
     v.lossy(b'u', &"Ω".repeat(32_768).into_bytes(), 65_536, 0x11);
 }
 
-/// Characters of one and two bytes, which the table path passes in blocks of 32 bytes, with something else at each place of the first blocks; and
+/// Characters of one and two bytes, which the writer passes in blocks of 32 bytes, with something else at each place of the first blocks; and
 /// what stands where no block passes.
 fn lossy_blocks(v: &mut Vectors) {
     let text = "Wystawa w głównej sali: η έκθεση ανοίγει στις δέκα.".as_bytes();
@@ -338,14 +341,14 @@ fn lossy_edges(v: &mut Vectors) {
     let later = [0x7F, 0x80, 0xBF, 0xC0];
     for a in first {
         for b in second {
-            for kind in *b"lu" {
+            for kind in *b"lU" {
                 v.lossy_roomy(kind, &[a, b]);
                 v.lossy_roomy(kind, &[a, b, 0x41]);
             }
-            for c in later {
+            for (i, c) in later.into_iter().enumerate() {
                 v.lossy_roomy(b'l', &[a, b, c]);
-                for d in later {
-                    v.lossy_roomy(b'u', &[a, b, c, d]);
+                for (j, d) in later.into_iter().enumerate() {
+                    v.lossy_roomy(b"uU"[(i + j) % 2], &[a, b, c, d]);
                 }
             }
         }
@@ -372,15 +375,15 @@ fn lossy_mixed(v: &mut Vectors, draw: &mut Draw) {
         &[0xF4, 0x90],
         &[0x00],
     ];
-    for _ in 0..200 {
+    for i in 0..200 {
         let mut text = Vec::new();
         for _ in 0..draw.below(12) {
             text.extend(*draw.pick(&pieces));
         }
-        v.lossy_around(&text);
+        v.lossy_around([b"lu", b"uU", b"Ul"][i % 3], &text);
     }
-    for kind in *b"lu" {
-        for _ in 0..200 {
+    for kind in *b"luU" {
+        for _ in 0..140 {
             let n = draw.below(40);
             let text: Vec<u8> = (0..n).map(|_| draw.next() as u8).collect();
             v.lossy_roomy(kind, &text);

@@ -52,7 +52,7 @@ fn text_of(kind: &str, text: &[u8]) -> Vec<u8> {
         "q" => framed(b'Q', &[text, &[0]].concat()),
         "y" => framed(b'd', text),
         // ASCII is its own lossy text
-        "l" => text.to_vec(),
+        "u" | "U" => text.to_vec(),
         // a field `n` that no zero byte ends is none
         _ => b"unknown server error".to_vec(),
     }
@@ -69,7 +69,7 @@ fn names_of(kind: &str, names: &[Vec<u8>; 2]) -> Vec<u8> {
 
 fn writers() -> String {
     let mut lines = String::new();
-    for kind in ["q", "y", "l", "e", "o", "s"] {
+    for kind in ["q", "y", "u", "U", "e", "o", "s"] {
         for (lent, room) in [(LIMIT + 1, SHORT), (LIMIT, SHORT), (LIMIT + 1, LONG), (LIMIT, LONG)] {
             let text = match kind {
                 "o" | "s" => names_of(kind, &[vec![b'n'; lent - 3], b"nnn".to_vec()]),

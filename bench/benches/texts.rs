@@ -1,5 +1,5 @@
-//! Writes lossy texts with the Rattle functions, on the plain path and by the table, and with `String::from_utf8_lossy`, each into a lent buffer, and
-//! finds how far a text is well-formed; results compared. MB/s.
+//! Writes lossy texts with the Rattle functions, on the plain path, by the table throughout and as people call it, and with `String::from_utf8_lossy`,
+//! each into a lent buffer, and finds how far a text is well-formed; results compared. MB/s.
 //! `cargo bench` prints what it measured; `cargo test --benches` only compares.
 
 use bench::measuring;
@@ -8,15 +8,22 @@ use std::time::Instant;
 
 extern "C" {
     fn bench_lossy(text: *const u8, text_len: usize, out: *mut u8, out_len: usize) -> usize;
+    fn bench_lossy_by_table(text: *const u8, text_len: usize, out: *mut u8, out_len: usize) -> usize;
     fn bench_lossy_plain(text: *const u8, text_len: usize, out: *mut u8, out_len: usize) -> usize;
     fn bench_well_formed_prefix(text: *const u8, text_len: usize) -> usize;
     fn bench_well_formed_prefix_plain(text: *const u8, text_len: usize) -> usize;
 }
 
-/// By the table.
-fn table(text: &[u8], out: &mut [u8]) -> usize {
+/// As people call it.
+fn default(text: &[u8], out: &mut [u8]) -> usize {
     // SAFETY: both slices are lent whole and do not overlap.
     unsafe { bench_lossy(text.as_ptr(), text.len(), out.as_mut_ptr(), out.len()) }
+}
+
+/// By the table throughout, a byte at a time.
+fn table(text: &[u8], out: &mut [u8]) -> usize {
+    // SAFETY: both slices are lent whole and do not overlap.
+    unsafe { bench_lossy_by_table(text.as_ptr(), text.len(), out.as_mut_ptr(), out.len()) }
 }
 
 /// A part at a time.
@@ -31,7 +38,7 @@ fn library(text: &[u8], out: &mut [u8]) -> usize {
     shown.len()
 }
 
-fn table_prefix(text: &[u8]) -> usize {
+fn default_prefix(text: &[u8]) -> usize {
     // SAFETY: the slice is lent whole.
     unsafe { bench_well_formed_prefix(text.as_ptr(), text.len()) }
 }
@@ -86,13 +93,13 @@ fn speed(text: &[u8], mut call: impl FnMut(&[u8]) -> usize) -> f64 {
 fn compared(name: &str, text: &[u8]) {
     let mut theirs = vec![0; 3 * text.len()];
     let length = library(text, &mut theirs);
-    for path in [plain, table] {
+    for path in [plain, table, default] {
         let mut ours = vec![0; 3 * text.len()];
         assert_eq!(path(text, &mut ours), length, "{name}");
         assert_eq!(ours, theirs, "{name}");
     }
     assert_eq!(plain_prefix(text), library_prefix(text), "{name}");
-    assert_eq!(table_prefix(text), library_prefix(text), "{name}");
+    assert_eq!(default_prefix(text), library_prefix(text), "{name}");
 }
 
 fn main() {
@@ -108,8 +115,8 @@ fn main() {
         ("garbled", garbled),
     ];
     if !check {
-        println!("| text | bytes | plain | table | library | plain / table, time | table / library, time | prefix, plain | prefix, table | `valid_up_to` |");
-        println!("|---|---|---|---|---|---|---|---|---|---|");
+        println!("| text | bytes | plain | table | default | library | plain / default, time | table / default, time | default / library, time | prefix, plain | prefix, default | `valid_up_to` |");
+        println!("|---|---|---|---|---|---|---|---|---|---|---|---|");
     }
     for (name, make) in texts {
         for length in [100, 10_000, 1_000_000] {
@@ -119,16 +126,17 @@ fn main() {
                 continue;
             }
             let mut out = vec![0; 3 * text.len()];
-            let [plain, table, library] = [plain, table, library].map(|path| speed(&text, |text| path(text, &mut out)));
+            let [plain, table, default, library] = [plain, table, default, library].map(|path| speed(&text, |text| path(text, &mut out)));
             // Of a text that is soon ill-formed there is nothing to measure.
             let prefix = match library_prefix(&text) == text.len() {
-                true => [plain_prefix, table_prefix, library_prefix].map(|path| format!("{:.0}", speed(&text, path))).join(" | "),
+                true => [plain_prefix, default_prefix, library_prefix].map(|path| format!("{:.0}", speed(&text, path))).join(" | "),
                 false => "- | - | -".to_string(),
             };
-            println!("| {name} | {length} | {plain:.0} | {table:.0} | {library:.0} | {:.2} | {:.2} | {prefix} |", table / plain, library / table);
+            let times = [default / plain, default / table, library / default].map(|ratio| format!("{ratio:.2}")).join(" | ");
+            println!("| {name} | {length} | {plain:.0} | {table:.0} | {default:.0} | {library:.0} | {times} | {prefix} |");
         }
     }
     if check {
-        println!("bench: lossy texts, both paths and the library alike");
+        println!("bench: lossy texts, three paths and the library alike");
     }
 }

@@ -364,6 +364,10 @@ uint64_t rufflesquash_page(const uint64_t run[RUFFLESQUASH_RUN_WORDS], uint8_t *
 /* The lossy text of bytes, such as a prefix. Answers the refusal (25, 4). */
 uint64_t rufflesquash_lossy(const uint8_t *text, size_t text_len, uint8_t *out, size_t out_len, uint64_t *written, uint64_t *marks);
 
+/* The same, where every byte is looked up in the constant table of UTF-8's states, one after the other. It answers and writes what
+ * rufflesquash_lossy does, which is faster. */
+uint64_t rufflesquash_lossy_by_table(const uint8_t *text, size_t text_len, uint8_t *out, size_t out_len, uint64_t *written, uint64_t *marks);
+
 /* The length of the longest well-formed beginning of a text of any length. Refuses nothing. */
 uint64_t rufflesquash_well_formed_prefix(const uint8_t *text, size_t text_len);
 

@@ -163,6 +163,10 @@ pub fn lossy(text: &[u8], out: &mut [u8]) -> Shown {
     shown(rufflesquash_lossy, text, out)
 }
 
+pub fn lossy_by_table(text: &[u8], out: &mut [u8]) -> Shown {
+    shown(rufflesquash_lossy_by_table, text, out)
+}
+
 pub fn well_formed_prefix(text: &[u8]) -> u64 {
     // SAFETY: the slice is lent whole.
     unsafe { rufflesquash_well_formed_prefix(text.as_ptr(), text.len()) }

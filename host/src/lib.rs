@@ -105,6 +105,20 @@ pub fn lossy(text: &[u8], out: &mut [u8]) -> Result<Lossy, Refusal> {
     shown(ffi::lossy(text, out))
 }
 
+/// The same, where every byte is looked up in the constant table of UTF-8's states, one after the other. It answers and writes what [`lossy`] does,
+/// which is faster.
+///
+/// ```
+/// use rufflesquash::{lossy_by_table, Lossy};
+///
+/// let mut out = [0; 16];
+/// assert_eq!(lossy_by_table(b"gr\xFCn", &mut out)?, Lossy { bytes: 6, marks: 1 });
+/// # Ok::<(), rufflesquash::Refusal>(())
+/// ```
+pub fn lossy_by_table(text: &[u8], out: &mut [u8]) -> Result<Lossy, Refusal> {
+    shown(ffi::lossy_by_table(text, out))
+}
+
 /// The length of the longest well-formed beginning of a text of any length: the largest n whose first n bytes are UTF-8.
 ///
 /// ```

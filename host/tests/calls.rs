@@ -3,7 +3,7 @@
 mod common;
 
 use common::*;
-use rufflesquash::{error_text, lossy, well_formed_prefix, AuthRequest, Column, DataRow, Event, Lossy, Lsn, Metrics, Moment, NextStep};
+use rufflesquash::{error_text, lossy, lossy_by_table, well_formed_prefix, AuthRequest, Column, DataRow, Event, Lossy, Lsn, Metrics, Moment, NextStep};
 use rufflesquash::{ProgressCell, Queue, Refusal, Run, Settings, State, Text, PAGE};
 use std::time::Duration;
 
@@ -279,6 +279,27 @@ fn marks_are_the_ill_formed_parts_that_are_shown() {
     assert_eq!(marks(b"M\xFF\xFF\0Ma\0"), Ok(0));
     assert_eq!(marks(b"C\xFF\0"), Ok(1));
     assert_eq!(marks(b"D\xFF\0"), Ok(0));
+}
+
+#[test]
+fn the_table_gives_the_same_text_and_marks() {
+    let long = "żółw, 語 und \u{1F422}: ".repeat(2_000);
+    let mut garbled = long.clone().into_bytes();
+    garbled.iter_mut().step_by(37).for_each(|b| *b = 0xE2);
+    let texts: [&[u8]; 8] = [b"", b"a", b"\xE2\x82", b"\xE2\xE2\x82\xAC", b"\xED\xA0\x80", b"\xF0\x9F\x98", long.as_bytes(), &garbled];
+    for text in texts {
+        let expected = String::from_utf8_lossy(text);
+        for room in [3 * text.len(), expected.len(), expected.len().saturating_sub(1)] {
+            let (mut out, mut other) = (vec![FILL; room], vec![FILL; room]);
+            let shown = lossy_by_table(text, &mut out);
+            assert_eq!(shown, lossy(text, &mut other));
+            assert_eq!(out, other);
+            match shown {
+                Ok(shown) => assert_eq!(out[..shown.bytes], *expected.as_bytes()),
+                Err(_) => assert!(room < expected.len()),
+            }
+        }
+    }
 }
 
 #[test]

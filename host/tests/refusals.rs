@@ -3,7 +3,7 @@
 mod common;
 
 use common::*;
-use rufflesquash::{error_text, lossy, AuthRequest, DataRow, Lsn, Moment, Refusal, Run};
+use rufflesquash::{error_text, lossy, lossy_by_table, AuthRequest, DataRow, Lsn, Moment, Refusal, Run};
 use rufflesquash::{Settings, State, Text};
 use std::time::Duration;
 
@@ -236,7 +236,7 @@ fn a_server_error_in_opening_takes_its_message() {
 fn leaves_refuse_long_inputs_before_a_short_output() {
     let long = vec![b'a'; 1_048_577];
     let mut out = [FILL; 4];
-    for leaf in [lossy, error_text] {
+    for leaf in [lossy, lossy_by_table, error_text] {
         assert_eq!(leaf(&long, &mut out), Err(Refusal::InputTooLong));
         assert_eq!(leaf(b"Mabcdefghi\0", &mut out), Err(Refusal::OutputTooShort));
         assert_eq!(out, [FILL; 4]);

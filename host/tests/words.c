@@ -734,6 +734,11 @@ static void texts(void) {
     SAME(rufflesquash_lossy((const uint8_t *)"\xEF\xBF\xBD", 3, room, sizeof room, &n, &marks), 0);
     SAME(n, 3);
     SAME(marks, 0);
+    memset(room, FILL, sizeof room);
+    SAME(rufflesquash_lossy_by_table((const uint8_t *)"a\xE2\x82z\xE2\x82\xAC\xF0\x9F", 9, room, sizeof room, &n, &marks), 0);
+    SAME(n, 11);
+    SAME(marks, 2);
+    BYTES(room, "a\xEF\xBF\xBDz\xE2\x82\xAC\xEF\xBF\xBD\xAA", 12);
     marks = 9;
     SAME(rufflesquash_error_text((const uint8_t *)"C42P01\0Mno slot\0", 17, room, sizeof room, &n, &marks), 0);
     SAME(n, 24);
@@ -756,6 +761,10 @@ static void texts(void) {
     SAME(n, 0);
     SAME(marks, 0);
     n = 9, marks = 9;
+    SAME(rufflesquash_lossy_by_table((const uint8_t *)"\xFFxy", 3, room, 2, &n, &marks), 4);
+    SAME(n, 0);
+    SAME(marks, 0);
+    n = 9, marks = 9;
     SAME(rufflesquash_error_text((const uint8_t *)"M\xFFo slot\0", 10, room, 2, &n, &marks), 4);
     SAME(n, 0);
     SAME(marks, 0);
@@ -769,6 +778,10 @@ static void texts(void) {
     memset(too_long, 0xFF, sizeof too_long);
     n = 9, marks = 9;
     SAME(rufflesquash_lossy(too_long, sizeof too_long, room, 0, &n, &marks), 25);
+    SAME(n, 0);
+    SAME(marks, 0);
+    n = 9, marks = 9;
+    SAME(rufflesquash_lossy_by_table(too_long, sizeof too_long, room, 0, &n, &marks), 25);
     SAME(n, 0);
     SAME(marks, 0);
     n = 9, marks = 9;
@@ -1134,6 +1147,10 @@ static void null_pointers_elsewhere(void) {
     uint8_t room[128];
     SAME(rufflesquash_well_formed_prefix(NULL, 0), 0);
     SAME(rufflesquash_lossy(NULL, 0, NULL, 0, &n, &marks), 0);
+    SAME(n, 0);
+    SAME(marks, 0);
+    n = 9, marks = 9;
+    SAME(rufflesquash_lossy_by_table(NULL, 0, NULL, 0, &n, &marks), 0);
     SAME(n, 0);
     SAME(marks, 0);
     SAME(rufflesquash_error_text(NULL, 0, NULL, 0, &n, &marks), 4);

@@ -56,7 +56,7 @@ pub fn records(mut bytes: &[u8]) -> impl Iterator<Item = Record<'_>> {
 fn room(kind: u8, input: &[u8]) -> usize {
     match kind {
         b'd' => 17,
-        b'l' | b'u' => 3 * input.len(),
+        b'l' | b'u' | b'U' => 3 * input.len(),
         b'e' => 3 * input.len() + 32,
         b'q' | b'y' | b's' | b'o' => 2 * input.len() + 16,
         b't' | b'z' | b'x' => 40,

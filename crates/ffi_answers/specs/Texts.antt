@@ -22,6 +22,10 @@ use Rattle.messages.specs.Fields.{fieldsOf}
 abbrev pub lossyCall : List ℕ → List ℕ → (ℕ × ℕ × ℕ) × List ℕ
 lossyCall text out = withMarks (marksOf text) (writing (length text) (lossyOf text) out)
 
+-- `rufflesquash_lossy_by_table`: the same
+abbrev pub lossyByTableCall : List ℕ → List ℕ → (ℕ × ℕ × ℕ) × List ℕ
+lossyByTableCall text out = withMarks (marksOf text) (writing (length text) (lossyOf text) out)
+
 -- `rufflesquash_well_formed_prefix`
 abbrev pub wellFormedPrefixCall : List ℕ → ℕ
 wellFormedPrefixCall text = stretchOf text

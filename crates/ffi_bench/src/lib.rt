@@ -1,5 +1,5 @@
-// Functions for the benchmark to link: one read by a fresh reader, a CopyData, a boundary, a lossy text and a well-formed beginning by the table
-// and on the plain path, a generated stream, and a relation cache in both layouts.
+// Functions for the benchmark to link: one read by a fresh reader, a CopyData, a boundary, a lossy text and a well-formed beginning as they are
+// found and on the plain path, a lossy text by the table throughout, a generated stream, and a relation cache in both layouts.
 mod caches;
 
 ghost use mathlib.Core.Path.{_≡_};
@@ -122,6 +122,14 @@ pub extern "C" fn bench_lossy_plain(text: &[u8], out: &mut [u8]) -> usize
     ensures { λ r. ⌜ (r, now (out .exit)) ≡ lossyWritten (now (text .entry)) (now (out .entry)) ⌝ }
 {
     bytes_of(lossy::plain::write_lossy(text, out))
+}
+
+// The same by the table throughout.
+#[no_mangle]
+pub extern "C" fn bench_lossy_by_table(text: &[u8], out: &mut [u8]) -> usize
+    ensures { λ r. ⌜ (r, now (out .exit)) ≡ lossyWritten (now (text .entry)) (now (out .entry)) ⌝ }
+{
+    bytes_of(lossy::by_table::write_lossy(text, out))
 }
 
 #[no_mangle]

@@ -20,7 +20,7 @@ ghost use Rattle.ffi_answers.specs.Next.{nextStepCall};
 ghost use Rattle.ffi_answers.specs.Pages.{pageCall};
 ghost use Rattle.ffi_answers.specs.Parts.{errorPartCall};
 ghost use Rattle.ffi_export.specs.Abi.{abiCall};
-ghost use Rattle.ffi_answers.specs.Texts.{lossyCall, wellFormedPrefixCall, errorTextCall, parsePositionCall, displayPositionCall};
+ghost use Rattle.ffi_answers.specs.Texts.{lossyCall, lossyByTableCall, wellFormedPrefixCall, errorTextCall, parsePositionCall, displayPositionCall};
 use ffi_answers::next::next_words;
 use ffi_answers::part::error_words;
 use ffi_answers::reply::lossy_reply;
@@ -322,6 +322,23 @@ pub extern "C" fn rufflesquash_lossy(
     ensures { λ r. ⌜ ((r, now (written .exit), now (marks .exit)), now (out .exit)) ≡ lossyCall (now (text .entry)) (now (out .entry)) ⌝ }
 {
     let reply = lossy_reply(lossy::write_lossy(text, out));
+    *written = reply.written;
+    *marks = reply.marks;
+    reply.refusal
+}
+
+// The same, where every byte is looked up in the constant table of UTF-8's states, one after the other. It answers and writes what `rufflesquash_lossy`
+// does, which is faster.
+#[no_mangle]
+pub extern "C" fn rufflesquash_lossy_by_table(
+    text: &[u8],
+    out: &mut [u8],
+    written: &mut u64,
+    marks: &mut u64,
+) -> u64
+    ensures { λ r. ⌜ ((r, now (written .exit), now (marks .exit)), now (out .exit)) ≡ lossyByTableCall (now (text .entry)) (now (out .entry)) ⌝ }
+{
+    let reply = lossy_reply(lossy::by_table::write_lossy(text, out));
     *written = reply.written;
     *marks = reply.marks;
     reply.refusal

@@ -5,6 +5,7 @@ mod Pairs
 mod Turns
 pub mod Parts
 pub mod Stretches
+mod Written
 pub mod Marks
 pub mod Encoding
 pub mod Automaton

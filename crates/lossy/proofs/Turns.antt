@@ -4,18 +4,21 @@ use mathlib.Core.Bool.{Bool, true, false}
 use mathlib.Core.List.{List, _∷_, _++_}
 use Prim.Native.Nat.{ℕ, suc, _+_, _≤_, _<_}
 use native.Mathlib.Omega.{arith}
-use lib.ListN.{length, take, drop, getD, length-drop}
+use lib.Dec.{eqb}
+use lib.ListN.{length, take, drop, getD, length-drop, drop-of-length-le}
 use lib.Seq.{drop-cons, drop-drop, length-take-le}
+use borrow.Author.Tests.{eqb-true, eqb-false}
 use Rattle.wire.specs.Bytes.{pick}
 use Rattle.utf8.specs.WellFormed.{table, rowOf}
 use Rattle.lossy.specs.Lossy.{Part, well, ill, partBy, bytesOf, shown, lossyOf}
 use Rattle.lossy.specs.Marks.{marksIn, marksOf}
 use Rattle.lossy.specs.Stretch.{stretchOf}
 use Rattle.lossy.specs.Blocks.{PassedTo}
-use Rattle.lossy.specs.Code.{partFound, PartAt, WalkedTo}
+use Rattle.lossy.specs.Code.{partFound, PartAt, StretchAt, WalkedTo}
 use Rattle.lossy.specs.declared.part.Part.{Part as Cut}
 use Rattle.lossy.specs.declared.Stretch.{Stretch}
-use Rattle.lossy.proofs.Laws.{bytes-either, lossy-next, marks-next, stretchPart, stretch-next}
+use Rattle.wire.proofs.Laws.{by-test}
+use Rattle.lossy.proofs.Laws.{bytes-either, lossy-next, marks-next, stretchPart, stretch-next, stretch-none}
 
 -- a part that was found to be ill-formed
 pub ill-part : (s : List ℕ) (i : ℕ) (p : Cut) → PartAt s i p → p .well ≡ false → PartAt s i (record { len = p .len; well = false })
@@ -79,3 +82,23 @@ pub walked-ill : (s : List ℕ) (from stop i : ℕ) (p : Cut) → PassedTo s fro
 walked-ill s from stop i p q a w =
     let o : 1 ≤ p .len = a .some in
     record { passed = q; far = λ n. absurd (omega arith); behind = λ n. ill-part s i p a w }
+
+-- a walk to the end of the text finds the stretch
+pub walked-stretch : (s : List ℕ) (i : ℕ) (t : Stretch) → WalkedTo s i (length s) t → StretchAt s i t
+walked-stretch s i t w =
+    by-test (eqb (t .ill) 0)
+    (λ e.
+    let n : t .ill ≡ 0 = eqb-true _ _ e in
+    let h : length s ≤ t .end = w .far n in
+    found (rw (drop-of-length-le s h) stretch-none) (λ m. let g : t .end ≤ length s = w .passed .within in omega arith))
+    (λ e.
+    let f : t .ill ≡ 0 → ⊥ = eqb-false _ _ e in
+    let o : 1 ≤ t .ill = omega (arith, f) in
+    let p = w .behind o in
+    let g : t .end + t .ill ≤ length s = p .ends in
+    found (stretch-ends s (t .end) (record { len = t .ill; well = false }) (omega arith) p refl) (λ m. absurd (omega arith)))
+  where
+    found : stretchOf (drop (t .end) s) ≡ 0 → (t .ill ≡ 0 → t .end ≡ length s) → StretchAt s i t
+    found z l =
+        let e : i + stretchOf (drop i s) ≡ t .end + stretchOf (drop (t .end) s) = w .passed .is in
+        record { is = omega arith; last = l; behind = w .behind }

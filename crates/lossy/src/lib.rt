@@ -1,5 +1,6 @@
 // Lossy text: what String::from_utf8_lossy makes of a byte string.
 mod blocks;
+pub mod by_table;
 mod lookup;
 mod part;
 pub mod plain;

@@ -5,7 +5,8 @@ use crate::writers;
 
 fn is_writer(kind: u8) -> bool {
     match kind {
-        b'd' | b'l' | b'u' | b'e' | b'q' | b'y' | b'z' | b'x' | b't' | b'o' | b's' | b'n' => true,
+        b'd' | b'l' | b'u' | b'U' | b'e' | b'q' | b'y' | b'z' | b'x' | b't' | b'o' | b's' | b'n' =>
+            true,
         _ => false,
     }
 }

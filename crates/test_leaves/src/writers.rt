@@ -65,6 +65,7 @@ fn of_text(kind: u8, input: &[u8], out: &mut [u8]) -> Answer {
         b'y' => written(frontend::write_copy_data(input, out)),
         b'l' => shown(lossy::plain::write_lossy(input, out)),
         b'u' => shown(lossy::write_lossy(input, out)),
+        b'U' => shown(lossy::by_table::write_lossy(input, out)),
         _ => shown(messages::parse_error_response(input, out)),
     }
 }
@@ -97,7 +98,7 @@ fn status(input: &[u8], out: &mut [u8]) -> Answer {
 
 fn write(kind: u8, input: &[u8], out: &mut [u8]) -> Answer {
     match kind {
-        b'q' | b'y' | b'l' | b'u' | b'e' => of_text(kind, input, out),
+        b'q' | b'y' | b'l' | b'u' | b'U' | b'e' => of_text(kind, input, out),
         b'z' | b'x' => of_nothing(kind, out),
         b'd' => display(input, out),
         b't' => status(input, out),
@@ -125,7 +126,7 @@ pub(crate) fn after_fields(kind: u8, input: &[u8], out: &mut [u8], line: &mut [u
     }
     let at = spelled(line, a.refusal, a.count, out);
     match kind {
-        b'l' | b'u' | b'e' => test_lines::number(line, at, a.marks as u64),
+        b'l' | b'u' | b'U' | b'e' => test_lines::number(line, at, a.marks as u64),
         _ => at,
     }
 }

@@ -6,7 +6,8 @@ fn of_text(kind: u8, name: &[u8], text: &[u8], out: &mut [u8]) -> bool {
     match kind {
         b'q' => spelled::written(name, frontend::write_query(text, out), out),
         b'y' => spelled::written(name, frontend::write_copy_data(text, out), out),
-        b'l' => spelled::shown(name, lossy::write_lossy(text, out), out),
+        b'u' => spelled::shown(name, lossy::write_lossy(text, out), out),
+        b'U' => spelled::shown(name, lossy::by_table::write_lossy(text, out), out),
         _ => spelled::shown(name, messages::parse_error_response(text, out), out),
     }
 }
@@ -56,7 +57,8 @@ fn around(kind: u8, bytes: &[u8], short: &mut [u8], long: &mut [u8]) -> bool {
 fn of_texts(bytes: &[u8], short: &mut [u8], long: &mut [u8]) -> bool {
     around(b'q', bytes, short, long);
     around(b'y', bytes, short, long);
-    around(b'l', bytes, short, long);
+    around(b'u', bytes, short, long);
+    around(b'U', bytes, short, long);
     around(b'e', bytes, short, long)
 }
 

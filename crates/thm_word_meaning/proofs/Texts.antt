@@ -56,6 +56,8 @@ pub text-words : Text-words
 text-words =
     record {
       lossy = λ text out. marked (length text) (lossyOf text) (marksOf text) out;
+      lossy-by-table = λ text out. marked (length text) (lossyOf text) (marksOf text) out;
+      either-way = λ text out. refl;
       error-text = λ payload out. marked (length payload) (errorText (fieldsOf payload) payload) (errorMarks (fieldsOf payload) payload) out;
       well-formed-prefix = stretch-is-longest;
     }

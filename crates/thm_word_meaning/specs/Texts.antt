@@ -18,7 +18,7 @@ use Rattle.lsn.specs.Hex.{hexPart}
 use Rattle.lsn.specs.Position.{displayOf}
 use Rattle.messages.specs.ErrorText.{errorText, errorMarks}
 use Rattle.messages.specs.Fields.{fieldsOf}
-use Rattle.ffi_answers.specs.Texts.{lossyCall, wellFormedPrefixCall, errorTextCall, parsePositionCall, displayPositionCall}
+use Rattle.ffi_answers.specs.Texts.{lossyCall, lossyByTableCall, wellFormedPrefixCall, errorTextCall, parsePositionCall, displayPositionCall}
 use Rattle.ffi_answers.specs.Texts.{startupCall, queryCall, copyDoneCall, terminateCall, statusCall}
 
 -- ---- writers
@@ -51,6 +51,9 @@ pub record Client-words : Type 0 where
 -- lossy texts and the texts of errors, with their marks; and the most bytes of a text's beginning that are well-formed
 pub record Text-words : Type 0 where
   pub lossy : (text out : List ℕ) → WritesMarked (length text) (lossyOf text) (marksOf text) out (lossyCall text out)
+  pub lossy-by-table : (text out : List ℕ) → WritesMarked (length text) (lossyOf text) (marksOf text) out (lossyByTableCall text out)
+  -- both calls answer and leave the same
+  pub either-way : (text out : List ℕ) → lossyCall text out ≡ lossyByTableCall text out
   pub error-text : (payload out : List ℕ)
       → WritesMarked (length payload) (errorText (fieldsOf payload) payload) (errorMarks (fieldsOf payload) payload) out (errorTextCall payload out)
   pub well-formed-prefix : (text : List ℕ) → Longest text (wellFormedPrefixCall text)

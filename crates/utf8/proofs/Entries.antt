@@ -1,18 +1,19 @@
--- The rule of the table, tested over the whole of it once, and carried to each entry.
+-- The entries of the table at their places, and what is due in the state of each, tested over all of them once.
 use mathlib.Core.Path.{_≡_, refl, sym, ap, subst, _∙_}
 use mathlib.Core.Bool.{Bool, true, false}
 use mathlib.Core.List.{List, [], _∷_}
 use mathlib.Core.Option.{Option, some, none}
 use Prim.Native.Nat.{ℕ, zero, suc, _+_, _*_, _/_, _%_, _≤_, _<_}
-use native.Mathlib.Nat.{not-suc-le-zero, le-of-suc-le-suc}
+use native.Mathlib.Nat.{add-zero, not-suc-le-zero, le-of-suc-le-suc}
 use native.Mathlib.Omega.{arith}
 use lib.Dec.{T, eqb, ltb}
 use lib.ListN.{length, getD, replicate, length-replicate}
-use borrow.Author.Tests.{eqb-true, ltb-true, ltb-false}
+use borrow.Author.Tests.{eqb-true, ltb-true, ltb-false, le-leb, lt-leb}
 use Rattle.wire.specs.Bytes.{pick}
 use Rattle.wire.proofs.Laws.{by-test, impossible}
 use Rattle.utf8.specs.WellFormed.{Range, table, rowOf}
-use Rattle.utf8.specs.Automaton.{after, states, nth, dueIn, sameRange, sameRanges, placeOf, stateOf, entryOf, IsTable, Entry-leads, Entries-end}
+use Rattle.utf8.specs.Automaton.{after, states, nth, dueIn, sameRange, sameRanges, placeOf, stateOf, entryOf, entriesFrom, entries, looked, IsTable}
+use Rattle.utf8.specs.Automaton.{Entry-leads, Entries-are-table, Looked-is-entry, Entries-end}
 use Rattle.utf8.proofs.Table.{every, at}
 
 -- ---- the test
@@ -22,10 +23,6 @@ sameDue none none = true
 sameDue none (some rs) = false
 sameDue (some qs) none = false
 sameDue (some qs) (some rs) = sameRanges qs rs
-
--- an entry is the state that the ranges give
-abbrev pub right : ℕ → ℕ → Bool
-right k x = eqb x (entryOf (k / 256) (k % 256))
 
 -- in the state of an entry just the ranges are due that are due after the byte; what stands in the list plays no part
 abbrev meant : ℕ → ℕ → Bool
@@ -78,15 +75,26 @@ module _ (k q b : ℕ) (l : b < 256) (e : k ≡ q * 256 + b) where
   byte : k % 256 ≡ b
   byte = omega arith
 
--- one law carries the test of a whole table to each of its entries
-pub entry-at : (xs : List ℕ) → length xs ≡ 2048 → T (every right 0 xs) → IsTable xs
-entry-at xs n t =
+-- the entry at a place of the table
+entry-from : (n k j : ℕ) → j < n → getD (entriesFrom k n) j 0 ≡ entryOf ((k + j) / 256) ((k + j) % 256)
+unfolding entriesFrom
+entry-from zero k j h = absurd (not-suc-le-zero h)
+entry-from (suc n) k zero h = let e : k + 0 ≡ k = add-zero k in rw e
+entry-from (suc n) k (suc j) h = let e : suc k + j ≡ k + suc j = omega arith in rw e at (entry-from n (suc k) j (le-of-suc-le-suc h))
+
+pub entries-are-table : Entries-are-table
+unfolding entries
+entries-are-table =
     record {
       entry = λ q b h l.
           let k : ℕ = q * 256 + b in
-          let m : k < length xs = omega arith in
-          eqb-true (getD xs k 0) (entryOf q b) (rw (state k q b l refl, byte k q b l refl) at (true-of (right k (getD xs k 0)) (at right xs t k m)));
+          let m : k < 2048 = omega arith in
+          let e : 0 + k ≡ k = omega arith in
+          rw (e, state k q b l refl, byte k q b l refl) at (entry-from 2048 0 k m);
     }
+
+pub is-table : {t : List ℕ} → t ≡ entries → IsTable t
+is-table e = subst IsTable (sym e) entries-are-table
 
 due-at : (q b : ℕ) → q < 8 → b < 256 → dueIn (entryOf q b) ≡ after (dueIn q) b
 unfolding all
@@ -112,6 +120,15 @@ unfolding entryOf stateOf
 past q b h = rw (none-due q h)
 
 -- ---- the laws
+
+pub looked-is-entry : Looked-is-entry
+looked-is-entry t i q b l = by-test (ltb q 8) (λ e. below (ltb-true q 8 e)) (λ e. behind (ltb-false q 8 e))
+  where
+    below : q < 8 → looked t q b ≡ entryOf q b
+    below h = let e : 256 * q + b ≡ q * 256 + b = omega arith in rw (lt-leb 8 q h, e) (i .entry q b h l)
+
+    behind : 8 ≤ q → looked t q b ≡ entryOf q b
+    behind h = rw (le-leb 8 q h) (sym (past q b h))
 
 pub entry-leads : Entry-leads
 entry-leads q b l = by-test (ltb q 8) (λ t. below (ltb-true q 8 t)) (λ t. behind (ltb-false q 8 t))

@@ -5,7 +5,7 @@ use mathlib.Core.Bool.{Bool, true, false}
 use mathlib.Core.List.{List, [], _∷_}
 use mathlib.Core.Option.{Option, some, none}
 use Prim.Native.Nat.{ℕ, zero, suc, _+_, _*_, _/_, _%_, _≤_, _<_}
-use lib.Dec.{eqb}
+use lib.Dec.{eqb, leb}
 use lib.ListN.{getD}
 use Rattle.wire.specs.Bytes.{pick}
 use Rattle.utf8.specs.WellFormed.{Range, table, within, rowOf}
@@ -82,7 +82,20 @@ stateOf (some rs) = placeOf states rs
 unfoldable pub entryOf : ℕ → ℕ → ℕ
 entryOf q b = stateOf (after (dueIn q) b)
 
--- the entries of all states and bytes, one after the other
+-- the entries of n places from k on: the one of a state and a byte is at 256 times the state and the byte
+unfoldable pub entriesFrom : ℕ → ℕ → List ℕ
+entriesFrom k zero = []
+entriesFrom k (suc n) = entryOf (k / 256) (k % 256) ∷ entriesFrom (suc k) n
+
+-- the table: the entries of all eight states and 256 bytes
+unfoldable pub entries : List ℕ
+entries = entriesFrom 0 2048
+
+-- what a look-up answers by any table, for any state and byte: the entry, and 8 for a number that is no state
+abbrev pub looked : List ℕ → ℕ → ℕ → ℕ
+looked t q b = pick (leb 8 q) 8 (getD t (256 * q + b) 0)
+
+-- a list has the entries of all states and bytes, one after the other
 pub record IsTable (xs : List ℕ) : Type 0 where
   pub entry : (q b : ℕ) → q < 8 → b < 256 → getD xs (q * 256 + b) 0 ≡ entryOf q b
 
@@ -91,6 +104,13 @@ pub record IsTable (xs : List ℕ) : Type 0 where
 -- in the state that an entry says, just that is due which is due after the byte
 abbrev pub Entry-leads : Type 0
 Entry-leads = (q b : ℕ) → b < 256 → dueIn (entryOf q b) ≡ after (dueIn q) b
+
+-- the table has them, and by such a list a look-up answers the entry, for every number and byte
+abbrev pub Entries-are-table : Type 0
+Entries-are-table = IsTable entries
+
+abbrev pub Looked-is-entry : Type 0
+Looked-is-entry = (t : List ℕ) → IsTable t → (q b : ℕ) → b < 256 → looked t q b ≡ entryOf q b
 
 -- no entry is above 8
 abbrev pub Entries-end : Type 0

@@ -1,6 +1,6 @@
 // The automaton of well-formed UTF-8, as a constant table of eight states by 256 byte values.
 ghost use mathlib.Core.Path.{_≡_};
-ghost use Rattle.utf8.specs.Automaton.{entryOf, IsTable};
+ghost use Rattle.utf8.specs.Automaton.{entries, looked};
 
 // The state after each byte, at 256 times the state before it and the byte. Between characters 0; one, two or three continuation bytes due 1, 2, 3;
 // after E0, ED, F0, F4 4, 5, 6, 7; ill-formed here 8.
@@ -2057,14 +2057,15 @@ const NEXT: [u8; 2048] = [
 
 // The table, for a caller to lend to each look-up: the compiler has no place for a constant but the stack of the function that names it.
 pub fn states() -> [u8; 2048]
-    ensures { λ r. ⌜ IsTable r ⌝ }
+    ensures { λ r. ⌜ r ≡ entries ⌝ }
 {
     NEXT
 }
 
-// The state after a byte, by the table; 8 where the byte is ill-formed there. After 8, and any number that is no state, every byte is.
+// The state after a byte, by the lent table; with the one that `states` answers, 8 where the byte is ill-formed there. After 8, and any number that is
+// no state, every byte is.
 pub fn next(table: &[u8; 2048], state: u8, byte: u8) -> u8
-    ensures { λ r. ⌜ (IsTable (now (table .entry)) → r ≡ entryOf state byte) ⌝ }
+    ensures { λ r. ⌜ r ≡ looked (now (table .entry)) state byte ⌝ }
 {
     if 8 <= state {
         return 8;

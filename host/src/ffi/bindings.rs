@@ -583,6 +583,10 @@ extern "C" {
     /// The lossy text of bytes, such as a prefix. Answers the refusal (25, 4).
     pub fn rufflesquash_lossy(text: *const u8, text_len: usize, out: *mut u8, out_len: usize, written: *mut u64, marks: *mut u64) -> u64;
 
+    /// The same, where every byte is looked up in the constant table of UTF-8's states, one after the other. It answers and writes what
+    /// `rufflesquash_lossy` does, which is faster.
+    pub fn rufflesquash_lossy_by_table(text: *const u8, text_len: usize, out: *mut u8, out_len: usize, written: *mut u64, marks: *mut u64) -> u64;
+
     /// The length of the longest well-formed beginning of a text of any length. Refuses nothing.
     pub fn rufflesquash_well_formed_prefix(text: *const u8, text_len: usize) -> u64;
 

@@ -50,6 +50,7 @@ fn line(record: &Record, out: &mut Vec<u8>) {
         b'g' => reader_line(record, out),
         b'm' => query_line(input, out),
         b'u' => marked(record, out, |room| ours::lossy(input, room)),
+        b'U' => marked(record, out, |room| ours::lossy_by_table(input, room)),
         b'e' => marked(record, out, |room| ours::error_text(input, room)),
         kind => written(record, out, |room| write_of(kind, input, room)),
     }

@@ -50,7 +50,7 @@ pub fn short(see: See) {
 fn short_texts(see: See) {
     every(b"/+-01aFg", 7, &mut |text| see(b'p', text));
     let all: Vec<u8> = (0..=255).collect();
-    for kind in *b"luw" {
+    for kind in *b"luUw" {
         every(&all, 2, &mut |text| see(kind, text));
         every(EDGES, 4, &mut |text| see(kind, text));
     }
@@ -286,12 +286,12 @@ fn answers(draw: &mut Draw) -> Vec<u8> {
 
 /// One random input.
 pub fn random(draw: &mut Draw) -> (u8, Vec<u8>) {
-    let kind = draw.pick(b"pppplllluuuuwwwweeffaccccbbbbbbrrrrqytosggggmmdd");
+    let kind = draw.pick(b"pppplllluuuuUUUUwwwweeffaccccbbbbbbrrrrqytosggggmmdd");
     let input = match kind {
         b'p' if draw.once_in(10) => text(draw, false),
         b'p' => position_text(draw),
         b'd' => (draw.next() >> draw.below(64)).to_be_bytes().to_vec(),
-        b'l' | b'u' | b'w' => lossy_text(draw),
+        b'l' | b'u' | b'U' | b'w' => lossy_text(draw),
         b'e' | b'f' => error_payload(draw),
         b'a' | b'y' => some(draw),
         b'c' => marred_by(draw, |draw| copy_data(draw)[5..].to_vec()),

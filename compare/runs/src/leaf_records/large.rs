@@ -20,10 +20,10 @@ pub struct Bounds {
 }
 
 /// The program `test_leaves`, whose records have so many bytes.
-pub const PROGRAM: Bounds = Bounds { kinds: b"pdluwefacbrqytzxosgm", input: 65_536, room: 65_536, name: 2, over: false };
+pub const PROGRAM: Bounds = Bounds { kinds: b"pdluUwefacbrqytzxosgm", input: 65_536, room: 65_536, name: 2, over: false };
 
 /// The archive: its exported calls alone, but inputs of any length.
-pub const ARCHIVE: Bounds = Bounds { kinds: b"pduwefarqtzxsgm", input: LENT, room: usize::MAX, name: 0, over: true };
+pub const ARCHIVE: Bounds = Bounds { kinds: b"pduUwefarqtzxsgm", input: LENT, room: usize::MAX, name: 0, over: true };
 
 /// One input, and how long its output is.
 pub struct Input {
@@ -70,7 +70,7 @@ fn of_length(draw: &mut Draw, kind: u8, n: usize, bounds: &Bounds) -> Vec<u8> {
         b't' => return [&draw.upto(u64::MAX).to_be_bytes()[..], &draw.next().to_be_bytes(), &[draw.below(2) as u8]].concat(),
         b'z' | b'x' => return Vec::new(),
         b'p' => return digits(draw, n),
-        b'l' | b'u' | b'w' => return long_text(draw, n),
+        b'l' | b'u' | b'U' | b'w' => return long_text(draw, n),
         b'q' => return plain_text(draw, n),
         b'y' => return draw.bytes(n),
         b'o' => return names(draw, n.saturating_sub(4 * bounds.name), 1, bounds.name),

@@ -131,8 +131,8 @@ fn original_line(record: &Record, out: &mut Vec<u8>) {
     match record.kind {
         b'p' => put_answer(parsed_position(input), out, |p, out| out.extend_from_slice(rust_leaves::display_position(p).as_bytes())),
         b'd' => written(rust_leaves::display_position(number_at(input, 0)).as_bytes(), out),
-        // the plain path and the one by the table
-        b'l' | b'u' => marked(rust_leaves::lossy(input).as_bytes(), rust_leaves::marks(input), out),
+        // the plain path, the writer as it is called, and the one by the table throughout
+        b'l' | b'u' | b'U' => marked(rust_leaves::lossy(input).as_bytes(), rust_leaves::marks(input), out),
         b'w' => drop(write!(out, "{}", rust_leaves::well_formed_prefix(input))),
         b'e' => marked(&rust_leaves::error_text(input), rust_leaves::error_marks(input), out),
         b'f' => fields_line(input, out),

@@ -1,36 +1,18 @@
 -- What is left of the lossy text, put where the loop stands, gives what is asked, a stretch and the mark after it at a time.
-use Rattle.wire.specs.Bytes.{put, placed}
 use Rattle.wire.proofs.Laws.{put-none}
-use Rattle.wire.proofs.Pieces.{Filling, filling-start, filling-next}
+use Rattle.wire.proofs.Pieces.{Filling, filling-start}
 use Rattle.lossy.specs.Lossy.{lossyOf}
-use Rattle.lossy.specs.Code.{StretchAt}
-use Rattle.lossy.specs.declared.Stretch.{Stretch}
 use Rattle.lossy.proofs.Laws.{lossy-end}
-use Rattle.lossy.proofs.Stretches.{stretch-within, stretch-text, last-text, behind-within, mark-text}
-use Prim.Native.Nat.{ℕ, _≤_, _+_, _-_}
+use Rattle.lossy.proofs.Stretches.{stretch-within, behind-within}
+use Rattle.lossy.proofs.Written.{stretch-written, mark-written, all-written}
+use Prim.Native.Nat.{_≤_, _+_, _-_}
 use mathlib.Core.Path.{_≡_, refl, sym, _∙_}
-use mathlib.Core.List.{List, [], _∷_}
+use mathlib.Core.List.{[]}
 use native.Mathlib.Omega.{arith}
-use lib.ListN.{length, take, drop}
+use lib.ListN.{length, drop}
 use borrow.Author.Needs.{needs}
 use Rattle.lossy.proofs.fill.Statement.{statement}
 use Rattle.lossy.proofs.fill.Tie as tie
-
--- ---- over variables: d₀ is the output at first, d what it has become
-
-module _ (s : List ℕ) (i : ℕ) (t : Stretch) (h : i ≤ length s) (a : StretchAt s i t) {d₀ : List ℕ} {to : ℕ} where
-  stretch-written : {d e : List ℕ} {r q : ℕ} → to + length (lossyOf s) ≤ length d₀ → Filling d₀ to (lossyOf s) d r (lossyOf (drop i s))
-      → (q, e) ≡ placed d r (take (t .end - i) (drop i s)) → Filling d₀ to (lossyOf s) e q (lossyOf (drop (t .end) s))
-  stretch-written f g p = filling-next f (take (t .end - i) (drop i s)) (rw (stretch-text s i t h a) at g) p
-
-  mark-written : {d e : List ℕ} {r q : ℕ} → 1 ≤ t .ill → to + length (lossyOf s) ≤ length d₀ → Filling d₀ to (lossyOf s) d r (lossyOf (drop (t .end) s))
-      → (q, e) ≡ placed d r (0xEF ∷ 0xBF ∷ 0xBD ∷ []) → Filling d₀ to (lossyOf s) e q (lossyOf (drop (t .end + t .ill) s))
-  mark-written o f g p = filling-next f (0xEF ∷ 0xBF ∷ 0xBD ∷ []) (rw (mark-text s i t h a o) at g) p
-
-  all-written : {d : List ℕ} {r : ℕ} → t .ill ≡ 0 → Filling d₀ to (lossyOf s) d r (lossyOf (drop (t .end) s)) → d ≡ put d₀ to (lossyOf s)
-  all-written {d} {r} z g = sym (put-none d r) ∙ rw (last-text s i t h a z) at (g .text)
-
--- ---- the loop
 
 abbrev Inv-loop : tie.InvT-loop
 Inv-loop out₀ to text table at₀ i₀ mark out at i =

@@ -1,4 +1,5 @@
 -- The walk by the table, as far as it was asked to go.
+use Rattle.utf8.proofs.Entries.{is-table}
 use Rattle.lossy.specs.Code.{WalkedTo}
 use Prim.Native.Nat.{ℕ, _+_}
 use mathlib.Core.Path.{subst}
@@ -8,7 +9,7 @@ use Rattle.lossy.proofs.table_some.Statement.{statement}
 use Rattle.lossy.proofs.table_some.Tie as tie
 
 table-to-requires : tie.Need-table-to-requires
-table-to-requires c κs = (omega arith, omega arith, c .before .before .states .ensures)
+table-to-requires c κs = (omega arith, omega arith, is-table (c .before .before .states .ensures))
 
 returns : tie.Need-returns
 returns c =

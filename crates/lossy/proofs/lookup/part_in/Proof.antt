@@ -1,7 +1,8 @@
 -- The state says what is due at the loop's place.
+use Rattle.utf8.proofs.Entries.{looked-is-entry}
 use Rattle.lossy.proofs.States.{Going, lead-ill, lead-going, part-whole, part-cut, part-ill, part-goes, of-length}
 use Prim.Native.Nat.{_+_, _-_, _≤_, _<_}
-use mathlib.Core.Path.{_≡_, refl}
+use mathlib.Core.Path.{_≡_, refl, _∙_}
 use native.Mathlib.Omega.{arith}
 use lib.ListN.{length, getD}
 use borrow.Author.Needs.{needs}
@@ -21,7 +22,7 @@ returns c =
     let o = k .before .before in
     let a = o .args in
     let b : getD (a .s .now) (a .at) 0 < 256 = omega (arith, k .shared-slice-known2 .given (a .at)) in
-    lead-ill (a .s .now) (a .at) (omega arith) (n .result) b (n .ensures (o .pre .1)) (c .if1 .taken)
+    lead-ill (a .s .now) (a .at) (omega arith) (n .result) b (n .ensures ∙ looked-is-entry _ (o .pre .1) _ _ b) (c .if1 .taken)
 
 loop-holds : tie.Need-loop-holds Inv-loop μ-loop
 loop-holds c =
@@ -30,7 +31,7 @@ loop-holds c =
     let o = k .before .before in
     let a = o .args in
     let b : getD (a .s .now) (a .at) 0 < 256 = omega (arith, k .shared-slice-known2 .given (a .at)) in
-    (omega arith, omega arith, lead-going (a .s .now) (a .at) (omega arith) (n .result) _ b (n .ensures (o .pre .1)) (c .if1 .left) refl)
+    (omega arith, omega arith, lead-going (a .s .now) (a .at) (omega arith) (n .result) _ b (n .ensures ∙ looked-is-entry _ (o .pre .1) _ _ b) (c .if1 .left) refl)
 
 returns-2 : tie.Need-returns-2 Inv-loop μ-loop
 returns-2 c =
@@ -49,7 +50,7 @@ returns-3 c =
     let b : getD (a .s .now) (l .loop .i) 0 < 256 = omega (arith, k .shared-slice-known3 .given (l .loop .i)) in
     of-length
     (part-ill (a .s .now) (a .at) (l .loop .i) (l .loop .state) (omega arith) (omega arith) (l .loop .inv .2) (omega arith) (omega arith) (n .result) b
-    (n .ensures (o .pre .1)) (c .if3 .taken))
+    (n .ensures ∙ looked-is-entry _ (o .pre .1) _ _ b) (c .if3 .taken))
     (omega arith)
 
 loop-again : tie.Need-loop-again Inv-loop μ-loop
@@ -63,7 +64,7 @@ loop-again c =
       omega arith,
       omega arith,
       part-goes (a .s .now) (a .at) (l .loop .i) (l .loop .state) (omega arith) (omega arith) (l .loop .inv .2) (omega arith) (omega arith) (n .result)
-          b (n .ensures (o .pre .1)) _ refl (c .if3 .left),
+          b (n .ensures ∙ looked-is-entry _ (o .pre .1) _ _ b) _ refl (c .if3 .left),
     )
 
 returns-4 : tie.Need-returns-4 Inv-loop μ-loop
