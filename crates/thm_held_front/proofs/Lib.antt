@@ -1,0 +1,3 @@
+pub mod ReadSame
+pub mod HeldFront
+pub mod SeveralSteps
