@@ -1,6 +1,5 @@
 //! matched PRINTED LAST: holds the rows that `follow --json` printed against what the catalog was at each of them, as messages in the stream tell it
-//! (matched.sql); where a row has no names, against the rules by which the relation cache refuses. The rows' values are compared with their data, and
-//! the rows that were inserted have the numbers 1 to LAST.
+//! (matched.sql). The rows' values are compared with their data, and the rows that were inserted have the numbers 1 to LAST.
 mod fail;
 mod json;
 
@@ -8,11 +7,6 @@ use fail::fail;
 use json::Json;
 use std::collections::{BTreeMap, BTreeSet};
 use std::{env, fs};
-
-/// How many relations are held, how many columns of each, and how long their names may be.
-const RELATIONS: usize = 64;
-const COLUMNS: usize = 32;
-const NAME: usize = 63;
 
 /// A column: its name, its type, and whether it belongs to the key.
 type Column = (String, i64, bool);
@@ -35,11 +29,8 @@ enum Value {
 #[derive(Default)]
 struct Judge {
     catalog: BTreeMap<i64, Table>,
-    // How many columns are held of a relation, and why its last description was refused.
-    held: BTreeMap<i64, usize>,
-    refused: BTreeMap<i64, i64>,
-    // How many rows and descriptions had names, and how many were refused with each number.
-    met: BTreeMap<(&'static str, Option<i64>), usize>,
+    // How many rows and descriptions had names.
+    met: BTreeMap<&'static str, usize>,
     inserted: BTreeSet<i64>,
     unchanged: usize,
 }
@@ -116,7 +107,6 @@ impl Judge {
                 let told = String::from_utf8(line.get("content").bytes()).expect("UTF-8");
                 self.catalog = told.lines().map(table).collect();
             }
-            "resumed" => (self.held, self.refused) = Default::default(),
             "data" => match line.get("kind").text() {
                 "relation" => self.relation(line),
                 "truncate" => line.get("tables").list().iter().for_each(|table| drop(self.table(table))),
@@ -137,44 +127,35 @@ impl Judge {
         (id, table.clone())
     }
 
-    fn told(&mut self, kind: &'static str, line: &Json, expected: Option<i64>) {
-        let told = line.find("refusal").map(Json::number);
-        if told != expected {
-            fail(&format!("refusal {told:?} in place of {expected:?} of {line:?}"));
+    // Nothing is without names.
+    fn told(&mut self, kind: &'static str, line: &Json) {
+        if line.find("refusal").is_some() {
+            fail(&format!("refused: {line:?}"));
         }
-        *self.met.entry((kind, told)).or_default() += 1;
+        *self.met.entry(kind).or_default() += 1;
     }
 
-    // A description has its names always; whether it is held goes by the cache's rules.
     fn relation(&mut self, line: &Json) {
         let (id, table) = self.table(line);
         let columns: Vec<Column> = line.get("columns").list().iter().map(column).collect();
         if columns != table.columns {
             fail(&format!("relation {id} is {table:?}, not as in {line:?}"));
         }
-        let too_large = columns.len() > COLUMNS || columns.iter().any(|column| column.0.len() > NAME);
-        let full = self.held.len() == RELATIONS && !self.held.contains_key(&id);
-        let expected = if full { Some(28) } else { too_large.then_some(29) };
-        self.told("relation", line, expected);
-        self.refused.remove(&id);
-        match expected {
-            Some(number) => self.refused.insert(id, number).map_or((), drop),
-            None => self.held.insert(id, columns.len()).map_or((), drop),
-        }
+        self.told("relation", line);
     }
 
     fn row(&mut self, line: &Json) {
-        let (id, table) = self.table(line);
+        let (_, table) = self.table(line);
         let data = line.get("data").bytes();
         let tuples = tuples(&data);
-        let same_count = self.held.get(&id).is_some_and(|held| tuples.values().all(|tuple| tuple.len() == *held));
-        let expected = if same_count { self.refused.get(&id).copied() } else { Some(30) };
-        self.told("row", line, expected);
+        self.told("row", line);
         self.unchanged += tuples.values().flatten().filter(|value| **value == Value::Unchanged).count();
-        self.side(line, "columns", tuples.get(&'N'), expected.is_none().then_some(&table.columns), false);
-        self.side(line, "identity", tuples.get(&'O'), expected.is_none().then_some(&table.columns), false);
-        if let Some(key) = tuples.get(&'K') {
-            self.side(line, "identity", Some(key), expected.is_none().then_some(&table.columns), true);
+        self.side(line, "columns", tuples.get(&'N'), &table.columns, false);
+        self.side(line, "identity", tuples.get(&'O'), &table.columns, false);
+        self.side(line, "identity", tuples.get(&'K'), &table.columns, true);
+        let of = [('K', "key"), ('O', "row")].iter().find(|(letter, _)| tuples.contains_key(letter)).map(|(_, name)| *name);
+        if line.find("identity_of").map(Json::text) != of {
+            fail(&format!("identity_of is not {of:?} of {line:?}"));
         }
         if line.get("kind").text() == "insert" {
             let Some(Value::Text(text)) = tuples[&'N'].first() else { fail("a row has its number in front") };
@@ -184,17 +165,14 @@ impl Judge {
         }
     }
 
-    // One tuple, with names where it is not refused; of a key the columns that belong to it, all of them by place.
-    fn side(&self, line: &Json, name: &str, values: Option<&Vec<Value>>, columns: Option<&Vec<Column>>, key: bool) {
+    // One tuple with its names; of a key the columns that belong to it.
+    fn side(&self, line: &Json, name: &str, values: Option<&Vec<Value>>, columns: &[Column], key: bool) {
         let Some(values) = values else { return };
         let printed = line.get(name).list();
-        let keeps = |at: &usize| !(key && columns.is_some_and(|columns| !columns[*at].2));
+        let keeps = |at: &usize| !key || columns[*at].2;
         let places: Vec<usize> = (0..values.len()).filter(keeps).collect();
-        let right = |(at, cell): (&usize, &Json)| {
-            let named = columns.map_or(cell.find("name").is_none(), |columns| column(cell) == columns[*at]);
-            named && value(cell) == values[*at]
-        };
-        if printed.len() != places.len() || !places.iter().zip(printed).all(right) {
+        let right = |(at, cell): (&usize, &Json)| column(cell) == columns[*at] && value(cell) == values[*at];
+        if values.len() != columns.len() || printed.len() != places.len() || !places.iter().zip(printed).all(right) {
             fail(&format!("{name} of {line:?} is not {values:?} of {columns:?}"));
         }
     }
@@ -210,9 +188,6 @@ fn main() {
     if judge.inserted != (1..=last).collect() {
         fail(&format!("{} of {last} rows were printed", judge.inserted.len()));
     }
-    let told = judge.met.iter().map(|((kind, refusal), n)| match refusal {
-        None => format!("{n} {kind}s with names"),
-        Some(number) => format!("{n} {kind}s refused with {number}"),
-    });
+    let told = judge.met.iter().map(|(kind, n)| format!("{n} {kind}s with names"));
     println!("{}, {} unchanged values", told.collect::<Vec<_>>().join(", "), judge.unchanged);
 }

@@ -29,10 +29,18 @@ struct Shared {
     done: [AtomicU64; FILES],
     // Nothing beyond it was printed yet.
     printed: AtomicU64,
+    // What an earlier run printed to the same file and was not acknowledged then.
+    before: AtomicU64,
     // A keepalive's position behind all that was printed; 0 where something was printed since, u64::MAX where that was a message, which no line
     // acknowledges before the next commit's.
     passed: AtomicU64,
     ended: AtomicBool,
+}
+
+impl Shared {
+    fn last_printed(&self) -> u64 {
+        self.printed.load(SeqCst).max(self.before.load(SeqCst))
+    }
 }
 
 /// What the consumer has acknowledged so far.
@@ -62,6 +70,17 @@ impl Acks {
         self.shared.printed.fetch_max(position.0, SeqCst);
     }
 
+    /// This was printed to the same file by an earlier run, and is not acknowledged yet.
+    pub fn printed_before(&self, position: Lsn) {
+        self.shared.before.store(position.0, SeqCst);
+    }
+
+    /// What was printed and acknowledged so far has nothing to do with what comes: the positions of another log do.
+    pub fn forget(&self) {
+        let Shared { done, printed, before, passed, .. } = &*self.shared;
+        done.iter().chain([printed, before, passed]).for_each(|position| position.store(0, SeqCst));
+    }
+
     /// All before it was sent, and nothing was printed for it: once the rest is acknowledged it is done, too.
     pub fn passed(&self, position: Lsn) {
         if self.shared.passed.load(SeqCst) != u64::MAX {
@@ -79,7 +98,7 @@ impl Acks {
         let done = |file: usize| Lsn(self.shared.done[file].load(SeqCst));
         let furthest = (0..FILES).map(done).max().unwrap_or_default();
         let all: [Lsn; FILES] = std::array::from_fn(|file| if self.used[file] { done(file) } else { furthest });
-        let (printed, passed) = (self.shared.printed.load(SeqCst), self.shared.passed.load(SeqCst));
+        let (printed, passed) = (self.shared.last_printed(), self.shared.passed.load(SeqCst));
         if passed == u64::MAX || all.iter().any(|done| done.0 < printed) {
             return all;
         }
@@ -139,7 +158,7 @@ impl Reader {
 
     fn line(&self, line: &[u8]) {
         let text = String::from_utf8_lossy(line).into_owned();
-        let printed = Lsn(self.shared.printed.load(SeqCst));
+        let printed = Lsn(self.shared.last_printed());
         match parse(line) {
             Some(ack) if ack.position > printed => {
                 tell(format_args!("{:?} is no acknowledgement: nothing beyond {printed} was printed yet", text.trim_end()));
@@ -214,5 +233,18 @@ mod tests {
         assert!(all.ended() && !all.all_done());
         let some = Acks { shared: all.shared, used: [true, true, false, false] };
         assert_eq!(some.done(), [Lsn(0x10), Lsn(0x20), Lsn(0x30), Lsn(0x30)]);
+        some.forget();
+        assert!(some.done() == [Lsn(0); FILES] && some.all_done());
+    }
+
+    #[test]
+    fn what_an_earlier_run_printed() {
+        let acks = Acks { shared: Arc::default(), used: [true; FILES] };
+        acks.printed_before(Lsn(0x20));
+        acks.passed(Lsn(0x40));
+        // A keepalive counts only once that is acknowledged, too; a stop does not wait for it.
+        assert!(acks.done() == [Lsn(0); FILES] && acks.all_done());
+        Reader { shared: acks.shared.clone() }.run(&b"0/21\n0/20\n"[..]);
+        assert_eq!(acks.done(), [Lsn(0x40); FILES]);
     }
 }

@@ -77,6 +77,18 @@ pub fn blocking(file: File) -> io::Result<File> {
     Ok(file)
 }
 
+/// Locks a file while it is open; false where another program has it locked.
+pub fn lock(file: &File) -> io::Result<bool> {
+    // SAFETY: takes numbers alone; the file stays open meanwhile.
+    if unsafe { libc::flock(file.as_raw_fd(), libc::LOCK_EX | libc::LOCK_NB) } == 0 {
+        return Ok(true);
+    }
+    match io::Error::last_os_error() {
+        e if e.kind() == io::ErrorKind::WouldBlock => Ok(false),
+        e => Err(e),
+    }
+}
+
 /// Standard output as a file: std's own handle takes a write to a descriptor that cannot be written for done.
 pub fn standard_output() -> io::Result<File> {
     Ok(io::stdout().as_fd().try_clone_to_owned()?.into())

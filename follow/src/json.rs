@@ -18,6 +18,10 @@ impl Text {
         self.bytes.len()
     }
 
+    pub fn capacity(&self) -> usize {
+        self.bytes.capacity()
+    }
+
     pub fn as_bytes(&self) -> &[u8] {
         &self.bytes
     }

@@ -17,6 +17,7 @@ mod rows;
 mod session;
 mod slot;
 mod startup;
+mod state;
 mod terminal;
 mod tls;
 
@@ -30,6 +31,7 @@ use progress::Progress;
 use rufflesquash::{Lsn, Run, Settings, Text, Touched};
 use session::{Clock, End, Host, Session, Totals};
 use startup::{Passwords, Talk};
+use state::{Origin, Standing};
 use std::io::{self, Write};
 use std::process::ExitCode;
 use std::time::{Duration, Instant};
@@ -140,7 +142,6 @@ impl<'a> Client<'a> {
         if options.create_slot {
             talk.create_slot(options)?;
         }
-        talk.check_slot(options)?;
         Ok(talk)
     }
 }
@@ -154,6 +155,9 @@ struct Following {
     acks: Option<Acks>,
     progress: Option<Progress>,
     totals: Totals,
+    // Where what is done came from, and where the slot stood when it was first seen.
+    origin: Option<Origin>,
+    first: Lsn,
 }
 
 impl Following {
@@ -174,8 +178,9 @@ impl Following {
         let payload = ffi::zeroed(settings.payload_len()).ok_or_else(no_memory)?;
         let used = |file| options.files.is_empty() || options.files.iter().any(|of| of.file == file as u64);
         let acks = options.ack.map(|fd| Acks::start(fd, std::array::from_fn(used))).transpose()?;
-        let progress = Progress::start(options.progress);
-        Ok(Following { settings, payload, clock: Clock::start(), output: Output::start(options)?, acks, progress, totals: Totals::default() })
+        let (progress, output, totals) = (Progress::start(options.progress), Output::start(options)?, Totals::default());
+        let origin = output.before().map(|state| state.origin.clone());
+        Ok(Following { settings, payload, clock: Clock::start(), output, acks, progress, totals, origin, first: Lsn(0) })
     }
 
     fn follow(mut self, mut client: Client) -> Result<(), Failure> {
@@ -209,7 +214,7 @@ impl Following {
         loop {
             let connected = if first { client.connect_first(&mut self.output) } else { client.connect_next() };
             first &= connected.is_err();
-            let failure = match connected.and_then(|talk| self.one_stream(options, talk)) {
+            let failure = match connected.and_then(|mut talk| self.meet(client, &mut talk).and_then(|()| self.one_stream(options, talk))) {
                 Ok(End::Server) if !options.no_loop => Failure::cut("the server ended the stream"),
                 Ok(end) => return self.acknowledged(end),
                 Err(failure) => failure,
@@ -253,9 +258,70 @@ impl Following {
         }
     }
 
+    // Before each stream: whether the server's log and the slot still have all that comes after what is done.
+    fn meet(&mut self, client: &Client, talk: &mut Talk) -> Result<(), Failure> {
+        let options = client.options;
+        let known = self.origin.is_some() || self.output.before().is_some();
+        let standing = talk.standing(options).map_err(|failure| if known { self.without_slot(failure) } else { failure })?;
+        self.settings.status_interval = status_interval(options.status_interval, standing.timeout);
+        let done = self.done();
+        let gap = self.origin.as_ref().and_then(|origin| standing.gap(origin, done));
+        match &gap {
+            Some(reason) if !options.accept_gap => {
+                let advice = "read the tables themselves, then --accept-gap goes on from where the slot stands";
+                return Err(Failure::new(FAILED, format!("{reason}. Changes after {done} may be missing: {advice}")));
+            }
+            Some(reason) => {
+                tell(format_args!("{reason}. Changes after {done} may be missing; --accept-gap goes on from {}", standing.confirmed));
+                self.acks.iter().for_each(Acks::forget);
+            }
+            None => {}
+        }
+        self.begin_at(client, &standing, gap.as_deref())
+    }
+
+    // What the server and the slot are now is kept for the next time; beside a file before anything is written or confirmed.
+    fn begin_at(&mut self, client: &Client, standing: &Standing, gap: Option<&str>) -> Result<(), Failure> {
+        let from = if self.origin.is_none() || gap.is_some() { standing.confirmed } else { self.done() };
+        if gap.is_some() || self.totals.streams == 0 && self.output.keeps_state() {
+            self.output.begins(&standing.origin, from, gap);
+            self.settle(client.waiter, None);
+        }
+        if self.output.failed() {
+            return Err(Failure::cut("the output cannot be written"));
+        }
+        if gap.is_some() || self.origin.is_none() {
+            self.first = from;
+        }
+        let printed = self.output.before().map_or(Lsn(0), |state| state.printed);
+        if let Some(acks) = self.acks.as_ref().filter(|_| self.totals.streams == 0 && gap.is_none() && printed > standing.confirmed) {
+            acks.printed_before(printed);
+        }
+        self.origin = Some(standing.origin.clone());
+        Ok(())
+    }
+
+    // After which changes are awaited.
+    fn done(&self) -> Lsn {
+        self.positions().1.max(self.first)
+    }
+
+    // A slot that is gone, where something was done: to make it anew would skip changes.
+    fn without_slot(&self, failure: Failure) -> Failure {
+        if failure.again || !failure.line.contains("--create-slot makes it") {
+            return failure;
+        }
+        let line = format!(
+            "{}, but changes after {} and before that are then in no stream: read the tables themselves, and give --accept-gap, too",
+            failure.line,
+            self.done()
+        );
+        Failure { line, ..failure }
+    }
+
     fn one_stream(&mut self, options: &Options, mut talk: Talk) -> Result<End, Failure> {
-        let done = self.position();
-        let from = done.max(options.startpos);
+        let (done, has) = self.positions();
+        let from = has.max(options.startpos);
         let refused = |refusal| Failure::refused(refusal, options.max_message_size);
         let names: Vec<String> = options.publications.iter().map(|name| slot::identifier(name)).collect();
         let names: Vec<Text> = names.iter().map(|name| Text::from(name.as_str())).collect();
@@ -270,7 +336,7 @@ impl Following {
             Run::already_open(&self.settings, done).map_err(refused)?
         };
         if self.totals.streams > 0 {
-            self.output.resumed(done);
+            self.output.resumed(has);
         }
         let host = Host {
             output: &mut self.output,
@@ -284,6 +350,12 @@ impl Following {
             verbose: options.verbose,
         };
         Session::new(talk, self.settings, (run, &query), &mut self.payload, host)?.stream()
+    }
+
+    // What a status may confirm, and what need not come again: what a file with a state has.
+    fn positions(&self) -> (Lsn, Lsn) {
+        let done = self.position();
+        (done, if self.output.keeps_state() { self.output.position() } else { done })
     }
 
     // Up to where all is done: acknowledged where that is asked for, else written.
@@ -330,6 +402,11 @@ impl Following {
     }
 }
 
+// A server that hears nothing for its timeout ends the stream, and one whose output is read slowly would then never get to its end.
+fn status_interval(wanted: Duration, timeout: Option<Duration>) -> Duration {
+    wanted.min(timeout.map_or(wanted, |timeout| timeout / 3)).max(Duration::from_millis(1))
+}
+
 // Nothing has position 0/0: it stands for the slot's own, before anything is confirmed.
 fn at(position: Lsn) -> String {
     if position == Lsn(0) {
@@ -347,5 +424,19 @@ fn sleep(waiter: &Waiter, time: Duration) {
             return;
         }
         waiter.wait(None, Some(left));
+    }
+}
+
+#[cfg(test)]
+mod tests {
+    use super::*;
+
+    #[test]
+    fn statuses_come_before_the_servers_timeout() {
+        let seconds = Duration::from_secs;
+        assert_eq!(status_interval(seconds(10), Some(seconds(60))), seconds(10));
+        assert_eq!(status_interval(seconds(86_400), Some(seconds(60))), seconds(20));
+        assert_eq!(status_interval(seconds(10), None), seconds(10));
+        assert_eq!(status_interval(seconds(10), Some(Duration::from_nanos(1))), Duration::from_millis(1));
     }
 }

@@ -28,6 +28,8 @@ Action (without one: --start):
       --create-slot            create the slot; with --start follow it then
       --if-not-exists          with --create-slot: no error where the slot is there already
       --start                  follow the slot
+      --accept-gap             go on where changes may be missing, since the server or the slot is another one or was
+                               made anew; prints a gap
       --drop-slot              drop the slot
 What to follow:
   -S, --slot NAME              replication slot; it must be one of the plugin pgoutput
@@ -39,7 +41,8 @@ What to follow:
   -I, --startpos LSN           begin at this position where the slot stands before it
   -E, --endpos LSN             end after the event that reaches this position
 Output:
-  -f, --output-file FILE       append to this file; - is standard output; SIGHUP opens it again
+  -f, --output-file FILE       append to this file; - is standard output; SIGHUP opens it again. FILE.state stands beside
+                               it, so that each commit is in the file once, whole, whatever was killed
   -F, --fsync-interval SECS    time between two syncs of an output that is a regular file (default: 10; 0: none);
                                what is not synced is not confirmed
       --format FORMAT          plain or json (default: plain)
@@ -83,6 +86,7 @@ pub struct Options {
     pub if_not_exists: bool,
     pub start: bool,
     pub drop_slot: bool,
+    pub accept_gap: bool,
     pub slot: String,
     pub publications: Vec<String>,
     /// Whether values are asked for in binary format.
@@ -155,6 +159,7 @@ impl Options {
             if_not_exists: false,
             start: false,
             drop_slot: false,
+            accept_gap: false,
             slot: String::new(),
             publications: Vec::new(),
             binary: false,
@@ -184,6 +189,7 @@ impl Options {
             "--if-not-exists" => &mut self.if_not_exists,
             "--start" => &mut self.start,
             "--drop-slot" => &mut self.drop_slot,
+            "--accept-gap" => &mut self.accept_gap,
             "--raw" => &mut self.raw,
             "--keepalives" => &mut self.keepalives,
             "--ack-idle" => &mut self.ack_idle,

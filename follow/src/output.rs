@@ -1,10 +1,12 @@
 //! The output: lines are gathered in batches, a thread writes them, and tells up to where it is done.
+mod target;
 mod writer;
 
 use crate::failure::{Failure, FAILED};
 use crate::json::Text;
 use crate::options::Options;
 use crate::print::Lines;
+use crate::state::{Origin, State};
 use rufflesquash::{Event, Files, Lsn, Queue, Touched};
 use std::sync::Arc;
 use std::thread::JoinHandle;
@@ -22,6 +24,8 @@ pub struct Output {
     text: Text,
     position: Lsn,
     counts: usize,
+    printed: Lsn,
+    keepalives: bool,
     shared: Arc<Shared>,
     thread: Option<JoinHandle<Result<(), String>>>,
     // How many bytes and batches were handed over.
@@ -33,13 +37,17 @@ pub struct Output {
     handed: Lsn,
     // A stream that begins again is told when it has begun: an attempt that fails has resumed nothing.
     resumed: Option<Lsn>,
+    // Whether a state stands beside the output, and the one that stood there.
+    keeps_state: bool,
+    before: Option<State>,
 }
 
 impl Output {
     /// Opens the output and starts the thread that writes it.
     pub fn start(options: &Options) -> Result<Output, Failure> {
         let shared = Arc::new(Shared::default());
-        let writer = Writer::open(options, shared.clone()).map_err(|line| Failure::new(FAILED, line))?;
+        let (writer, before) = Writer::open(options, shared.clone()).map_err(|line| Failure::new(FAILED, line))?;
+        let keeps_state = writer.keeps_state();
         let thread = std::thread::Builder::new().name("output".to_string()).spawn(move || writer.run());
         let thread = thread.map_err(|e| Failure::new(FAILED, format!("cannot start the thread that writes the output: {e}")))?;
         Ok(Output {
@@ -47,15 +55,43 @@ impl Output {
             text: Text::default(),
             position: Lsn(0),
             counts: 0,
+            printed: Lsn(0),
+            keepalives: options.keepalives,
             shared,
             thread: Some(thread),
             bytes: 0,
             batches: 0,
             touched: None,
             outstanding: false,
-            handed: Lsn(0),
+            handed: before.as_ref().map_or(Lsn(0), |state| state.position),
             resumed: None,
+            keeps_state,
+            before,
         })
+    }
+
+    /// Whether a state stands beside the output, so that what is written comes never again.
+    pub fn keeps_state(&self) -> bool {
+        self.keeps_state
+    }
+
+    /// The state of the file that was there before.
+    pub fn before(&self) -> Option<&State> {
+        self.before.as_ref()
+    }
+
+    /// From here on changes come from this origin, the first of them after the position; where they are others than those that were awaited, because
+    /// of this gap. A file is cut back to its state now, where there is no gap.
+    pub fn begins(&mut self, origin: &Origin, from: Lsn, gap: Option<&str>) {
+        if let Some(reason) = gap {
+            self.lines.gap(&mut self.text, self.handed, from, reason);
+            self.outstanding = false;
+        } else {
+            self.printed = self.before.as_ref().map_or(Lsn(0), |state| state.printed);
+        }
+        self.handed = from;
+        self.counts_to(from);
+        self.hand_over(Batch { origin: Some((origin.clone(), gap.is_some())), ..Batch::default() });
     }
 
     /// From here on each commit tells which files it touched.
@@ -63,9 +99,9 @@ impl Output {
         self.touched = Some(touched);
     }
 
-    /// Adds an event's line to the batch. None where it is of a kind that cannot be printed.
+    /// Adds an event's line to the batch, or answers why that cannot be.
     #[inline]
-    pub fn take(&mut self, event: Event) -> Option<()> {
+    pub fn take(&mut self, event: Event) -> Result<(), &'static str> {
         self.begun();
         let files: Option<Files> = self.touched.as_mut().map(|touched| touched.event(&event));
         self.lines.event(&mut self.text, &event, files)?;
@@ -73,15 +109,22 @@ impl Output {
             Event::Begin { .. } => self.outstanding = true,
             Event::Commit { end_lsn, .. } => {
                 self.outstanding = false;
+                self.printed = end_lsn;
                 self.counts_to(end_lsn);
             }
-            Event::KeepAlive { wal_end, .. } if !self.outstanding => self.counts_to(wal_end),
+            Event::KeepAlive { wal_end, .. } if !self.outstanding => {
+                self.printed = if self.keepalives { wal_end } else { self.printed };
+                self.counts_to(wal_end);
+            }
+            // All that was committed before it was sent before it.
+            Event::Message { transactional: false, lsn, .. } if !self.outstanding => self.counts_to(lsn),
+            Event::StoppedAt { .. } if !self.outstanding => self.counts_to(Lsn(0)),
             _ => {}
         }
         if self.text.len() >= BATCH {
-            self.hand_over(false);
+            self.hand_over(Batch::default());
         }
-        Some(())
+        Ok(())
     }
 
     // Whoever has the batch up to here is done with all before the position.
@@ -107,27 +150,30 @@ impl Output {
     /// The stream ends at a keepalive that reaches the end position.
     pub fn stopped(&mut self, reached: Lsn) {
         self.lines.stopped(&mut self.text, reached);
+        self.counts_to(Lsn(0));
     }
 
     /// Hands the batch to the writing thread; called when the input is used up.
     pub fn flush(&mut self) {
         if self.text.len() > 0 || self.position != Lsn(0) {
-            self.hand_over(false);
+            self.hand_over(Batch::default());
         }
     }
 
-    fn hand_over(&mut self, reopen: bool) {
-        let (position, counts) = (std::mem::take(&mut self.position), std::mem::take(&mut self.counts));
+    // With what else the batch is to do.
+    fn hand_over(&mut self, with: Batch) {
+        let (position, counts, printed) = (std::mem::take(&mut self.position), std::mem::take(&mut self.counts), std::mem::take(&mut self.printed));
         let mut queue = self.shared.queue();
         // A position alone goes with the last batch that waits: keepalives may come while nothing is written.
-        if let Some(last) = queue.batches.back_mut().filter(|_| self.text.len() == 0 && !reopen) {
+        let alone = self.text.len() == 0 && !with.reopen && with.origin.is_none();
+        if let Some(last) = queue.batches.back_mut().filter(|last| alone && !last.reopen) {
             (last.position, last.counts) = (position, last.bytes.len());
             return;
         }
         self.batches += 1;
         self.bytes += self.text.len() as u64;
         let bytes = self.text.replace(queue.spare.pop().unwrap_or_default());
-        queue.batches.push_back(Batch { bytes, position, counts, reopen });
+        queue.batches.push_back(Batch { bytes, position, counts, printed, ..with });
         self.shared.notify(queue);
     }
 
@@ -141,7 +187,7 @@ impl Output {
 
     /// Asks the writing thread to open the file again, after what was taken so far.
     pub fn reopen(&mut self) {
-        self.hand_over(true);
+        self.hand_over(Batch { reopen: true, ..Batch::default() });
     }
 
     /// Whether a transaction has begun and not ended.
@@ -200,7 +246,7 @@ mod tests {
     use std::fs;
     use std::io::Read;
     use std::os::unix::fs::PermissionsExt;
-    use std::path::PathBuf;
+    use std::path::{Path, PathBuf};
     use std::time::{Duration, Instant};
 
     // An empty folder of the test's own.
@@ -259,12 +305,127 @@ mod tests {
         }
         assert_eq!(fs::read_to_string(&file).unwrap(), lines);
         assert_eq!(fs::metadata(&file).unwrap().permissions().mode() & 0o777, 0o600);
-        // What is left of a program that was killed stays a line of its own.
+        fs::remove_dir_all(folder).unwrap();
+    }
+
+    fn origin() -> Origin {
+        Origin { system: 7, timeline: 1, slot: "s".into() }
+    }
+
+    // One that follows a server whose slot stands here, as it was before a kill.
+    fn begun(file: &Path, from: u64, gap: Option<&str>) -> Output {
+        let mut output = output(file.to_str().unwrap(), &["-F", "1000", "--keepalives"]).unwrap();
+        let from = output.before().map_or(Lsn(from), |state| state.position);
+        output.begins(&origin(), from, gap);
+        output.sync();
+        until(|| output.settled());
+        output
+    }
+
+    fn killed(output: Output) {
+        // The lock goes with the process, and here with the thread.
+        let Output { shared, thread, .. } = output;
+        let mut queue = shared.queue();
+        (queue.ended, queue.killed) = (true, true);
+        shared.notify(queue);
+        thread.unwrap().join().unwrap().unwrap();
+    }
+
+    #[test]
+    fn a_file_without_a_state_is_appended_to() {
+        let folder = folder("stateless");
+        let file = folder.join("f");
+        // What is left of another program stays a line of its own.
         fs::write(&file, "begin 3 fin").unwrap();
-        let mut output = output(file.to_str().unwrap(), &[]).unwrap();
-        lines = transaction(&mut output, 48);
+        let mut output = begun(&file, 16, None);
+        let lines = transaction(&mut output, 48);
         output.finish().unwrap();
         assert_eq!(fs::read_to_string(&file).unwrap(), format!("begin 3 fin\n{lines}"));
+        fs::remove_dir_all(folder).unwrap();
+    }
+
+    #[test]
+    fn after_a_kill_a_file_is_cut_back_to_its_state() {
+        let folder = folder("killed");
+        let file = folder.join("f");
+        let mut output = begun(&file, 16, None);
+        let lines = transaction(&mut output, 32);
+        output.sync();
+        until(|| output.settled());
+        // Written, but not synced: a whole transaction and a part of one.
+        transaction(&mut output, 48);
+        output.take(Event::Begin { final_lsn: Lsn(64), commit_time_micros: 0, xid: 2 }).unwrap();
+        output.flush();
+        until(|| fs::metadata(&file).unwrap().len() > lines.len() as u64 * 2);
+        assert_eq!(output.position(), Lsn(32));
+        // Nobody else writes it meanwhile.
+        let line = super::tests::output(file.to_str().unwrap(), &[]).err().unwrap().line;
+        assert!(line.ends_with("is written by another follow: name another file, or end that one"), "{line}");
+        killed(output);
+        let mut output = begun(&file, 99, None);
+        assert_eq!((output.position(), fs::read_to_string(&file).unwrap()), (Lsn(32), lines.clone()));
+        let state = output.before().unwrap().clone();
+        assert_eq!((state.position, state.printed, state.len), (Lsn(32), Lsn(32), lines.len() as u64));
+        // A message and a printed keepalive outside a transaction stay, too.
+        output.take(Event::Message { transactional: false, lsn: Lsn(40), prefix: b"p", content: b"c" }).unwrap();
+        output.take(Event::KeepAlive { wal_end: Lsn(41), server_time_micros: 0, reply_requested: false }).unwrap();
+        output.sync();
+        until(|| output.settled());
+        let longer = fs::read_to_string(&file).unwrap();
+        transaction(&mut output, 48);
+        killed(output);
+        assert_eq!(begun(&file, 0, None).position(), Lsn(41));
+        assert_eq!(fs::read_to_string(&file).unwrap(), longer);
+        fs::remove_dir_all(folder).unwrap();
+    }
+
+    #[test]
+    fn a_file_that_was_renamed_is_cut_back_where_it_is() {
+        let folder = folder("renamed");
+        let (file, moved) = (folder.join("f"), folder.join("f.1"));
+        let mut output = begun(&file, 16, None);
+        let lines = transaction(&mut output, 32);
+        output.sync();
+        until(|| output.settled());
+        transaction(&mut output, 48);
+        output.flush();
+        until(|| fs::metadata(&file).unwrap().len() > lines.len() as u64);
+        fs::rename(&file, &moved).unwrap();
+        killed(output);
+        let mut output = begun(&file, 0, None);
+        assert_eq!((output.position(), fs::read_to_string(&moved).unwrap()), (Lsn(32), lines));
+        let lines = transaction(&mut output, 48);
+        output.finish().unwrap();
+        assert_eq!(fs::read_to_string(&file).unwrap(), lines);
+        // One that is shorter than its state is not lengthened; one that is gone has nothing to cut.
+        fs::write(&file, "").unwrap();
+        begun(&file, 0, None).finish().unwrap();
+        assert_eq!(fs::read_to_string(&file).unwrap(), "");
+        fs::remove_file(&file).unwrap();
+        assert_eq!(begun(&file, 0, None).position(), Lsn(48));
+        fs::remove_dir_all(folder).unwrap();
+    }
+
+    #[test]
+    fn before_a_gap_nothing_is_cut_off() {
+        let folder = folder("gap");
+        let file = folder.join("f");
+        let mut output = begun(&file, 16, None);
+        let mut lines = transaction(&mut output, 32);
+        output.sync();
+        until(|| output.settled());
+        lines += &transaction(&mut output, 48);
+        output.flush();
+        until(|| fs::read_to_string(&file).unwrap() == lines);
+        killed(output);
+        let mut output = super::tests::output(file.to_str().unwrap(), &[]).unwrap();
+        output.begins(&Origin { timeline: 2, ..origin() }, Lsn(24), Some("another \"server\""));
+        lines += "gap done 0/20 from 0/18 \"another \\\"server\\\"\"\n";
+        lines += &transaction(&mut output, 40);
+        output.finish().unwrap();
+        // Positions of another log may be smaller.
+        assert_eq!((output.position(), fs::read_to_string(&file).unwrap()), (Lsn(40), lines));
+        assert_eq!(begun(&file, 0, None).before().unwrap().origin.timeline, 2);
         fs::remove_dir_all(folder).unwrap();
     }
 

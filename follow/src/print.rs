@@ -4,6 +4,9 @@ use crate::options::{Format, Options};
 use crate::rows::Relations;
 use rufflesquash::{Event, Files, Lsn};
 
+const TOO_MANY: &str = "the server describes more relations than 64 MB hold; follow fewer tables, with a publication of their own";
+const UNKNOWN: &str = "the library hands on an event that follow cannot print";
+
 /// Writes the lines of one stream after the other.
 pub struct Lines {
     json: bool,
@@ -18,31 +21,44 @@ pub struct Lines {
 impl Lines {
     pub fn new(options: &Options) -> Lines {
         let (json, raw, keepalives) = (options.format == Format::Json, options.raw, options.keepalives);
-        Lines { json, raw, keepalives, relations: Relations::new(), commit_dates: Dates::default(), server_dates: Dates::default() }
+        Lines { json, raw, keepalives, relations: Relations::default(), commit_dates: Dates::default(), server_dates: Dates::default() }
     }
 
-    /// Adds an event's line; what data describe is kept. None for an event of a kind that is not known here: it cannot be printed, so nothing from it
-    /// on may be confirmed.
+    /// Adds an event's line; what data describe is kept. Why it cannot be printed, where it cannot: then nothing from it on may be confirmed.
     #[inline]
-    pub fn event(&mut self, out: &mut Text, event: &Event, files: Option<Files>) -> Option<()> {
+    pub fn event(&mut self, out: &mut Text, event: &Event, files: Option<Files>) -> Result<(), &'static str> {
         match (event, self.json) {
-            (Event::KeepAlive { .. }, _) if !self.keepalives => return Some(()),
+            (Event::KeepAlive { .. }, _) if !self.keepalives => return Ok(()),
             (Event::XLogData { wal_start, wal_end, server_time_micros, data }, true) => {
-                self.data_json(out, [*wal_start, *wal_end], *server_time_micros, data)
+                self.data_json(out, [*wal_start, *wal_end], *server_time_micros, data).ok_or(TOO_MANY)?
             }
-            (event, true) => self.boundary_json(out, event, files)?,
-            (event, false) => self.event_text(out, event, files)?,
+            (Event::XLogData { wal_start, data, .. }, false) => self.data_text(out, *wal_start, data).ok_or(TOO_MANY)?,
+            (event, true) => self.boundary_json(out, event, files).ok_or(UNKNOWN)?,
+            (event, false) => self.event_text(out, event, files).ok_or(UNKNOWN)?,
         }
         out.raw(b"\n");
-        Some(())
+        Ok(())
     }
 
     /// The stream begins again from here after a cut: a transaction without its commit is sent again whole, and the server describes each relation
     /// anew.
     pub fn resumed(&mut self, out: &mut Text, from: Lsn) {
-        self.relations = Relations::new();
+        self.relations = Relations::default();
         self.at(out, ["{\"event\":\"resumed\",\"from\":\"", "resumed from "], from);
         out.raw(b"\n");
+    }
+
+    /// What was changed after a position and before another is not in the stream, for this reason.
+    pub fn gap(&mut self, out: &mut Text, done: Lsn, from: Lsn, reason: &str) {
+        let [first, second, third, end] = match self.json {
+            true => ["{\"event\":\"gap\",\"done\":\"", "\",\"from\":\"", "\",\"reason\":", "}\n"],
+            false => ["gap done ", " from ", " ", "\n"],
+        };
+        member(out, first.as_bytes(), done);
+        member(out, second.as_bytes(), from);
+        out.raw(third.as_bytes());
+        out.quoted(reason.as_bytes());
+        out.raw(end.as_bytes());
     }
 
     /// The stream ends here.
@@ -57,7 +73,8 @@ impl Lines {
         out.raw(if self.json { "\"}" } else { "" }.as_bytes());
     }
 
-    fn data_json(&mut self, out: &mut Text, [start, end]: [Lsn; 2], time: i64, data: &[u8]) {
+    // None where more relations are described than can be kept.
+    fn data_json(&mut self, out: &mut Text, [start, end]: [Lsn; 2], time: i64, data: &[u8]) -> Option<()> {
         out.raw(kind(data).1.as_bytes());
         out.position(start);
         out.raw(b"\",\"wal_end\":\"");
@@ -66,7 +83,7 @@ impl Lines {
         self.server_dates.write(out, time);
         out.raw(b"\",");
         let before = out.len();
-        let all = self.relations.change(data).json(out);
+        let all = self.relations.change(data)?.json(out);
         if self.raw || !all {
             let next = out.len() > before;
             out.raw(if next { ",\"data\":\"" } else { "\"data\":\"" }.as_bytes());
@@ -74,6 +91,15 @@ impl Lines {
             out.raw(b"\"");
         }
         out.raw(b"}");
+        Some(())
+    }
+
+    fn data_text(&mut self, out: &mut Text, start: Lsn, data: &[u8]) -> Option<()> {
+        member(out, b"data ", start);
+        out.raw(b" ");
+        out.raw(kind(data).0.as_bytes());
+        self.relations.change(data)?.text(out);
+        Some(())
     }
 
     // All events but data.
@@ -138,12 +164,6 @@ impl Lines {
                 }
             }
             Event::Message { transactional, lsn, prefix, content } => message_text(out, *transactional, *lsn, prefix, content),
-            Event::XLogData { wal_start, data, .. } => {
-                member(out, b"data ", *wal_start);
-                out.raw(b" ");
-                out.raw(kind(data).0.as_bytes());
-                self.relations.change(data).text(out);
-            }
             Event::StoppedAt { reached } => self.at(out, ["", "stopped at "], *reached),
             _ => return None,
         }
@@ -254,7 +274,7 @@ mod tests {
     // A line with its options, without its end.
     fn line(json: bool, raw: bool, event: &Event, files: Option<Files>) -> String {
         let mut lines =
-            Lines { json, raw, keepalives: true, relations: Relations::new(), commit_dates: Dates::default(), server_dates: Dates::default() };
+            Lines { json, raw, keepalives: true, relations: Relations::default(), commit_dates: Dates::default(), server_dates: Dates::default() };
         let mut out = Text::default();
         lines.event(&mut out, event, files).unwrap();
         String::from_utf8(out.as_bytes().to_vec()).unwrap().strip_suffix('\n').unwrap().to_string()

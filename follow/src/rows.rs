@@ -1,14 +1,18 @@
-//! Rows as they are printed: with the names of their relation's columns, or by place where the relation cache refuses them.
+//! Rows as they are printed: with the names of their relation's columns, which the stream describes before them.
 use crate::json::{Members, Text};
-use rufflesquash::relations::{HeldColumn, HeldColumns, RelationCache};
 use rufflesquash::rows::{Column, Description, Old, Relation, Row, Tuple};
+use rufflesquash::Refusal;
 use std::collections::BTreeMap;
 use std::fmt::Write;
 
-/// What the stream has described so far. The relation cache holds no names of schemas and tables, so they are kept here.
+/// So many bytes of descriptions are kept. A server that describes more relations without end would else take all memory.
+const MOST: usize = 64 * 1024 * 1024;
+
+/// What the stream has described so far, each relation as it was described last.
+#[derive(Default)]
 pub struct Relations {
-    cache: Box<RelationCache>,
     tables: Tables,
+    bytes: usize,
 }
 
 type Tables = BTreeMap<u32, Table>;
@@ -17,10 +21,7 @@ type Tables = BTreeMap<u32, Table>;
 struct Table {
     json: Prepared,
     plain: Prepared,
-    /// The columns as the relation cache holds them; none where it has refused the last description.
     columns: Vec<Cell>,
-    /// Why it has refused it: what it still holds of the relation is not what that is.
-    refusal: Option<u8>,
 }
 
 /// A part of a line, and the marks in it.
@@ -45,7 +46,7 @@ const BY_PLACE: &[u8] = b",{\"value\":\"";
 pub struct Change<'a> {
     row: Option<Row<'a>>,
     bytes: usize,
-    /// Why columns have no names (28 to 30), or why the data cannot be read (26, 27).
+    /// Why columns have no names (30), or why the data cannot be read (26, 27).
     refusal: Option<u8>,
     tables: &'a Tables,
 }
@@ -60,7 +61,7 @@ fn schema(namespace: &[u8]) -> &[u8] {
 }
 
 impl Table {
-    fn new(relation: &Relation, held: Option<HeldColumns>, refusal: Option<u8>) -> Table {
+    fn new(relation: &Relation) -> Table {
         let mut text = Text::default();
         let mut members = Members::new(&mut text);
         members.value("relation", relation.id);
@@ -70,19 +71,25 @@ impl Table {
         let json = Prepared { text, marks };
         let mut plain = Prepared::default();
         plain.marks = names(&mut plain.text, schema(relation.namespace), relation.name);
-        let columns = held.filter(|_| refusal.is_none()).map_or(Vec::new(), |held| held.map(Cell::new).collect());
-        Table { json, plain, columns, refusal }
+        Table { json, plain, columns: relation.columns.iter().map(Cell::new).collect() }
+    }
+
+    // With what the memory's own management takes, about.
+    fn bytes(&self) -> usize {
+        let of = |json: &Prepared, plain: &Prepared| json.text.capacity() + plain.text.capacity() + 64;
+        let cell = |cell: &Cell| of(&cell.json, &cell.plain) + std::mem::size_of::<Cell>();
+        of(&self.json, &self.plain) + std::mem::size_of::<Table>() + self.columns.iter().map(cell).sum::<usize>()
     }
 }
 
 impl Cell {
-    fn new(column: HeldColumn) -> Cell {
+    fn new(column: Description) -> Cell {
         let mut text = Text::default();
         text.raw(b",{");
         let mut members = Members::new(&mut text);
         members.text("name", column.name);
         members.value("typeoid", column.type_oid);
-        if column.key {
+        if column.is_key() {
             members.value("key", true);
         }
         let marks = members.marks;
@@ -93,31 +100,39 @@ impl Cell {
         plain.text.raw(b" ");
         plain.marks = name(&mut plain.text, column.name);
         plain.text.raw(b"=");
-        Cell { json, plain, key: column.key }
+        Cell { json, plain, key: column.is_key() }
     }
 }
 
 impl Relations {
-    /// Nothing is described yet: a stream begins.
-    pub fn new() -> Relations {
-        Relations { cache: RelationCache::boxed(), tables: Tables::new() }
+    /// What data say; a description is kept. None where there are more of these than can be.
+    pub fn change<'a>(&'a mut self, data: &'a [u8]) -> Option<Change<'a>> {
+        let (row, refusal) = match Row::parse(data) {
+            Ok(row) => (row, None),
+            Err(refusal) => (None, Some(refusal)),
+        };
+        if let Some(Row::Relation(relation)) = &row {
+            let table = Table::new(relation);
+            self.bytes += table.bytes();
+            self.bytes -= self.tables.insert(relation.id, table).map_or(0, |former| former.bytes());
+            if self.bytes > MOST {
+                return None;
+            }
+        }
+        let refusal = refusal.or_else(|| row.as_ref().and_then(|row| self.unnamed(row))).map(|refusal| refusal.number());
+        Some(Change { row, bytes: data.len(), refusal, tables: &self.tables })
     }
 
-    /// What data say; a description is kept.
-    pub fn change<'a>(&'a mut self, data: &'a [u8]) -> Change<'a> {
-        let row = Row::parse(data).ok().flatten();
-        let mut refusal = self.cache.row(data).err().map(|refusal| refusal.number());
-        match &row {
-            Some(Row::Relation(relation)) => {
-                let table = Table::new(relation, self.cache.columns(relation.id), refusal);
-                self.tables.insert(relation.id, table);
-            }
-            Some(Row::Insert { relation, .. } | Row::Update { relation, .. } | Row::Delete { relation, .. }) => {
-                refusal = refusal.or(self.tables.get(relation).and_then(|table| table.refusal));
-            }
-            _ => {}
-        }
-        Change { row, bytes: data.len(), refusal, tables: &self.tables }
+    // A row whose relation was not described, or with another number of columns, has no names.
+    fn unnamed(&self, row: &Row) -> Option<Refusal> {
+        let fits = |relation: &u32, tuple: Tuple| self.tables.get(relation).is_some_and(|table| table.columns.len() == tuple.len());
+        let named = match row {
+            Row::Insert { relation, new } => fits(relation, *new),
+            Row::Update { relation, old, new } => fits(relation, *new) && old.is_none_or(|old| fits(relation, old.tuple())),
+            Row::Delete { relation, old } => fits(relation, old.tuple()),
+            _ => true,
+        };
+        (!named).then_some(Refusal::RowUnmatched)
     }
 }
 
@@ -155,7 +170,7 @@ impl Change<'_> {
         if let Some(old) = old {
             out.raw(b",\"identity\":[");
             cells_json(out, old.tuple(), columns, matches!(old, Old::Key(_)));
-            out.raw(b"]");
+            out.raw(if matches!(old, Old::Key(_)) { &b"],\"identity_of\":\"key\""[..] } else { b"],\"identity_of\":\"row\"" });
         }
         marks_json(out, table.map_or(0, |table| table.json.marks));
     }
@@ -391,19 +406,19 @@ mod tests {
 
     fn json(relations: &mut Relations, data: &[u8]) -> String {
         let mut out = Text::default();
-        relations.change(data).json(&mut out);
+        relations.change(data).unwrap().json(&mut out);
         String::from_utf8(out.as_bytes().to_vec()).unwrap()
     }
 
     fn text(relations: &mut Relations, data: &[u8]) -> String {
         let mut out = Text::default();
-        relations.change(data).text(&mut out);
+        relations.change(data).unwrap().text(&mut out);
         String::from_utf8_lossy(&out.as_bytes()[1..]).into_owned()
     }
 
     #[test]
     fn rows_with_names() {
-        let mut all = Relations::new();
+        let mut all = Relations::default();
         let head = r#""relation":7,"schema":"public","table":"words""#;
         let id = |value: &str| format!(r#"{{"name":"id","typeoid":23,"key":true,{value}}}"#);
         let words = |value: &str| format!(r#"{{"name":"a b","typeoid":25,{value}}}"#);
@@ -420,17 +435,17 @@ mod tests {
         // Of a key its other columns are left out, and of a binary value the digits are printed.
         let update = b"U\0\0\0\x07K\0\x02t\0\0\0\x011nN\0\x02b\0\0\0\x02\x01\xFEu";
         let (new, unchanged) = (id(r#""binary":"01fe""#), words(r#""unchanged":true"#));
-        assert_eq!(json(&mut all, update), format!(r#"{head},"columns":[{new},{unchanged}],"identity":[{one}]"#));
+        assert_eq!(json(&mut all, update), format!(r#"{head},"columns":[{new},{unchanged}],"identity":[{one}],"identity_of":"key""#));
         assert_eq!(text(&mut all, update), "public.words old id=\"1\" new id=0x01fe \"a b\"=unchanged");
         let delete = b"D\0\0\0\x07O\0\x02t\0\0\0\x011n";
-        assert_eq!(json(&mut all, delete), format!(r#"{head},"identity":[{one},{}]"#, words(r#""value":null"#)));
+        assert_eq!(json(&mut all, delete), format!(r#"{head},"identity":[{one},{}],"identity_of":"row""#, words(r#""value":null"#)));
         assert_eq!(text(&mut all, delete), "public.words id=\"1\" \"a b\"=null");
     }
 
     // README's example, but for what stands before it on the line.
     #[test]
     fn greetings() {
-        let mut all = Relations::new();
+        let mut all = Relations::default();
         all.change(b"R\0\0\x40\x01public\0greetings\0d\0\x02\x01id\0\0\0\0\x17\xFF\xFF\xFF\xFF\0words\0\0\0\0\x19\xFF\xFF\xFF\xFF");
         let printed = json(&mut all, b"I\0\0\x40\x01N\0\x02t\0\0\0\x011t\0\0\0\x09Guten Tag");
         assert!(include_str!("../../README.md").contains(&format!("`{printed}`")), "{printed}");
@@ -438,7 +453,7 @@ mod tests {
 
     #[test]
     fn what_is_no_row() {
-        let mut all = Relations::new();
+        let mut all = Relations::default();
         all.change(RELATION);
         let truncate = b"T\0\0\0\x02\x03\0\0\0\x07\0\0\0\x08";
         let tables = r#""tables":[{"relation":7,"schema":"public","table":"words"},{"relation":8}],"cascade":true,"restart_identity":true"#;
@@ -456,34 +471,45 @@ mod tests {
 
     #[test]
     fn rows_without_names() {
-        let mut all = Relations::new();
-        // Never described, described with another count, and with a name that is too long while a former description is held.
+        let mut all = Relations::default();
+        // Never described, and described with another count.
         let two = b"I\0\0\0\x07N\0\x02t\0\0\0\x011n";
         assert_eq!(json(&mut all, two), r#""relation":7,"refusal":30,"columns":[{"value":"1"},{"value":null}]"#);
         assert_eq!(text(&mut all, two), "relation 7 refused 30 \"1\" null");
         all.change(RELATION);
         let one = b"U\0\0\0\x07K\0\x01t\0\0\0\x011N\0\x01u";
         let head = r#""relation":7,"schema":"public","table":"words""#;
-        assert_eq!(json(&mut all, one), format!(r#"{head},"refusal":30,"columns":[{{"unchanged":true}}],"identity":[{{"value":"1"}}]"#));
+        let identity = r#""identity":[{"value":"1"}],"identity_of":"key""#;
+        assert_eq!(json(&mut all, one), format!(r#"{head},"refusal":30,"columns":[{{"unchanged":true}}],{identity}"#));
         assert_eq!(text(&mut all, one), "public.words refused 30 old \"1\" new unchanged");
-        let long =
-            [b"R\0\0\0\x07public\0words\0d\0\x02\x01", &[b'l'; 64][..], b"\0\0\0\0\x17\xFF\xFF\xFF\xFF\0b\0\0\0\0\x19\xFF\xFF\xFF\xFF"].concat();
-        assert!(json(&mut all, &long).starts_with(&format!(r#"{head},"refusal":29,"replica_identity":"d","columns":[{{"name":"llll"#)));
-        assert_eq!(json(&mut all, two), format!(r#"{head},"refusal":29,"columns":[{{"value":"1"}},{{"value":null}}]"#));
-        all.change(RELATION);
         assert_eq!(text(&mut all, two), "public.words id=\"1\" \"a b\"=null");
     }
 
+    // With that many columns, whose names have that many bytes.
+    fn described(id: u32, columns: u16, name: usize) -> Vec<u8> {
+        let column = [&[0][..], &vec![b'n'; name], b"\0\0\0\0\x19\xFF\xFF\xFF\xFF"].concat();
+        [b"R", &id.to_be_bytes()[..], b"s\0t\0d", &columns.to_be_bytes(), &column.repeat(columns.into())].concat()
+    }
+
     #[test]
-    fn more_relations_than_are_held() {
-        let mut all = Relations::new();
-        let described = |id: u8| [b"R\0\0\0", &[id][..], b"s\0t\0d\0\0"].concat();
-        let row = |id: u8| [b"I\0\0\0", &[id][..], b"N\0\0"].concat();
-        for id in 0..70 {
-            let refusal = if id < 64 { "" } else { ",\"refusal\":28" };
-            assert!(json(&mut all, &described(id)).contains(&format!("\"table\":\"t\"{refusal},\"replica")), "{id}");
+    fn many_relations_and_columns_have_names() {
+        let mut all = Relations::default();
+        for id in 0..2000 {
+            all.change(&described(id, 3, 5)).unwrap();
         }
-        assert_eq!(text(&mut all, &row(63)), "s.t");
-        assert_eq!(text(&mut all, &row(64)), "s.t refused 30");
+        all.change(&described(77, 1600, 200)).unwrap();
+        let row = |id: u32, columns: u16| [b"I", &id.to_be_bytes()[..], b"N", &columns.to_be_bytes(), &b"n".repeat(columns.into())].concat();
+        assert_eq!(text(&mut all, &row(1999, 3)), "s.t nnnnn=null nnnnn=null nnnnn=null");
+        let wide = json(&mut all, &row(77, 1600));
+        assert_eq!((wide.matches(&"n".repeat(200)).count(), wide.contains("refusal")), (1600, false));
+    }
+
+    #[test]
+    fn descriptions_without_end() {
+        let mut all = Relations::default();
+        // One that is described again takes the place of the former.
+        assert!((0..100).all(|_| all.change(&described(7, 1600, 63)).is_some()));
+        let kept = (0..1_000_000).take_while(|id| all.change(&described(*id, 1600, 63)).is_some()).count();
+        assert!((50..200).contains(&kept), "{kept}");
     }
 }

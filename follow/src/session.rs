@@ -96,7 +96,7 @@ impl Host<'_> {
                 _ => {}
             }
         }
-        self.output.take(event).ok_or_else(|| Failure::new(FAILED, "the library hands on an event that follow cannot print"))
+        self.output.take(event).map_err(|why| Failure::new(FAILED, why))
     }
 }
 

@@ -2,7 +2,8 @@
 use crate::conninfo::Conninfo;
 use crate::failure::{sqlstate, tell, who, Failure, FAILED, LOST, ONE_AT_A_TIME};
 use crate::options::Options;
-use crate::startup::Talk;
+use crate::startup::{Answers, Talk};
+use crate::state::{Origin, Standing};
 use rufflesquash::Lsn;
 use std::time::Duration;
 
@@ -21,16 +22,30 @@ struct Slot {
     pid: String,
     /// Whether the server has what it stands at no more.
     lost: bool,
+    /// Up to where it is confirmed.
+    confirmed: Lsn,
+    /// Whether prepared transactions are sent before they are committed.
+    two_phase: bool,
+    /// After how long without a status the server ends a stream; none where it never does.
+    timeout: Option<Duration>,
 }
 
 impl Slot {
     // From the column that `SLOT` asks for.
     fn of(row: &[u8]) -> Option<Slot> {
         let text = String::from_utf8_lossy(row);
-        let mut parts = text.splitn(5, '\n').map(String::from);
-        let mut part = || parts.next();
-        let (kind, pid, status, plugin, other_database) = (part()?, part()?, part()?, part()?, part()?);
-        Some(Slot { logical: kind == "logical", plugin, other_database, pid, lost: status == "lost" })
+        let parts: Vec<&str> = text.splitn(8, '\n').collect();
+        let [kind, pid, status, confirmed, two_phase, timeout, plugin, other_database] = parts[..] else { return None };
+        Some(Slot {
+            logical: kind == "logical",
+            plugin: plugin.to_string(),
+            other_database: other_database.to_string(),
+            pid: pid.to_string(),
+            lost: status == "lost",
+            confirmed: Lsn::parse(confirmed.as_bytes()).unwrap_or_default(),
+            two_phase: two_phase == "true",
+            timeout: timeout.parse().ok().filter(|millis| *millis > 0).map(Duration::from_millis),
+        })
     }
 
     // Whether it can be followed here at all.
@@ -42,6 +57,11 @@ impl Slot {
             format!("slot {slot} is one of the plugin {plugin}; follow reads pgoutput: name another, or make one with --create-slot")
         } else if !other_database.is_empty() {
             format!("slot {slot} is one of the database {other_database}; connect to that with --dbname, or name another slot")
+        } else if self.two_phase {
+            format!(
+                "slot {slot} was made with two_phase, and follow would confirm prepared transactions before they are committed: \
+                 name another, or make one with --create-slot"
+            )
         } else if self.lost {
             format!("slot {slot} was invalidated by the server: {LOST}")
         } else {
@@ -68,19 +88,26 @@ impl Talk<'_> {
         self.query(&format!("DROP_REPLICATION_SLOT {}", options.slot))?.map(drop).map_err(|error| Failure::server(&error))
     }
 
-    /// Whether the slot is there, of this plugin and database, and free: a stream that begins would tell some of it only, and in other words.
-    pub fn check_slot(&mut self, options: &Options) -> Result<(), Failure> {
+    /// Where the server and the slot stand, where the slot is there, of this plugin and database, and free: a stream that begins would tell some of it
+    /// only, and in other words.
+    pub fn standing(&mut self, options: &Options) -> Result<Standing, Failure> {
         let (name, slot) = (&options.slot, self.slot(&options.slot)?);
         slot.check(name)?;
-        if slot.pid.is_empty() {
-            return Ok(());
+        if !slot.pid.is_empty() {
+            let line = format!("slot {name} is in use by the connection with PID {} on the server; {ONE_AT_A_TIME}; {}", slot.pid, who(&slot.pid));
+            return Err(Failure { again: true, ..Failure::new(FAILED, line) });
         }
-        let line = format!("slot {name} is in use by the connection with PID {} on the server; {ONE_AT_A_TIME}; {}", slot.pid, who(&slot.pid));
-        Err(Failure { again: true, ..Failure::new(FAILED, line) })
+        let rows = self.query_columns("IDENTIFY_SYSTEM", 3)?.map_err(|error| Failure::server(&error))?;
+        let text = |at: usize| rows.first().and_then(|row| row.get(at)).and_then(|value| std::str::from_utf8(value).ok());
+        let strange = || Failure::new(FAILED, "the server's answer to IDENTIFY_SYSTEM is not what the protocol says: is this a PostgreSQL server?");
+        let system = text(0).and_then(|text| text.parse().ok()).ok_or_else(strange)?;
+        let timeline = text(1).and_then(|text| text.parse().ok()).ok_or_else(strange)?;
+        let end = text(2).and_then(|text| Lsn::parse(text.as_bytes()).ok()).ok_or_else(strange)?;
+        Ok(Standing { origin: Origin { system, timeline, slot: name.clone() }, end, confirmed: slot.confirmed, timeout: slot.timeout })
     }
 
     // After a while the user is told what is waited for.
-    fn slow_query(&mut self, text: &str, waits: &str) -> Result<Result<Vec<Vec<u8>>, Vec<u8>>, Failure> {
+    fn slow_query(&mut self, text: &str, waits: &str) -> Result<Answers<Vec<u8>>, Failure> {
         self.send_query(text)?;
         if self.silent_for(PATIENCE) {
             tell(format_args!("waiting for {waits}; Ctrl-C ends this"));
@@ -161,9 +188,12 @@ impl Talk<'_> {
     }
 }
 
-/// A slot in one column: lines with its kind, the PID of who uses it, its state, its plugin, and its database where that is not the connection's.
-const SLOT: &str = "SELECT pg_catalog.concat_ws(E'\\n', slot_type, coalesce(active_pid::text, ''), coalesce(wal_status, ''), coalesce(plugin, ''), \
-    CASE WHEN database <> pg_catalog.current_database() THEN database ELSE '' END) FROM pg_catalog.pg_replication_slots";
+/// A slot in one column: lines with its kind, the PID of who uses it, its state, up to where it is confirmed, whether it is one of two phases, the
+/// server's timeout in milliseconds, its plugin, and its database where that is not the connection's. Older servers have no column `two_phase`.
+const SLOT: &str = "SELECT pg_catalog.concat_ws(E'\\n', slot_type, coalesce(active_pid::text, ''), coalesce(wal_status, ''), \
+    coalesce(confirmed_flush_lsn::text, ''), coalesce(pg_catalog.jsonb_object_field_text(pg_catalog.to_jsonb(s), 'two_phase'), ''), \
+    coalesce((SELECT setting FROM pg_catalog.pg_settings WHERE name = 'wal_sender_timeout'), ''), coalesce(plugin, ''), \
+    CASE WHEN database <> pg_catalog.current_database() THEN database ELSE '' END) FROM pg_catalog.pg_replication_slots s";
 
 /// The tables of publications: an OID, a space, a schema, a dot and a table in one column.
 // By a function of the catalog's: an operator that somebody made for these types would be called instead of the catalog's own.

@@ -12,6 +12,9 @@ use std::time::{Duration, Instant};
 /// The longest answer that is taken here, and the longest error that is kept, in bytes.
 const LONGEST_ANSWER: usize = 1_048_576;
 
+/// What answers a query: rows, or the payload of the server's ErrorResponse.
+pub type Answers<Row> = Result<Vec<Row>, Vec<u8>>;
+
 /// When the user is asked for a password.
 #[derive(Clone, Copy, Debug, PartialEq)]
 pub enum Ask {
@@ -357,9 +360,15 @@ impl<'a> Talk<'a> {
     }
 
     /// The first column of each row that answers a query, or the payload of the server's ErrorResponse.
-    pub fn query(&mut self, text: &str) -> Result<Result<Vec<Vec<u8>>, Vec<u8>>, Failure> {
+    pub fn query(&mut self, text: &str) -> Result<Answers<Vec<u8>>, Failure> {
         self.send_query(text)?;
         self.answers()
+    }
+
+    /// The first columns of each row.
+    pub fn query_columns(&mut self, text: &str, columns: usize) -> Result<Answers<Vec<Vec<u8>>>, Failure> {
+        self.send_query(text)?;
+        self.rows(columns)
     }
 
     /// Whether the server says nothing for so long.
@@ -375,7 +384,12 @@ impl<'a> Talk<'a> {
     }
 
     /// What answers a query that was sent.
-    pub(crate) fn answers(&mut self) -> Result<Result<Vec<Vec<u8>>, Vec<u8>>, Failure> {
+    pub(crate) fn answers(&mut self) -> Result<Answers<Vec<u8>>, Failure> {
+        Ok(self.rows(1)?.map(|rows| rows.into_iter().flatten().collect()))
+    }
+
+    // Of each row the values of its first columns; nulls are left out.
+    fn rows(&mut self, columns: usize) -> Result<Answers<Vec<Vec<u8>>>, Failure> {
         let (mut query, mut error) = (Query::new(), vec![0; LONGEST_ANSWER]);
         let mut rows = Vec::new();
         loop {
@@ -383,9 +397,12 @@ impl<'a> Talk<'a> {
             match query.message(message, &mut error) {
                 QueryAnswer::More => {}
                 QueryAnswer::Row(_) => {
-                    if let Ok(Column::Value(value)) = DataRow::parse(message.payload).map(|row| row.column(0)) {
-                        rows.push(value.to_vec());
-                    }
+                    let Ok(row) = DataRow::parse(message.payload) else { return Err(unexpected()) };
+                    let value = |at| match row.column(at) {
+                        Column::Value(value) => Some(value.to_vec()),
+                        _ => None,
+                    };
+                    rows.push((0..columns).filter_map(value).collect());
                 }
                 QueryAnswer::Ready => return Ok(Ok(rows)),
                 QueryAnswer::Failed { payload, .. } => return Ok(Err(payload.to_vec())),

@@ -54,7 +54,9 @@ fn a_slot_that_is_there_already() {
     let (_, output) = refused(&["--create-slot"], exists());
     assert!(line(&output).ends_with("already exists (SQLSTATE 42710); follow it without --create-slot, or add --if-not-exists"));
     assert_eq!(output.status.code(), Some(1));
-    for (slot, status) in [(SLOT, 0), (b"logical\n12\nreserved\npgoutput\n", 0), (b"logical\n\nreserved\nwal2json\n", 1)] {
+    for (slot, status) in
+        [(SLOT, 0), (b"logical\n12\nreserved\n0/0\nfalse\n60000\npgoutput\n", 0), (b"logical\n\nreserved\n0/0\nfalse\n60000\nwal2json\n", 1)]
+    {
         let (port, server) = serve(move |listener| {
             let mut client = accept(&listener);
             authenticate(&mut client);
@@ -66,7 +68,7 @@ fn a_slot_that_is_there_already() {
             text
         });
         let output = command(port, &["--create-slot", "--if-not-exists"]).output().unwrap();
-        assert!(server.join().unwrap().ends_with("FROM pg_catalog.pg_replication_slots WHERE slot_name = E's'"));
+        assert!(server.join().unwrap().ends_with("FROM pg_catalog.pg_replication_slots s WHERE slot_name = E's'"));
         assert_eq!((output.status.code(), output.stderr.is_empty()), (Some(status), status == 0));
     }
 }
@@ -75,12 +77,19 @@ fn a_slot_that_is_there_already() {
 fn a_slot_that_cannot_be_followed_is_told_before_the_stream() {
     for (row, part) in [
         (&b""[..], "has no replication slot s; --create-slot makes it"),
-        (b"physical\n\n\n\n", "slot s is a physical one; name another, or make one with --create-slot"),
-        (b"logical\n\nreserved\nwal2json\n", "slot s is one of the plugin wal2json; follow reads pgoutput: name another, or make one"),
-        (b"logical\n\nreserved\npgoutput\nother\ndb", "slot s is one of the database other db; connect to that with --dbname"),
-        (b"logical\n\nlost\npgoutput\n", "slot s was invalidated by the server: the server no longer has the changes"),
-        (b"logical\n4711\nreserved\npgoutput\n", "PID 4711 on the server; a slot is followed by one connection at a time: end the other"),
-        (b"logical\n4711\nreserved\npgoutput\n", "SELECT * FROM pg_stat_activity WHERE pid = 4711 tells whose it is"),
+        (b"physical\n\n\n\n\n\n\n", "slot s is a physical one; name another, or make one with --create-slot"),
+        (
+            b"logical\n\nreserved\n0/0\nfalse\n60000\nwal2json\n",
+            "slot s is one of the plugin wal2json; follow reads pgoutput: name another, or make one",
+        ),
+        (b"logical\n\nreserved\n0/0\nfalse\n60000\npgoutput\nother\ndb", "slot s is one of the database other db; connect to that with --dbname"),
+        (b"logical\n\nlost\n0/0\nfalse\n60000\npgoutput\n", "slot s was invalidated by the server: the server no longer has the changes"),
+        (
+            b"logical\n4711\nreserved\n0/0\nfalse\n60000\npgoutput\n",
+            "PID 4711 on the server; a slot is followed by one connection at a time: end the other",
+        ),
+        (b"logical\n\nreserved\n0/0\ntrue\n60000\npgoutput\n", "slot s was made with two_phase, and follow would confirm prepared transactions"),
+        (b"logical\n4711\nreserved\n0/0\nfalse\n60000\npgoutput\n", "SELECT * FROM pg_stat_activity WHERE pid = 4711 tells whose it is"),
     ] {
         let (port, server) = serve(move |listener| {
             let mut client = accept(&listener);
@@ -155,11 +164,9 @@ fn options_of_the_plugin() {
     let (port, server) = serve(|listener| {
         let mut client = accept(&listener);
         authenticate(&mut client);
-        for row in [&b"a'\"b"[..], SLOT] {
-            query(&mut client);
-            answer(&mut client, &[row]);
-        }
-        let text = query(&mut client);
+        query(&mut client);
+        answer(&mut client, &[b"a'\"b"]);
+        let text = asked(&mut client, SLOT);
         client.write_all(&message(b'N', &error("01000", "a notice"))).unwrap();
         // The stream's first bytes come with the answer.
         client.write_all(&[message(b'W', &[0; 3]), transaction(0x100, 1)].concat()).unwrap();

@@ -395,6 +395,7 @@ fn a_file_that_cannot_grow_keeps_whole_transactions() {
     };
     for interval in ["0", "0.01"] {
         let _ = std::fs::remove_file(&file);
+        let _ = std::fs::remove_file(format!("{file}.state"));
         let (port, server) = serve(move |listener| send(listener, 1));
         let line = format!("ulimit -f 4; exec \"$0\" -h 127.0.0.1 -p {port} -U me -d db -S s --publication P -s 0.01 -f {file} -F {interval}");
         let mut command = Command::new("sh");
@@ -587,4 +588,117 @@ fn idle_keepalives_count_once_all_is_acknowledged() {
         assert_eq!(follow.wait().unwrap().code(), Some(0));
         assert_eq!((positions[0], positions.last()), (0, Some(&expected)), "{positions:?}");
     }
+}
+
+// A slot that is confirmed up to here.
+fn slot_at(confirmed: &str) -> Vec<u8> {
+    format!("logical\n\nreserved\n{confirmed}\nfalse\n60000\npgoutput\n").into_bytes()
+}
+
+// What the server says of itself and of the slot, after it has sent a transaction that ends at 0/108.
+const OTHERS: [(&str, [&str; 3], &str); 5] = [
+    ("0/108", ["7000000000000000002", "1", "F/0"], "this is another server: its system identifier is 7000000000000000002"),
+    ("0/108", ["7000000000000000001", "2", "F/0"], "the server is on timeline 2, and was on 1"),
+    ("0/50", ["7000000000000000001", "1", "0/107"], "the server's log ends at 0/107, before 0/108"),
+    ("0/109", ["7000000000000000001", "1", "F/0"], "slot s is confirmed up to 0/109, beyond 0/108"),
+    ("", ["7000000000000000001", "1", "F/0"], "has no replication slot s; --create-slot makes it, but changes after 0/108"),
+];
+
+// Answers what is asked before a stream that will not be; a slot that is confirmed nowhere is not there.
+fn stands(client: &mut TcpStream, confirmed: &str, system: [&str; 3]) {
+    authenticate(client);
+    loop {
+        let text = query(client);
+        match (text.as_str(), confirmed) {
+            ("IDENTIFY_SYSTEM", _) => return identify(client, system),
+            (slot, "") if slot.starts_with("SELECT pg_catalog.concat_ws") => return answer(client, &[]),
+            (slot, _) if slot.starts_with("SELECT pg_catalog.concat_ws") => answer(client, &[&slot_at(confirmed)]),
+            _ => answer(client, &[b"P"]),
+        }
+    }
+}
+
+#[test]
+fn a_gap_within_a_run_ends_it() {
+    for (confirmed, system, part) in OTHERS {
+        let (port, server) = serve(move |listener| {
+            let mut client = accept(&listener);
+            let_in(&mut client);
+            client.write_all(&transaction(0x100, 1)).unwrap();
+            drop(client);
+            let mut client = accept(&listener);
+            stands(&mut client, confirmed, system);
+            // No stream is asked for, and nothing is confirmed.
+            assert!([0, 5].contains(&client.read(&mut [0; 100]).unwrap_or(0)));
+        });
+        let output = follow(port, &[]);
+        server.join().unwrap();
+        let told = String::from_utf8(output.stderr).unwrap();
+        assert!(output.status.code() == Some(1) && told.lines().count() == 2 && told.contains(part), "{told}");
+        assert!(told.contains("--accept-gap"), "{told}");
+    }
+}
+
+#[test]
+fn a_gap_between_runs_ends_the_next_and_is_accepted() {
+    for (confirmed, system, part) in OTHERS {
+        let (folder, file) = file(&format!("gap_{}_{}_{}", confirmed.replace('/', ""), system[1], system[2].replace('/', "")));
+        let (port, server) = serve(|listener| {
+            let mut client = accept(&listener);
+            let_in(&mut client);
+            client.write_all(&transaction(0x100, 1)).unwrap();
+            statuses(&mut client);
+        });
+        assert_eq!(follow(port, &["-f", &file, "-E", "0/108"]).status.code(), Some(0));
+        server.join().unwrap();
+        let before = lines_of(&file);
+        let (port, server) = serve(move |listener| {
+            stands(&mut accept(&listener), confirmed, system);
+        });
+        let output = follow(port, &["-f", &file, "-n"]);
+        server.join().unwrap();
+        assert!(output.status.code() == Some(1) && line(&output).contains(part), "{output:?}");
+        assert_eq!(lines_of(&file), before);
+        if confirmed.is_empty() {
+            continue;
+        }
+        let (port, server) = serve(move |listener| {
+            let mut client = accept(&listener);
+            authenticate(&mut client);
+            let text = asked_of(&mut client, &slot_at(confirmed), system);
+            client.write_all(&message(b'W', &[0; 3])).unwrap();
+            client.write_all(&transaction(0x200, 2)).unwrap();
+            (text, statuses(&mut client))
+        });
+        let output = follow(port, &["-f", &file, "-E", "0/208", "--accept-gap"]);
+        let (text, positions) = server.join().unwrap();
+        assert_eq!(output.status.code(), Some(0), "{output:?}");
+        assert!(text.contains(&format!("LOGICAL {confirmed} ")), "{text}");
+        let first = u64::from_str_radix(confirmed.strip_prefix("0/").unwrap(), 16).unwrap();
+        assert_eq!((positions[0], positions.last()), (first, Some(&0x208)));
+        let gap = &lines_of(&file)[before.len()];
+        assert!(gap.starts_with(&format!("gap done 0/108 from {confirmed} \"")), "{gap}");
+        std::fs::remove_dir_all(folder).unwrap();
+    }
+}
+
+// A file goes on from its own position, whatever the slot has forgotten.
+#[test]
+fn a_file_goes_on_where_it_stands() {
+    let (folder, file) = file("goes_on");
+    for at in 1..4u64 {
+        let (port, server) = serve(move |listener| {
+            let mut client = accept(&listener);
+            let text = let_in(&mut client);
+            client.write_all(&transaction(0x100 * at, at as u32)).unwrap();
+            (text, statuses(&mut client))
+        });
+        assert_eq!(follow(port, &["-f", &file, "-E", &format!("0/{at}08")]).status.code(), Some(0));
+        let (text, positions) = server.join().unwrap();
+        let from = if at == 1 { "0/0".to_string() } else { format!("0/{}08", at - 1) };
+        assert!(text.contains(&format!("LOGICAL {from} ")) && positions.last() == Some(&(0x100 * at + 8)), "{text}");
+    }
+    let commits = lines_of(&file).iter().filter(|line| line.starts_with("commit")).count();
+    assert_eq!((commits, lines_of(&file).len()), (3, 12));
+    std::fs::remove_dir_all(folder).unwrap();
 }

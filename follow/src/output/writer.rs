@@ -1,13 +1,11 @@
 //! The thread that writes the output, and what it shares with the session.
+use super::target::{self, Target};
 use crate::ffi;
 use crate::options::Options;
-use crate::progress;
+use crate::state::{self, Origin, State};
 use rufflesquash::Lsn;
 use std::collections::VecDeque;
-use std::fs::{File, OpenOptions};
-use std::io::{self, ErrorKind, IsTerminal, Read, Seek, SeekFrom, Write};
-use std::os::unix::fs::{FileTypeExt, OpenOptionsExt};
-use std::path::{Path, PathBuf};
+use std::path::PathBuf;
 use std::sync::atomic::{AtomicBool, AtomicU64, Ordering::SeqCst};
 use std::sync::{Arc, Condvar, Mutex, MutexGuard, PoisonError};
 use std::time::{Duration, Instant};
@@ -15,6 +13,8 @@ use std::time::{Duration, Instant};
 /// Memory of larger batches is not kept.
 const SPARE: usize = 1024 * 1024;
 const SPARES: usize = 16;
+/// The time between two states of a file that is not synced.
+const UNSYNCED_STATES: Duration = Duration::from_millis(100);
 
 /// Whole lines.
 #[derive(Default)]
@@ -23,8 +23,12 @@ pub struct Batch {
     /// What is done once the first `counts` bytes are written; 0 where these lines end nothing.
     pub position: Lsn,
     pub counts: usize,
+    /// The last position in these lines that can be acknowledged; 0 where there is none.
+    pub printed: Lsn,
     /// Whether the file is to be opened again after it.
     pub reopen: bool,
+    /// Where what follows comes from, and whether changes before it may be missing.
+    pub origin: Option<(Origin, bool)>,
 }
 
 /// What the writing thread is to do.
@@ -35,6 +39,9 @@ pub struct Queue {
     pub spare: Vec<Vec<u8>>,
     pub sync: bool,
     pub ended: bool,
+    /// Ends as a kill would, without a sync.
+    #[cfg(test)]
+    pub killed: bool,
     // Whether the writing thread waits.
     waits: bool,
 }
@@ -87,113 +94,71 @@ impl Shared {
     }
 }
 
-/// Where the lines go.
-struct Target {
-    file: File,
-    /// None is standard output.
-    path: Option<PathBuf>,
-    regular: bool,
-    // The status line may stand there.
-    terminal: bool,
-    // Of a regular file that was opened by its name: how long it is, up to where it has whole transactions, and up to where these are done.
-    len: u64,
-    whole: u64,
-    done: u64,
-}
-
-impl Target {
-    fn open(path: Option<&Path>) -> io::Result<Target> {
-        let file = match path {
-            Some(path) if path.metadata().is_ok_and(|about| about.file_type().is_fifo()) => open_pipe(path)?,
-            Some(path) => OpenOptions::new().append(true).create(true).mode(0o600).open(path)?,
-            None => ffi::standard_output()?,
-        };
-        let about = file.metadata()?;
-        let (len, regular) = (about.len(), about.is_file());
-        let terminal = file.is_terminal();
-        let mut target = Target { file, path: path.map(Path::to_path_buf), regular, terminal, len, whole: len, done: len };
-        if regular && path.is_some_and(ends_within_a_line) {
-            target.write(b"\n")?;
-            (target.whole, target.done) = (target.len, target.len);
-        }
-        Ok(target)
-    }
-
-    fn name(&self) -> String {
-        self.path.as_ref().map_or("standard output".to_string(), |path| path.display().to_string())
-    }
-
-    // Writes all, and counts what is written. A pipe that another program has made non-blocking is tried again.
-    fn write(&mut self, mut bytes: &[u8]) -> io::Result<()> {
-        if self.terminal {
-            progress::clear();
-        }
-        while !bytes.is_empty() {
-            match self.file.write(bytes) {
-                Ok(0) => return Err(ErrorKind::WriteZero.into()),
-                Ok(n) => {
-                    self.len += n as u64;
-                    bytes = bytes.get(n..).unwrap_or_default();
-                }
-                Err(e) if e.kind() == ErrorKind::Interrupted => {}
-                Err(e) if e.kind() == ErrorKind::WouldBlock => std::thread::sleep(Duration::from_millis(5)),
-                Err(e) => return Err(e),
-            }
-        }
-        Ok(())
-    }
-
-    // Leaves whole lines, and of these what is done: all else comes again. A file that others write, too, is left as it is.
-    fn cut_back(&mut self) {
-        let ours = self.path.is_some() && self.regular && self.file.metadata().is_ok_and(|about| about.len() == self.len);
-        if ours && self.len > self.done && self.file.set_len(self.done).is_ok() {
-            self.len = self.done;
-            let _ = self.file.sync_all();
-        }
-    }
-}
-
-// A pipe that nobody reads yet is waited for, and a stop ends the wait.
-fn open_pipe(path: &Path) -> io::Result<File> {
-    loop {
-        match OpenOptions::new().write(true).custom_flags(libc::O_NONBLOCK).open(path) {
-            Err(e) if e.raw_os_error() == Some(libc::ENXIO) && !ffi::stop_requested() => std::thread::sleep(Duration::from_millis(50)),
-            opened => return opened.and_then(ffi::blocking),
-        }
-    }
-}
-
-// A program that was killed may have left a part of a line. What cannot be read is taken for whole.
-fn ends_within_a_line(path: &Path) -> bool {
-    let mut last = [b'\n'];
-    let read = File::open(path).and_then(|mut file| {
-        file.seek(SeekFrom::End(-1))?;
-        file.read_exact(&mut last)
-    });
-    read.is_ok() && last != [b'\n']
-}
-
 /// Writes batch after batch.
 pub struct Writer {
     target: Target,
+    // Of a regular file that was opened by its name.
+    state: Option<Beside>,
     shared: Arc<Shared>,
     /// None where nothing is synced.
     interval: Option<Duration>,
+    // Whether the file and its state are synced, and not only written.
+    syncs: bool,
     last_sync: Option<Instant>,
     // What is written.
     batches: u64,
     position: Lsn,
+    printed: Lsn,
+    // Whether something is written that does not count yet, and whether it has bytes.
     unsynced: bool,
+    bytes: bool,
+}
+
+/// The state of an output file.
+struct Beside {
+    path: PathBuf,
+    // None before a server is known.
+    origin: Option<Origin>,
+    last: Option<State>,
+    // Whether the file was cut back to the state.
+    recovered: bool,
+    verbose: bool,
 }
 
 impl Writer {
-    pub fn open(options: &Options, shared: Arc<Shared>) -> Result<Writer, String> {
-        let path = options.output.as_deref();
-        let target = Target::open(path).map_err(|e| match path {
-            Some(path) => format!("cannot open {}: {e}", path.display()),
-            None => format!("cannot write to standard output: {e}"),
-        })?;
-        Ok(Writer { target, shared, interval: options.fsync_interval, last_sync: None, batches: 0, position: Lsn(0), unsynced: false })
+    /// Opens the output. Answers the state of a file that was written before.
+    pub fn open(options: &Options, shared: Arc<Shared>) -> Result<(Writer, Option<State>), String> {
+        let target = Target::open(options.output.as_deref())?;
+        let (mut interval, syncs, mut state, mut before) = (options.fsync_interval, options.fsync_interval.is_some(), None, None);
+        if let Some(path) = options.output.as_deref().filter(|_| target.is_regular()) {
+            let path = state::path_of(path);
+            before = State::read(&path)?;
+            state = Some(Beside { path, origin: None, last: before.clone(), recovered: false, verbose: options.verbose });
+            interval = interval.or(Some(UNSYNCED_STATES));
+        }
+        let (position, printed) = before.as_ref().map_or((Lsn(0), Lsn(0)), |state| (state.position, state.printed));
+        shared.position.store(position.0, SeqCst);
+        let (last_sync, batches, unsynced, bytes) = (None, 0, false, false);
+        let writer = Writer { target, state, shared, interval, syncs, last_sync, batches, position, printed, unsynced, bytes };
+        Ok((writer, before))
+    }
+
+    // The first time a file is cut back to its state, but not where what is cut off may never come again.
+    fn begin(&mut self, origin: Origin, gap: bool) -> Result<(), String> {
+        let Some(beside) = &mut self.state else { return Ok(()) };
+        beside.origin = Some(origin);
+        if std::mem::replace(&mut beside.recovered, true) {
+            return Ok(());
+        }
+        if let Some(last) = beside.last.as_ref().filter(|_| !gap) {
+            target::recover(&mut self.target, last, beside.verbose)?;
+        }
+        self.target.end_line().map_err(|e| format!("cannot write to {}: {e}", self.target.name()))
+    }
+
+    /// Whether a state stands beside the output.
+    pub fn keeps_state(&self) -> bool {
+        self.state.is_some()
     }
 
     /// Until the queue is ended or something fails; answers what has failed.
@@ -216,6 +181,10 @@ impl Writer {
                 if reopen {
                     self.reopen()?;
                 }
+            }
+            #[cfg(test)]
+            if work.killed {
+                return Ok(());
             }
             if work.sync || work.ended || self.due().is_some_and(|due| due <= Instant::now()) {
                 self.sync()?;
@@ -253,12 +222,19 @@ impl Writer {
     }
 
     fn write(&mut self, batch: Batch) -> Result<(), String> {
+        let other = batch.origin.is_some();
+        if let Some((origin, gap)) = batch.origin {
+            self.begin(origin, gap)?;
+        }
         let begin = self.target.len;
-        self.unsynced |= self.interval.is_some() && self.target.regular && !batch.bytes.is_empty();
+        self.bytes |= !batch.bytes.is_empty();
+        self.unsynced |= self.interval.is_some() && self.target.is_regular() && (!batch.bytes.is_empty() || self.state.is_some());
         let result = self.target.write(&batch.bytes);
         let counted = begin + batch.counts as u64;
         if batch.position != Lsn(0) && self.target.len >= counted {
             (self.position, self.target.whole) = (batch.position, counted);
+            // Another origin has positions of its own.
+            self.printed = if other { batch.printed } else { self.printed.max(batch.printed) };
         }
         if let Err(e) = result {
             // What is whole counts, where it can be synced.
@@ -287,22 +263,39 @@ impl Writer {
         ffi::wake();
     }
 
+    // The state that says so is written after the file, and before anybody can confirm the position.
     fn sync(&mut self) -> Result<(), String> {
         if self.unsynced {
-            self.target.file.sync_all().map_err(|e| format!("cannot sync {}: {e}", self.target.name()))?;
+            if self.syncs && self.bytes {
+                self.target.sync().map_err(|e| format!("cannot sync {}: {e}", self.target.name()))?;
+            }
+            self.write_state()?;
             self.last_sync = Some(Instant::now());
-            self.unsynced = false;
+            (self.unsynced, self.bytes) = (false, false);
         }
         self.done();
         Ok(())
     }
 
-    // Between two lines, after all before is synced.
-    fn reopen(&mut self) -> Result<(), String> {
-        self.sync()?;
-        if let Some(path) = &self.target.path {
-            self.target = Target::open(Some(path)).map_err(|e| format!("cannot open {} again: {e}", path.display()))?;
+    fn write_state(&mut self) -> Result<(), String> {
+        let Some(beside) = &mut self.state else { return Ok(()) };
+        let Some(origin) = &beside.origin else { return Ok(()) };
+        let (file, len) = (self.target.id, self.target.whole_now().map_err(|e| format!("cannot look at {}: {e}", self.target.name()))?);
+        let state = State { origin: origin.clone(), position: self.position, printed: self.printed, file, len };
+        if beside.last.as_ref() != Some(&state) {
+            state.write(&beside.path, self.syncs).map_err(|e| format!("cannot write {}: {e}", beside.path.display()))?;
+            beside.last = Some(state);
         }
         Ok(())
+    }
+
+    // Between two lines, after all before is synced. The new file has its state before it has a line.
+    fn reopen(&mut self) -> Result<(), String> {
+        self.sync()?;
+        let Some(path) = self.target.path.clone().filter(|path| !self.target.is_at(path)) else { return Ok(()) };
+        let again = |line: String| line.replacen(&path.display().to_string(), &format!("{} again", path.display()), 1);
+        self.target = Target::open(Some(&path)).map_err(again)?;
+        self.target.end_line().map_err(|e| format!("cannot write to {}: {e}", path.display()))?;
+        self.write_state()
     }
 }

@@ -113,12 +113,31 @@ pub fn refuse(client: &mut TcpStream, error: &[u8]) {
 }
 
 /// A slot that can be followed, as the client asks for it.
-pub const SLOT: &[u8] = b"logical\n\nreserved\npgoutput\n";
+pub const SLOT: &[u8] = b"logical\n\nreserved\n0/0\nfalse\n60000\npgoutput\n";
 
-/// Answers what is asked before a stream: a publication, a table, a slot. The first other query.
+/// What a server says of itself: its identifier, its timeline and the end of its log.
+pub const SYSTEM: [&str; 3] = ["7000000000000000001", "1", "F/0"];
+
+/// Answers what is asked before a stream: a publication, a table, a slot, the server. The first other query.
 pub fn asked(client: &mut TcpStream, slot: &[u8]) -> String {
+    asked_of(client, slot, SYSTEM)
+}
+
+/// Answers IDENTIFY_SYSTEM.
+pub fn identify(client: &mut TcpStream, system: [&str; 3]) {
+    client.write_all(&message(b'D', &row(&system.map(|value| Some(value.as_bytes()))))).unwrap();
+    client.write_all(&message(b'C', b"IDENTIFY_SYSTEM\0")).unwrap();
+    client.write_all(&message(b'Z', b"I")).unwrap();
+}
+
+/// The same of another server.
+pub fn asked_of(client: &mut TcpStream, slot: &[u8], system: [&str; 3]) -> String {
     loop {
         let text = query(client);
+        if text == "IDENTIFY_SYSTEM" {
+            identify(client, system);
+            continue;
+        }
         let known = [("SELECT pubname", &b"P"[..]), ("SELECT DISTINCT pg_catalog.concat", b"77 a.b"), ("SELECT pg_catalog.concat_ws", slot)];
         match known.iter().find(|(begin, _)| text.starts_with(begin)) {
             Some((_, row)) => answer(client, &[row]),
