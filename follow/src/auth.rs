@@ -1,5 +1,5 @@
 //! Authentication: what each request of the server is answered with.
-use crate::conninfo::ChannelBinding;
+use crate::conninfo::{ChannelBinding, Conninfo, Method};
 use crate::failure::{Failure, FAILED};
 use bytes::BytesMut;
 use postgres_protocol::authentication::md5_hash;
@@ -7,9 +7,6 @@ use postgres_protocol::authentication::sasl::{self, ScramSha256, SCRAM_SHA_256, 
 use postgres_protocol::message::frontend;
 use rufflesquash::AuthRequest;
 use std::mem;
-
-/// More iterations than any server is set up with would only keep the client busy.
-const MOST_ITERATIONS: u32 = 10_000_000;
 
 /// What is to be done after a request.
 #[derive(Debug, PartialEq)]
@@ -36,20 +33,26 @@ enum State {
     Failed,
 }
 
+/// What a connection is, as far as passwords go.
+pub struct Channel {
+    pub tls: bool,
+    /// Whether it is a Unix socket, on which nobody else reads.
+    pub unix: bool,
+    /// The hash of the server's certificate, where it has one that channel binding takes.
+    pub end_point: Option<Vec<u8>>,
+}
+
 /// One authentication.
 pub struct Auth<'a> {
-    pub user: &'a str,
-    pub password: Option<&'a [u8]>,
-    pub binding: ChannelBinding,
-    /// Whether the connection has TLS, and the hash of the server's certificate, where it has one that channel binding takes.
-    pub tls: bool,
-    pub end_point: Option<Vec<u8>>,
+    conninfo: &'a Conninfo,
+    password: Option<&'a [u8]>,
+    channel: Channel,
     state: State,
 }
 
 impl<'a> Auth<'a> {
-    pub fn new(user: &'a str, password: Option<&'a [u8]>, binding: ChannelBinding, tls: bool, end_point: Option<Vec<u8>>) -> Auth<'a> {
-        Auth { user, password: password.filter(|password| !password.is_empty()), binding, tls, end_point, state: State::Begun }
+    pub fn new(conninfo: &'a Conninfo, password: Option<&'a [u8]>, channel: Channel) -> Auth<'a> {
+        Auth { conninfo, password: password.filter(|password| !password.is_empty()), channel, state: State::Begun }
     }
 
     /// Whether anything that proves the user went to the server.
@@ -70,12 +73,13 @@ impl<'a> Auth<'a> {
     /// Takes a request's payload.
     pub fn request(&mut self, payload: &[u8]) -> Result<Step, Failure> {
         let request = AuthRequest::parse(payload).map_err(|_| malformed())?;
+        self.check_method(request.code)?;
         match (request.code, mem::replace(&mut self.state, State::Failed)) {
             (0, state) => self.done(state),
             (3, State::Begun) => self.send_password("a password in clear", |password| password.to_vec()),
             (5, State::Begun) => {
                 let salt = <[u8; 4]>::try_from(request.rest).map_err(|_| malformed())?;
-                let user = self.user;
+                let user = self.conninfo.user.as_str();
                 self.send_password("an MD5 password", |password| md5_hash(user.as_bytes(), password, salt).into_bytes())
             }
             (10, State::Begun) => self.scram_first(request.rest),
@@ -90,6 +94,26 @@ impl<'a> Auth<'a> {
         }
     }
 
+    // Whether the user takes this way to log in. A password in clear is what the server, or who seems to be it, could use elsewhere.
+    fn check_method(&self, code: i32) -> Result<(), Failure> {
+        let (method, name) = match code {
+            0 if matches!(self.state, State::Begun) => (Method::None, "no password"),
+            3 => (Method::Password, "a password in clear"),
+            5 => (Method::Md5, "an MD5 password"),
+            10 => (Method::Scram, "SCRAM-SHA-256"),
+            _ => return Ok(()),
+        };
+        let require = &self.conninfo.require_auth;
+        if !require.takes(method) {
+            return Err(Failure::new(FAILED, format!("the server asks for {name}, which require_auth does not take")));
+        }
+        if method == Method::Password && !self.channel.tls && !self.channel.unix && !require.names(method) {
+            let advice = "set scram-sha-256 in the server's pg_hba.conf, or use sslmode=verify-full; require_auth=password sends it all the same";
+            return Err(Failure::new(FAILED, format!("the server asks for the password in clear, on a connection without TLS: {advice}")));
+        }
+        Ok(())
+    }
+
     fn done(&mut self, state: State) -> Result<Step, Failure> {
         match state {
             State::First(..) | State::Proof(..) | State::Failed => {
@@ -99,7 +123,7 @@ impl<'a> Auth<'a> {
                 self.state = State::Proved(true);
                 Ok(Step::Done)
             }
-            state if self.binding == ChannelBinding::Require => Err(unbound(match state {
+            state if self.conninfo.channel_binding == ChannelBinding::Require => Err(unbound(match state {
                 State::Begun => "no password",
                 _ => "a method",
             })),
@@ -111,7 +135,7 @@ impl<'a> Auth<'a> {
     }
 
     fn send_password(&mut self, method: &'static str, answer: impl FnOnce(&[u8]) -> Vec<u8>) -> Result<Step, Failure> {
-        if self.binding == ChannelBinding::Require {
+        if self.conninfo.channel_binding == ChannelBinding::Require {
             return Err(unbound(method));
         }
         let Some(password) = self.password else { return Ok(Step::Password) };
@@ -125,19 +149,19 @@ impl<'a> Auth<'a> {
     fn scram_first(&mut self, names: &[u8]) -> Result<Step, Failure> {
         let offers = |mechanism: &str| names.split(|byte| *byte == 0).any(|name| name == mechanism.as_bytes());
         let (plain, plus) = (offers(SCRAM_SHA_256), offers(SCRAM_SHA_256_PLUS));
-        if plus && !self.tls {
+        if plus && !self.channel.tls {
             let line = "the server offers channel binding on a connection without TLS: somebody may stand between; use sslmode=verify-full";
             return Err(Failure::new(FAILED, line));
         }
-        let able = self.end_point.clone().filter(|_| self.binding != ChannelBinding::Disable);
+        let able = self.channel.end_point.clone().filter(|_| self.conninfo.channel_binding != ChannelBinding::Disable);
         let (bound, binding) = match able {
             Some(hash) if plus => (true, sasl::ChannelBinding::tls_server_end_point(hash)),
             // This says that the server did not offer it: a server that did then knows that somebody took the offer away.
             Some(_) => (false, sasl::ChannelBinding::unrequested()),
             None => (false, sasl::ChannelBinding::unsupported()),
         };
-        if self.binding == ChannelBinding::Require && !bound {
-            return Err(unbound(if self.tls { "SCRAM-SHA-256 alone" } else { "SCRAM-SHA-256 without TLS" }));
+        if self.conninfo.channel_binding == ChannelBinding::Require && !bound {
+            return Err(unbound(if self.channel.tls { "SCRAM-SHA-256 alone" } else { "SCRAM-SHA-256 without TLS" }));
         }
         if !bound && !plain {
             return Err(Failure::new(
@@ -155,13 +179,11 @@ impl<'a> Auth<'a> {
     }
 
     fn scram_proof(&mut self, mut scram: ScramSha256, bound: bool, message: &[u8]) -> Result<Step, Failure> {
-        match iterations(message) {
-            Some(1..=MOST_ITERATIONS) => {}
-            Some(count) => {
-                let line = format!("the server asks for {count} iterations of SCRAM-SHA-256; 1 to {MOST_ITERATIONS} are taken");
-                return Err(Failure::new(FAILED, line));
-            }
-            None => return Err(malformed()),
+        let (least, most) = self.conninfo.scram_iterations;
+        let count = iterations(message).ok_or_else(malformed)?;
+        if count < least || count > most {
+            let line = format!("the server asks for {count} iterations of SCRAM-SHA-256; {least} to {most} are taken (--scram-iterations)");
+            return Err(Failure::new(FAILED, line));
         }
         scram.update(message).map_err(|_| malformed())?;
         let mut out = BytesMut::new();

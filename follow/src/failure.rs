@@ -15,6 +15,11 @@ pub fn tell(line: fmt::Arguments) {
     let _ = writeln!(io::stderr(), "follow: {line}");
 }
 
+/// Characters that a terminal acts on, or by which a line reads otherwise than it is: controls, separators of lines, and controls of direction.
+pub fn is_unsafe(c: char) -> bool {
+    c.is_control() || matches!(c, '\u{61c}' | '\u{200e}' | '\u{200f}' | '\u{2028}'..='\u{202e}' | '\u{2066}'..='\u{2069}')
+}
+
 /// One line that names what happened and what to do; a cut is tried again.
 #[derive(Debug)]
 pub struct Failure {
@@ -90,7 +95,7 @@ impl Failure {
 impl fmt::Display for Failure {
     fn fmt(&self, f: &mut fmt::Formatter<'_>) -> fmt::Result {
         // One line, whatever the server's text holds.
-        f.write_str(&self.line.replace(char::is_control, " "))
+        f.write_str(&self.line.replace(is_unsafe, " "))
     }
 }
 
@@ -178,12 +183,26 @@ fn wrong_state(has: &dyn Fn(&[&str]) -> bool) -> Option<String> {
     Some(format!("; {advice}"))
 }
 
+/// So many bytes of a server's text are shown.
+const LONGEST_TEXT: usize = 2_000;
+
+// At a character.
+fn shortened(mut text: String) -> String {
+    if text.len() > LONGEST_TEXT {
+        let end = (0..=LONGEST_TEXT).rev().find(|at| text.is_char_boundary(*at)).unwrap_or(0);
+        let left = text.len() - end;
+        text.truncate(end);
+        text += &format!(" .. ({left} bytes more, which the server's log has)");
+    }
+    text
+}
+
 // With the marks that were put in, where there are any.
 fn server_text(payload: &[u8]) -> String {
     let mut text = vec![0; payload.len() * 3 + 64];
     match rufflesquash::error_text(payload, &mut text) {
         Ok(shown) => {
-            let text = String::from_utf8_lossy(&text[..shown.bytes]).into_owned();
+            let text = shortened(String::from_utf8_lossy(&text[..shown.bytes]).into_owned());
             if shown.marks == 0 {
                 text
             } else {
@@ -197,7 +216,7 @@ fn server_text(payload: &[u8]) -> String {
 // A field of the server's error as text without its full stop, where it has one.
 fn field(payload: &[u8], field: ErrorField) -> Option<String> {
     let text = String::from_utf8_lossy(error_field(payload, field)?).trim_end_matches('.').to_string();
-    (!text.is_empty()).then_some(text)
+    (!text.is_empty()).then(|| shortened(text))
 }
 
 /// The SQLSTATE of an ErrorResponse's payload, or nothing.
@@ -215,6 +234,17 @@ mod tests {
         assert_eq!(line(b"Mno slot\0CXX000\0D\xFF\0\0"), "the server says: no slot (SQLSTATE XX000)");
         assert_eq!(line(b"Ma\xFF\xFF\0C\xFF\0D\xFF\0\0"), "the server says: a\u{fffd}\u{fffd} (SQLSTATE \u{fffd}), marks 3");
         assert_eq!(line("M\u{fffd}\0\0".as_bytes()), "the server says: \u{fffd}");
+    }
+
+    #[test]
+    fn a_long_text_of_a_server_is_cut() {
+        let long = |letter: &str, n: usize| letter.repeat(n);
+        let line = |text: &str| Failure::server(format!("M{text}\0H{text}\0CXX000\0\0").as_bytes()).to_string();
+        let shown = line(&long("ä", 200_000));
+        assert!(shown.len() < 5_000 && shown.matches("bytes more, which the server's log has").count() == 2, "{}", shown.len());
+        assert!(line(&long("x", 1_900)).contains(&long("x", 1_900)));
+        // Nothing that a terminal acts on, and nothing that turns a line around.
+        assert_eq!(line("a\u{9b}b\u{202e}c\u{2028}d\u{2066}e\u{61c}f"), "the server says: a b c d e f (SQLSTATE XX000); a b c d e f");
     }
 
     #[test]

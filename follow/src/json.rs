@@ -120,8 +120,19 @@ impl Text {
         marks
     }
 
-    // Copies what needs no escape, as far as that goes, and escapes what does.
+    // The same of a text that may have characters which a terminal acts on, or by which a line reads otherwise than it is.
     fn stretches(&mut self, mut bytes: &[u8]) {
+        while let Some((at, len, code)) = until_unsafe(bytes) {
+            self.plain_stretches(&bytes[..at]);
+            self.raw(b"\\u");
+            self.hex(&code.to_be_bytes());
+            bytes = &bytes[at + len..];
+        }
+        self.plain_stretches(bytes);
+    }
+
+    // Copies what needs no escape, as far as that goes, and escapes what does.
+    fn plain_stretches(&mut self, mut bytes: &[u8]) {
         loop {
             let (front, rest) = bytes.split_at(until_escape(bytes));
             self.raw(front);
@@ -178,6 +189,21 @@ fn ascii_without_escapes(bytes: &[u8]) -> bool {
     }
     let short = ends_plain::<32>(bytes).or_else(|| ends_plain::<16>(bytes)).or_else(|| ends_plain::<8>(bytes));
     short.unwrap_or_else(|| bytes.iter().all(|byte| is_plain(*byte)))
+}
+
+// The first character beyond ASCII that is escaped: its place, its length in UTF-8, and its number. All of these begin with one of three bytes.
+fn until_unsafe(bytes: &[u8]) -> Option<(usize, usize, u16)> {
+    let mut from = 0;
+    loop {
+        let at = from + bytes.get(from..)?.iter().position(|byte| matches!(byte, 0xc2 | 0xd8 | 0xe2))?;
+        match bytes[at..] {
+            [0xc2, second @ 0x80..=0x9f, ..] => return Some((at, 2, second.into())),
+            [0xd8, 0x9c, ..] => return Some((at, 2, 0x61c)),
+            [0xe2, 0x80, third @ (0x8e | 0x8f | 0xa8..=0xae), ..] => return Some((at, 3, 0x2000 + u16::from(third - 0x80))),
+            [0xe2, 0x81, third @ 0xa6..=0xa9, ..] => return Some((at, 3, 0x2040 + u16::from(third - 0x80))),
+            _ => from = at + 1,
+        }
+    }
 }
 
 // How many bytes stand before the first that needs an escape.
@@ -296,7 +322,7 @@ mod tests {
             '"' => "\\\"".to_string(),
             '\\' => "\\\\".to_string(),
             '\n' => "\\n".to_string(),
-            c if c < ' ' || c == '\x7f' => format!("\\u{:04x}", c as u32),
+            c if crate::failure::is_unsafe(c) => format!("\\u{:04x}", c as u32),
             c => c.to_string(),
         };
         text.chars().map(one).collect()
@@ -318,6 +344,17 @@ mod tests {
         }
         let mixed = "\"ä\\\u{1}ß\n日本語 \"\u{7f}\"";
         assert_eq!(written(|out| assert_eq!(out.quoted(mixed.as_bytes()), 0)), format!("\"{}\"", by_character(mixed)));
+    }
+
+    // What is escaped beyond ASCII is what the lines of failures leave out, too.
+    #[test]
+    fn every_character() {
+        for c in '\0'..='\u{ffff}' {
+            let text = format!("{c}ä{c}");
+            assert_eq!(written(|out| assert_eq!(out.escaped(text.as_bytes()), 0)), by_character(&text), "{c:?}");
+        }
+        let lossy = written(|out| assert_eq!(out.escaped(b"\xC2\x9B\xFF\xE2\x80\xAE\xE2\x80"), 2));
+        assert_eq!(lossy, "\\u009b\u{fffd}\\u202e\u{fffd}");
     }
 
     #[test]

@@ -22,6 +22,7 @@ Connection:
   -U, --username NAME          user
   -w, --no-password            never ask for a password
   -W, --password               ask for a password before connecting
+      --scram-iterations N-M   how many iterations of SCRAM-SHA-256 a server may ask for (default: 4096-10000000)
                                what is not given comes from PGHOST, PGPORT, PGUSER, PGDATABASE, PGPASSWORD and libpq's
                                other variables, ~/.pgpass and the service file, else as for psql
 Action (without one: --start):
@@ -229,6 +230,7 @@ impl Options {
             "--host" | "-h" => self.given.host = Some(value()?),
             "--port" | "-p" => self.given.port = Some(value()?),
             "--username" | "-U" => self.given.username = Some(value()?),
+            "--scram-iterations" => self.given.scram_iterations = Some(iterations(name, &value()?)?),
             "--slot" | "-S" => self.slot = value()?,
             "--publication" => self.publications.push(value()?),
             "--option" | "-o" => self.plugin_option(name, &value()?)?,
@@ -397,6 +399,13 @@ fn interval(name: &str, text: &str) -> Result<Option<Duration>, Failure> {
     }
 }
 
+// The least and the most.
+fn iterations(name: &str, text: &str) -> Result<(u32, u32), Failure> {
+    let range = text.split_once('-').and_then(|(least, most)| Some((least.parse().ok()?, most.parse().ok()?)));
+    let wrong = || usage(format!("{name} {text}: give the least and the most, as 4096-10000000"));
+    range.filter(|(least, most)| (1..=*most).contains(least)).ok_or_else(wrong)
+}
+
 fn size(name: &str, text: &str) -> Result<usize, Failure> {
     match text.parse() {
         Ok(n) if (1024..=1_073_741_824).contains(&n) => Ok(n),
@@ -520,6 +529,9 @@ mod tests {
             ("--ack=1", "a descriptor that is open"),
             ("--ack=77777", "a descriptor that is open"),
             ("-S s --max-message-size x", "1024"),
+            ("-S s --scram-iterations 4096", "give the least and the most"),
+            ("-S s --scram-iterations 0-5", "give the least and the most"),
+            ("-S s --scram-iterations 6-5", "give the least and the most"),
             ("--slot", "needs a value"),
             ("--nonsense", "no option --nonsense"),
             ("--json=1", "takes no value"),

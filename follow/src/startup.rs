@@ -1,5 +1,5 @@
 //! What comes before the stream: a server is chosen, startup, authentication, and simple queries.
-use crate::auth::{Auth, Step};
+use crate::auth::{Auth, Channel, Step};
 use crate::conninfo::{Conninfo, Place, SessionAttrs, SslMode, Target};
 use crate::failure::{sqlstate, Failure, FAILED};
 use crate::ffi::{self, Waiter};
@@ -11,6 +11,9 @@ use std::time::{Duration, Instant};
 
 /// The longest answer that is taken here, and the longest error that is kept, in bytes.
 const LONGEST_ANSWER: usize = 1_048_576;
+
+/// No query here has an answer of so many bytes.
+const LONGEST_ROWS: usize = 16 * 1_048_576;
 
 /// What answers a query: rows, or the payload of the server's ErrorResponse.
 pub type Answers<Row> = Result<Vec<Row>, Vec<u8>>;
@@ -172,10 +175,11 @@ impl<'a> Opening<'_, 'a> {
             link = self.secure(link, target, until)?;
         }
         let password = self.typed.or(target.password.as_deref());
-        let (is_tls, end_point) = (link.is_tls(), link.end_point());
-        let mut auth = Auth::new(&self.conninfo.user, password, self.conninfo.channel_binding, is_tls, end_point);
+        let is_tls = link.is_tls();
+        let channel = Channel { tls: is_tls, unix: matches!(address, Address::Unix(_)), end_point: link.end_point() };
+        let mut auth = Auth::new(self.conninfo, password, channel);
         let mut talk = Talk::new(link);
-        let opened = talk.startup(self.conninfo, &mut auth, until);
+        let opened = talk.startup(self.conninfo, &mut auth, until).and_then(|()| Ok(talk.take_any_encoding()?));
         match opened {
             Ok(()) => {
                 let Conninfo { user, dbname, .. } = self.conninfo;
@@ -198,7 +202,7 @@ impl<'a> Opening<'_, 'a> {
             Some(b'S') => {}
             Some(b'N') if mode == SslMode::Prefer => return Ok(link),
             Some(b'N') => {
-                let line = "the server does not speak TLS, and sslmode asks for it: set ssl = on there, or use sslmode=prefer";
+                let line = "the server does not speak TLS, and sslmode asks for it: set ssl = on there; is it the server that it seems to be?";
                 return Err(Miss::Other(Failure::new(FAILED, line)));
             }
             // The text of this error is not shown: nothing says yet who sent it.
@@ -264,6 +268,8 @@ pub struct Talk<'a> {
     filled: usize,
     payload: Vec<u8>,
     about: String,
+    // Whether the database's texts are of no encoding.
+    sql_ascii: bool,
 }
 
 impl<'a> Talk<'a> {
@@ -287,7 +293,7 @@ impl<'a> Talk<'a> {
 
     fn new(link: Link<'a>) -> Talk<'a> {
         let (input, payload) = (vec![0; 65_536], vec![0; LONGEST_ANSWER]);
-        Talk { link, reader: MessageReader::new(), input, at: 0, filled: 0, payload, about: String::new() }
+        Talk { link, reader: MessageReader::new(), input, at: 0, filled: 0, payload, about: String::new(), sql_ascii: false }
     }
 
     // Until the server is ready for a query.
@@ -307,7 +313,8 @@ impl<'a> Talk<'a> {
                 b'E' => break (Failure::server(message.payload), sqlstate(message.payload) == b"57P03"),
                 b'Z' if allowed => return Ok(()),
                 b'R' | b'Z' => return Err(unexpected().into()),
-                // ParameterStatus, BackendKeyData, notices.
+                b'S' => self.sql_ascii |= message.payload == b"server_encoding\0SQL_ASCII\0",
+                // BackendKeyData, notices.
                 _ => {}
             }
         };
@@ -318,6 +325,14 @@ impl<'a> Talk<'a> {
             _ => Stage::Asked,
         };
         Err(Miss::Rejected(failure, stage))
+    }
+
+    // Texts of no encoding come as they are, and what is no UTF-8 is then lossy: the server would refuse to send it as UTF-8.
+    fn take_any_encoding(&mut self) -> Result<(), Failure> {
+        if !self.sql_ascii {
+            return Ok(());
+        }
+        self.query("SET client_encoding TO 'SQL_ASCII'")?.map(drop).map_err(|error| Failure::server(&error))
     }
 
     /// What is told with --verbose: server, user, database, TLS and authentication.
@@ -391,9 +406,13 @@ impl<'a> Talk<'a> {
     // Of each row the values of its first columns; nulls are left out.
     fn rows(&mut self, columns: usize) -> Result<Answers<Vec<Vec<u8>>>, Failure> {
         let (mut query, mut error) = (Query::new(), vec![0; LONGEST_ANSWER]);
-        let mut rows = Vec::new();
+        let (mut rows, mut bytes) = (Vec::new(), 0);
         loop {
             let message = self.answer()?;
+            bytes += message.payload.len() + 64;
+            if bytes > LONGEST_ROWS {
+                return Err(Failure::new(FAILED, "the server's answer to a query has no end: is this a PostgreSQL server?"));
+            }
             match query.message(message, &mut error) {
                 QueryAnswer::More => {}
                 QueryAnswer::Row(_) => {
@@ -432,17 +451,20 @@ fn unexpected() -> Failure {
     Failure::new(FAILED, "the server's first bytes are not what the protocol says: is this a PostgreSQL server?")
 }
 
+/// So that values do not depend on settings of the database and the role: what PostgreSQL's own subscriber asks for, and what else changes them.
+const SETTINGS: &str = "-c datestyle=ISO -c intervalstyle=postgres -c extra_float_digits=3 -c TimeZone=UTC -c bytea_output=hex";
+
 fn startup_message(conninfo: &Conninfo) -> Result<Vec<u8>, Failure> {
-    let mut parameters = vec![
+    // The user's own come after, and win.
+    let options = conninfo.options.as_ref().map_or(SETTINGS.to_string(), |own| format!("{SETTINGS} {own}"));
+    let parameters = [
         ["user", &conninfo.user].map(Text::from),
         ["database", &conninfo.dbname].map(Text::from),
         ["replication", "database"].map(Text::from),
         ["client_encoding", "UTF8"].map(Text::from),
         ["application_name", &conninfo.application_name].map(Text::from),
+        ["options", &options].map(Text::from),
     ];
-    if let Some(options) = &conninfo.options {
-        parameters.push(["options", options].map(Text::from));
-    }
     let mut out = vec![0; 9 + parameters.as_flattened().iter().map(|text| text.len() + 1).sum::<usize>()];
     let n = rufflesquash::write_startup(&parameters, &mut out).map_err(|refusal| Failure::refused(refusal, 0))?;
     out.truncate(n);
@@ -456,7 +478,7 @@ mod scram;
 #[cfg(test)]
 mod tests {
     use super::*;
-    use crate::conninfo::{CertFile, ChannelBinding, Keepalives, Tls, TlsVersion};
+    use crate::conninfo::{CertFile, ChannelBinding, Keepalives, RequireAuth, Tls, TlsVersion};
     use crate::startup::scram::Scram;
     use std::io::{Read, Write};
     use std::net::{Shutdown, TcpListener, TcpStream};
@@ -487,6 +509,8 @@ mod tests {
             keepalives: Keepalives { on: true, idle: Some(60), interval: Some(5), count: Some(3), user_timeout: Some(1000) },
             tls: Tls { min_version: Some(TlsVersion::V1_2), ..tls },
             channel_binding: ChannelBinding::Prefer,
+            require_auth: RequireAuth::Any,
+            scram_iterations: (1, 10_000_000),
             session_attrs: SessionAttrs::Any,
         }
     }

@@ -127,6 +127,7 @@ fn a_servers_first_message_of_scram_that_is_wrong() {
     for (spoil, part) in [
         (&(|first: String| first.replace(",i=4096", ",i=4294967295")) as &(dyn Fn(String) -> String + Sync), "4294967295 iterations"),
         (&|first| first.replace(",i=4096", ",i=0"), "0 iterations"),
+        (&|first| first.replace(",i=4096", ",i=4095"), "4095 iterations of SCRAM-SHA-256; 4096 to 10000000 are taken"),
         (&|first| first.replace(",i=4096", ""), "not what the protocol says"),
         (&|first| first.replace("r=", "r=x"), "not what the protocol says"),
         (&|_| String::new(), "not what the protocol says"),
@@ -160,7 +161,7 @@ fn passwords_by_md5_and_in_clear() {
             let_drop(&mut client);
             password
         });
-        let output = connect(&format!("port={port} password=geheim"));
+        let output = connect(&format!("port={port} password=geheim require_auth=password,md5"));
         assert_eq!((server.join().unwrap().as_slice(), output.status.code()), (sent, Some(0)));
     }
 }
@@ -180,7 +181,7 @@ fn what_is_no_authentication_for_follow() {
         ("", 10, b"SCRAM-SHA-256-PLUS\0SCRAM-SHA-256\0\0", "channel binding on a connection without TLS"),
         ("channel_binding=require", 10, b"SCRAM-SHA-256\0\0", "channel_binding=require, but the server asks for SCRAM-SHA-256 without TLS"),
         ("channel_binding=require", 5, b"abcd", "channel_binding=require, but the server asks for an MD5 password"),
-        ("channel_binding=require", 3, b"", "channel_binding=require, but the server asks for a password in clear"),
+        ("channel_binding=require require_auth=password", 3, b"", "channel_binding=require, but the server asks for a password in clear"),
         ("channel_binding=require", 0, b"", "channel_binding=require, but the server asks for no password"),
     ] {
         let (port, server) = serve(move |listener| {
@@ -207,7 +208,7 @@ fn a_password_that_nobody_knows() {
             ask(&mut client, 3, b"");
             ended(&mut client)
         });
-        let conninfo = format!("host=127.0.0.1 port={port} user=me dbname=db");
+        let conninfo = format!("host=127.0.0.1 port={port} user=me dbname=db require_auth=password");
         let mut command = client(&conninfo);
         if setsid {
             let program = command.get_program().to_owned();
@@ -388,8 +389,110 @@ fn the_file_that_a_wrong_password_came_from() {
     let file = std::env::temp_dir().join(format!("follow.{}.pgpass", std::process::id()));
     std::fs::write(&file, "127.0.0.1:*:db:me:from the file\n").unwrap();
     std::fs::set_permissions(&file, std::os::unix::fs::PermissionsExt::from_mode(0o600)).unwrap();
-    let output = connect(&format!("port={port} passfile={}", file.display()));
+    let output = connect(&format!("port={port} require_auth=password passfile={}", file.display()));
     std::fs::remove_file(&file).unwrap();
     assert_eq!(server.join().unwrap(), b"from the file\0");
     said(&output, 1, &format!("the password that was sent came from {}", file.display()));
+}
+
+// A server that asks for a password in clear, on a connection without TLS.
+fn clear(conninfo: &'static str) -> (bool, Output) {
+    let (port, server) = serve(|listener| {
+        let mut client = accept(&listener);
+        startup(&mut client);
+        ask(&mut client, 3, b"");
+        let sent = client.read(&mut [0; 100]).unwrap_or(0) > 0;
+        if sent {
+            refuse(&mut client, &error("28P01", "no"));
+        }
+        sent
+    });
+    let output = connect(&format!("port={port} password=geheim {conninfo}"));
+    (server.join().unwrap(), output)
+}
+
+#[test]
+fn a_password_in_clear_is_not_sent_unasked() {
+    for conninfo in ["sslmode=disable", "sslmode=prefer", "sslmode=disable require_auth=!md5"] {
+        let (sent, output) = clear(conninfo);
+        assert!(!sent, "{conninfo}");
+        said(&output, 1, "the server asks for the password in clear, on a connection without TLS");
+    }
+    let (sent, output) = clear("sslmode=disable require_auth=password");
+    assert!(sent);
+    said(&output, 1, "the password that was sent");
+    let (sent, output) = clear("sslmode=disable require_auth=scram-sha-256");
+    assert!(!sent);
+    said(&output, 1, "asks for a password in clear, which require_auth does not take");
+}
+
+#[test]
+fn a_server_that_asks_for_nothing() {
+    for (conninfo, part) in [("require_auth=scram-sha-256", "no password, which require_auth does not take"), ("require_auth=!none", "no password")] {
+        let (port, server) = serve(|listener| {
+            let mut client = accept(&listener);
+            startup(&mut client);
+            ask(&mut client, 0, b"");
+            let _ = client.read(&mut [0; 100]);
+        });
+        said(&connect(&format!("port={port} {conninfo}")), 1, part);
+        server.join().unwrap();
+    }
+}
+
+#[test]
+fn advice_never_weakens_a_mode() {
+    for mode in ["require", "verify-ca", "verify-full"] {
+        let (port, server) = serve(|listener| {
+            let mut client = accept(&listener);
+            client.read_exact(&mut [0; 8]).unwrap();
+            client.write_all(b"N").unwrap();
+        });
+        let output = connect(&format!("port={port} sslmode={mode}"));
+        server.join().unwrap();
+        said(&output, 1, "the server does not speak TLS");
+        assert!(!line(&output).contains("sslmode=prefer"), "{mode}");
+    }
+}
+
+// Settings that values do not depend on then, and the user's own after them; what is sent in no encoding.
+#[test]
+fn settings_and_encodings() {
+    for (encoding, asks) in [("UTF8", false), ("SQL_ASCII", true)] {
+        let (port, server) = serve(move |listener| {
+            let mut client = accept(&listener);
+            let text = startup(&mut client);
+            ask(&mut client, 0, b"");
+            client.write_all(&message(b'S', format!("server_encoding\0{encoding}\0").as_bytes())).unwrap();
+            client.write_all(&message(b'Z', b"I")).unwrap();
+            if asks {
+                assert_eq!(query(&mut client), "SET client_encoding TO 'SQL_ASCII'");
+                answer(&mut client, &[]);
+            }
+            assert_eq!(query(&mut client), "DROP_REPLICATION_SLOT s");
+            answer(&mut client, &[]);
+            text
+        });
+        let output = connect(&format!("port={port} options='-c TimeZone=CET'"));
+        let text = server.join().unwrap();
+        assert_eq!(output.status.code(), Some(0), "{output:?}");
+        let options = "-c datestyle=ISO -c intervalstyle=postgres -c extra_float_digits=3 -c TimeZone=UTC -c bytea_output=hex -c TimeZone=CET";
+        assert!(text.contains(&format!("options\0{options}\0")) && text.contains("client_encoding\0UTF8\0"), "{text}");
+    }
+}
+
+#[test]
+fn rows_without_end() {
+    let (port, server) = serve(|listener| {
+        let mut client = accept(&listener);
+        startup(&mut client);
+        ask(&mut client, 0, b"");
+        client.write_all(&message(b'Z', b"I")).unwrap();
+        query(&mut client);
+        let rows = message(b'D', &row(&[Some(&[b'x'; 1000])])).repeat(100);
+        let sent = (0..10_000).take_while(|_| client.write_all(&rows).is_ok()).count();
+        assert!(sent < 1_000, "{sent}");
+    });
+    said(&connect(&format!("port={port}")), 1, "the server's answer to a query has no end");
+    server.join().unwrap();
 }

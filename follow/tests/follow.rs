@@ -229,7 +229,7 @@ fn failures_have_one_line() {
 fn redirected(port: u16, redirection: &str) -> Output {
     let line = format!("exec \"$0\" -h 127.0.0.1 -p {port} -U me -d db -S s --publication P -s 0.01 {redirection}");
     let mut command = Command::new("sh");
-    command.args(["-c", &line, env!("CARGO_BIN_EXE_follow")]).env("PGPASSWORD", "geheim");
+    command.args(["-c", &line, env!("CARGO_BIN_EXE_follow")]).env("PGPASSWORD", "geheim").env("PGREQUIREAUTH", "password");
     command.stdin(Stdio::null()).output().expect("follow runs")
 }
 
@@ -399,7 +399,7 @@ fn a_file_that_cannot_grow_keeps_whole_transactions() {
         let (port, server) = serve(move |listener| send(listener, 1));
         let line = format!("ulimit -f 4; exec \"$0\" -h 127.0.0.1 -p {port} -U me -d db -S s --publication P -s 0.01 -f {file} -F {interval}");
         let mut command = Command::new("sh");
-        command.args(["-c", &line, env!("CARGO_BIN_EXE_follow")]).env("PGPASSWORD", "geheim").stdin(Stdio::null());
+        command.args(["-c", &line, env!("CARGO_BIN_EXE_follow")]).env("PGPASSWORD", "geheim").env("PGREQUIREAUTH", "password").stdin(Stdio::null());
         let output = command.output().expect("follow runs");
         let line = String::from_utf8(output.stderr).unwrap();
         assert_eq!((output.status.code(), line.lines().count(), output.stdout.len()), (Some(1), 1, 0), "{line}");
@@ -432,7 +432,8 @@ fn sighup_opens_the_file_again() {
     let mut command = Command::new(env!("CARGO_BIN_EXE_follow"));
     let port = port.to_string();
     command.args(["-h", "127.0.0.1", "-p", &port, "-U", "me", "-d", "db", "-S", "s", "--publication", "P", "--endpos", "0/208", "-f", &file]);
-    let mut follow = command.env("PGPASSWORD", "geheim").stdin(Stdio::null()).stdout(Stdio::piped()).spawn().unwrap();
+    let mut follow =
+        command.env("PGPASSWORD", "geheim").env("PGREQUIREAUTH", "password").stdin(Stdio::null()).stdout(Stdio::piped()).spawn().unwrap();
     let moved = format!("{file}.1");
     let until = |lines: usize, file: &str| {
         (0..2000).any(|_| {

@@ -23,6 +23,8 @@ pub struct Given {
     pub host: Option<String>,
     pub port: Option<String>,
     pub username: Option<String>,
+    /// The least and the most iterations of SCRAM that are taken.
+    pub scram_iterations: Option<(u32, u32)>,
 }
 
 /// All that is needed to connect.
@@ -40,7 +42,50 @@ pub struct Conninfo {
     pub keepalives: Keepalives,
     pub tls: Tls,
     pub channel_binding: ChannelBinding,
+    pub require_auth: RequireAuth,
+    /// The least and the most iterations of SCRAM that are taken.
+    pub scram_iterations: (u32, u32),
     pub session_attrs: SessionAttrs,
+}
+
+/// PostgreSQL's own number, of which a server that asks for less is not set up well, or not the one that it seems to be; and more than any server is
+/// set up with, which would only keep the client busy.
+pub const SCRAM_ITERATIONS: (u32, u32) = (4_096, 10_000_000);
+
+/// A way to log in, as `require_auth` names it.
+#[derive(Clone, Copy, Debug, PartialEq)]
+pub enum Method {
+    Password,
+    Md5,
+    Gss,
+    Sspi,
+    Scram,
+    /// The server asks for nothing.
+    None,
+}
+
+/// Which ways to log in are taken (`require_auth`).
+#[derive(Clone, Debug, Default, PartialEq)]
+pub enum RequireAuth {
+    #[default]
+    Any,
+    Only(Vec<Method>),
+    Not(Vec<Method>),
+}
+
+impl RequireAuth {
+    pub fn takes(&self, method: Method) -> bool {
+        match self {
+            RequireAuth::Any => true,
+            RequireAuth::Only(methods) => methods.contains(&method),
+            RequireAuth::Not(methods) => !methods.contains(&method),
+        }
+    }
+
+    /// Whether the method is asked for by its name.
+    pub fn names(&self, method: Method) -> bool {
+        matches!(self, RequireAuth::Only(methods) if methods.contains(&method))
+    }
 }
 
 /// One server.
@@ -208,6 +253,8 @@ fn resolve_in(given: &Given, around: &Surroundings) -> Result<(Conninfo, Vec<Str
         keepalives: values::keepalives(&params)?,
         tls: values::tls(&params, &targets, around)?,
         channel_binding: values::channel_binding(&params)?,
+        require_auth: values::require_auth(&params)?,
+        scram_iterations: given.scram_iterations.unwrap_or(SCRAM_ITERATIONS),
         session_attrs: values::session_attrs(&params)?,
         targets,
         user,
@@ -321,18 +368,20 @@ mod tests {
             keepalives: Keepalives { on: true, idle: None, interval: None, count: None, user_timeout: None },
             tls: Tls { mode: SslMode::Prefer, root_cert, cert, key, sni: true, min_version: Some(TlsVersion::V1_2), max_version: None },
             channel_binding: ChannelBinding::Prefer,
+            require_auth: RequireAuth::Any,
+            scram_iterations: SCRAM_ITERATIONS,
             session_attrs: SessionAttrs::Any,
         };
         assert_eq!(around.resolve_given(&Given::default()).unwrap(), (expected.clone(), vec![]));
         let empty = || Some(String::new());
-        let given = Given { dbname: empty(), host: empty(), port: empty(), username: empty() };
+        let given = Given { dbname: empty(), host: empty(), port: empty(), username: empty(), scram_iterations: None };
         assert_eq!(around.resolve_given(&given).unwrap().0, expected);
     }
 
     // What the user is called, the database, the first server and the name of the application.
     fn named(around: &Around, given: [&str; 4]) -> String {
         let [dbname, host, port, username] = given.map(|text| Some(text.to_string()));
-        let conninfo = around.resolve_given(&Given { dbname, host, port, username }).unwrap().0;
+        let conninfo = around.resolve_given(&Given { dbname, host, port, username, scram_iterations: None }).unwrap().0;
         format!("{} {} {} {}", conninfo.user, conninfo.dbname, conninfo.targets[0], conninfo.application_name)
     }
 

@@ -5,8 +5,8 @@ use std::collections::BTreeMap;
 use std::os::unix::ffi::OsStrExt;
 use std::path::PathBuf;
 
-/// The parameters that libpq 15 knows, each with its variable. Empty: there is none, or it does not matter here (follow always asks for UTF-8).
-const KEYWORDS: [(&str, &str); 36] = [
+/// The parameters that libpq 15 knows, and `require_auth` of libpq 16, each with its variable. Empty: there is none, or it does not matter here (follow always asks for UTF-8).
+const KEYWORDS: [(&str, &str); 37] = [
     ("service", ""),
     ("user", "PGUSER"),
     ("password", "PGPASSWORD"),
@@ -43,6 +43,7 @@ const KEYWORDS: [(&str, &str); 36] = [
     ("gsslib", ""),
     ("replication", ""),
     ("target_session_attrs", "PGTARGETSESSIONATTRS"),
+    ("require_auth", "PGREQUIREAUTH"),
 ];
 
 /// Where a value came from.

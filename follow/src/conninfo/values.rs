@@ -1,6 +1,6 @@
 //! What the values of the parameters mean. What follow does not do is refused where libpq would do it.
 use super::params::Params;
-use super::{wrong, CertFile, ChannelBinding, Keepalives, Place, SessionAttrs, SslMode, Surroundings, Target, Tls, TlsVersion};
+use super::{wrong, CertFile, ChannelBinding, Keepalives, Method, Place, RequireAuth, SessionAttrs, SslMode, Surroundings, Target, Tls, TlsVersion};
 use crate::failure::Failure;
 use std::time::Duration;
 
@@ -21,6 +21,14 @@ const SESSION_ATTRS: [(&str, SessionAttrs); 6] = [
     ("primary", SessionAttrs::Primary),
     ("standby", SessionAttrs::Standby),
     ("prefer-standby", SessionAttrs::PreferStandby),
+];
+const METHODS: [(&str, Method); 6] = [
+    ("password", Method::Password),
+    ("md5", Method::Md5),
+    ("gss", Method::Gss),
+    ("sspi", Method::Sspi),
+    ("scram-sha-256", Method::Scram),
+    ("none", Method::None),
 ];
 const TLS_VERSIONS: [&str; 4] = ["TLSv1", "TLSv1.1", "TLSv1.2", "TLSv1.3"];
 
@@ -43,6 +51,27 @@ pub fn keepalives(params: &Params) -> Result<Keepalives, Failure> {
 
 pub fn channel_binding(params: &Params) -> Result<ChannelBinding, Failure> {
     Ok(params.choice("channel_binding", &CHANNEL_BINDINGS)?.unwrap_or(ChannelBinding::Prefer))
+}
+
+// Names with commas between, all of them with an exclamation mark before or none.
+pub fn require_auth(params: &Params) -> Result<RequireAuth, Failure> {
+    let Some(value) = params.nonempty("require_auth") else { return Ok(RequireAuth::default()) };
+    let wrong_list = |what: &str| wrong(format!("{} is {value:?}: {what}", params.name("require_auth")));
+    let negated = value.trim_start().starts_with('!');
+    let mut named = Vec::new();
+    for word in value.split(',') {
+        let name = word.trim().strip_prefix('!');
+        if name.is_some() != negated {
+            return Err(wrong_list("methods with and without ! do not go together"));
+        }
+        let method = METHODS.iter().find(|(known, _)| *known == name.unwrap_or(word.trim())).map(|(_, method)| *method);
+        let method = method.ok_or_else(|| wrong_list("it is a list of password, md5, gss, sspi, scram-sha-256 and none"))?;
+        if named.contains(&method) {
+            return Err(wrong_list("a method is named twice"));
+        }
+        named.push(method);
+    }
+    Ok(if negated { RequireAuth::Not(named) } else { RequireAuth::Only(named) })
 }
 
 pub fn session_attrs(params: &Params) -> Result<SessionAttrs, Failure> {
@@ -172,6 +201,10 @@ mod tests {
             assert_eq!(resolved(&format!("target_session_attrs={word}")).session_attrs, attrs);
         }
         assert_eq!((resolved("").tls.mode, resolved("").channel_binding), (SslMode::Prefer, ChannelBinding::Prefer));
+        let auth = |text: &str| resolved(&format!("require_auth='{text}'")).require_auth;
+        assert_eq!((auth(""), resolved("").require_auth), (RequireAuth::Any, RequireAuth::Any));
+        assert_eq!(auth("scram-sha-256, none"), RequireAuth::Only(vec![Method::Scram, Method::None]));
+        assert_eq!(auth("!password,!md5"), RequireAuth::Not(vec![Method::Password, Method::Md5]));
         assert!(resolved("").tls.sni && resolved("sslsni=1").tls.sni && !resolved("sslsni=0").tls.sni);
     }
 
@@ -256,6 +289,11 @@ mod tests {
             ("tcp_user_timeout=1.5", "tcp_user_timeout is \"1.5\", which is no whole number"),
             ("sslmode=Require", "sslmode is \"Require\"; it is one of disable, allow, prefer, require, verify-ca, verify-full"),
             ("sslmode=''", "sslmode is \"\"; it is one of disable, allow, prefer, require, verify-ca, verify-full"),
+            ("require_auth=password,!md5", "require_auth is \"password,!md5\": methods with and without ! do not go together"),
+            ("require_auth=!md5,scram-sha-256", "require_auth is \"!md5,scram-sha-256\": methods with and without ! do not go together"),
+            ("require_auth=scram", "require_auth is \"scram\": it is a list of password, md5, gss, sspi, scram-sha-256 and none"),
+            ("require_auth=md5,,none", "require_auth is \"md5,,none\": it is a list of password, md5, gss, sspi, scram-sha-256 and none"),
+            ("require_auth=md5,md5", "require_auth is \"md5,md5\": a method is named twice"),
             ("channel_binding=yes", "channel_binding is \"yes\"; it is one of disable, prefer, require"),
             ("sslsni=yes", "sslsni is \"yes\"; it is one of 1, 0"),
             ("gssencmode=allow", "gssencmode is \"allow\"; it is one of disable, prefer, require"),

@@ -14,7 +14,8 @@ use std::thread::{self, JoinHandle};
 pub fn command(port: u16, arguments: &[&str]) -> Command {
     let mut command = Command::new(env!("CARGO_BIN_EXE_follow"));
     command.args(["-h", "127.0.0.1", "-p", &port.to_string(), "-U", "me", "-d", "db", "-S", "s"]).args(arguments);
-    command.env("PGPASSWORD", "geheim").stdin(Stdio::null());
+    // The server of the tests asks for the password in clear.
+    command.env("PGPASSWORD", "geheim").env("PGREQUIREAUTH", "password").stdin(Stdio::null());
     command
 }
 
