@@ -29,7 +29,7 @@ partsEnd (Message flag position pf pl cf cl) = max (pf + pl) (cf + cl)
 partsEnd (XLogData start end time from len) = from + len
 partsEnd (StoppedAt reached) = 0
 
--- an error's payload stays shown. The tag alone says so: only a run that 19 ended has one, of the runs that calls make
+-- an error's payload stays shown. The tag alone says so, whatever the state: a run that no call made may have one in any, and end
 abbrev pub errorHeld : Run → ℕ
 errorHeld r = pick (isError (r .whole .tag)) (r .whole .len) 0
 

@@ -1,0 +1,1 @@
+// Definitions alone: all messages at hand, handed on in one call.
