@@ -3,7 +3,9 @@
 mod common;
 
 use common::*;
-use rufflesquash::{error_text, lossy, lossy_by_table, well_formed_prefix, AuthRequest, Column, DataRow, Event, Lossy, Lsn, Metrics, Moment, NextStep};
+use rufflesquash::{
+    error_text, lossy, lossy_by_table, well_formed_prefix, AuthRequest, Column, DataRow, Event, Lossy, Lsn, Metrics, Moment, NextStep,
+};
 use rufflesquash::{ProgressCell, Queue, Refusal, Run, Settings, State, Text, PAGE};
 use std::time::Duration;
 
