@@ -28,15 +28,17 @@ pub struct Failure {
     pub again: bool,
     /// Whether the server's own error ended the stream: it takes no status any more.
     pub server: bool,
+    /// Whether the server is there and says that it cannot yet: then the first connection is tried again, too.
+    pub there: bool,
 }
 
 impl Failure {
     pub fn new(status: u8, line: impl Into<String>) -> Failure {
-        Failure { status, line: line.into(), again: false, server: false }
+        Failure { status, line: line.into(), again: false, server: false, there: false }
     }
 
     pub fn cut(line: impl Into<String>) -> Failure {
-        Failure { status: FAILED, line: line.into(), again: true, server: false }
+        Failure { status: FAILED, line: line.into(), again: true, server: false, there: false }
     }
 
     /// A refusal of the run; the exit status is its number.
@@ -73,7 +75,8 @@ impl Failure {
         let detail = detail.map(|detail| format!(": {detail}")).unwrap_or_default();
         // Shutting down, crashed, starting up, ended by an administrator; the slot or the last connection is still that of one of ours that is gone.
         let again = matches!(state, b"57P01" | b"57P02" | b"57P03" | b"57P05" | b"57014" | b"55006" | b"53300");
-        Failure { again, ..Failure::new(FAILED, format!("the server says: {text}{detail}{advice}")) }
+        let there = matches!(state, b"57P03" | b"55006");
+        Failure { again, there, ..Failure::new(FAILED, format!("the server says: {text}{detail}{advice}")) }
     }
 
     /// An error of the server that ends the stream of a slot. One that is lost cannot be moved either.

@@ -5,6 +5,7 @@
 use crate::failure::FAILED;
 use libc::c_int;
 use std::alloc::{GlobalAlloc, Layout, System};
+use std::cell::RefCell;
 use std::ffi::{CStr, OsString};
 use std::fs::File;
 use std::io::{self, Read};
@@ -334,6 +335,8 @@ fn is_ignored(signal: c_int) -> bool {
 /// Waits for a socket and for `wake`.
 pub struct Waiter {
     woken: UnixStream,
+    // What is looked after in each wait, where no stream does it.
+    between: RefCell<Option<Box<dyn Fn()>>>,
 }
 
 impl Waiter {
@@ -353,7 +356,19 @@ impl Waiter {
         }
         // A write beyond the limit of a file's size fails like one to a full disk.
         handle(libc::SIGXFSZ, libc::SIG_IGN);
-        Ok(Waiter { woken })
+        Ok(Waiter { woken, between: RefCell::default() })
+    }
+
+    /// This is done at once and in each wait from now on; none where a stream begins.
+    pub fn between_streams(&self, work: Option<Box<dyn Fn()>>) {
+        *self.between.borrow_mut() = work;
+        self.look_after();
+    }
+
+    fn look_after(&self) {
+        if let Some(work) = &*self.between.borrow() {
+            work();
+        }
     }
 
     /// Until the socket can be read (or written, where `out`), a wake comes, or the time has passed.
@@ -370,6 +385,7 @@ impl Waiter {
         unsafe { libc::poll(fds.as_mut_ptr(), fds.len() as libc::nfds_t, millis) };
         let mut bytes = [0; 256];
         while matches!((&self.woken).read(&mut bytes), Ok(n) if n == bytes.len()) {}
+        self.look_after();
     }
 }
 

@@ -224,7 +224,7 @@ impl<'a> Link<'a> {
             }
             let left = until.map(|until| until.saturating_duration_since(Instant::now()));
             if left.is_some_and(|left| left.is_zero()) {
-                return Err(Failure::cut("the server did not answer within connect_timeout"));
+                return Err(Failure::cut("the server did not answer within connect_timeout or --server-timeout"));
             }
             self.wait(true, left);
         }
@@ -252,7 +252,7 @@ fn open_tcp(address: &SocketAddr, keepalives: &Keepalives, waiter: &Waiter, unti
         }
         let left = until.map(|until| until.saturating_duration_since(Instant::now()));
         if left.is_some_and(|left| left.is_zero()) {
-            return Err("no connection within connect_timeout".into());
+            return Err("no connection within connect_timeout or --server-timeout".into());
         }
         if ffi::stop_requested() {
             return Err("stopped".into());

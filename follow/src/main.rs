@@ -210,11 +210,12 @@ impl Following {
     // nothing new is confirmed.
     fn connect_again(&mut self, client: &mut Client) -> Result<(), Failure> {
         let options = client.options;
-        let (mut pause, mut confirmed, mut first) = (FIRST_PAUSE, Lsn(0), true);
+        let (mut pause, mut confirmed, mut first, mut there) = (FIRST_PAUSE, Lsn(0), true, false);
         loop {
+            self.look_after_signals(client.waiter);
             let connected = if first { client.connect_first(&mut self.output) } else { client.connect_next() };
             first &= connected.is_err();
-            let failure = match connected.and_then(|mut talk| self.meet(client, &mut talk).and_then(|()| self.one_stream(options, talk))) {
+            let failure = match connected.and_then(|talk| self.one_connection(client, talk)) {
                 Ok(End::Server) if !options.no_loop => Failure::cut("the server ended the stream"),
                 Ok(end) => return self.acknowledged(end),
                 Err(failure) => failure,
@@ -227,7 +228,8 @@ impl Following {
             if self.acks.as_ref().is_some_and(Acks::ended) && failure.again {
                 return self.acknowledged(End::Unacknowledged);
             }
-            if !failure.again || options.no_loop || self.totals.streams == 0 {
+            there |= failure.there || self.totals.streams > 0;
+            if !failure.again || options.no_loop || !there {
                 return Err(failure);
             }
             if self.position() > confirmed {
@@ -235,12 +237,27 @@ impl Following {
             }
             let from = if confirmed == Lsn(0) { "where the slot stands".to_string() } else { confirmed.to_string() };
             tell(format_args!("{failure}; again from {from} in {} ms", pause.as_millis()));
+            self.look_after_signals(client.waiter);
             sleep(client.waiter, pause);
             if ffi::stop_requested() {
                 return Ok(());
             }
             pause = (pause * 2).min(LONGEST_PAUSE);
         }
+    }
+
+    // SIGHUP and SIGUSR1 are heard while no stream is open, too.
+    fn look_after_signals(&self, waiter: &Waiter) {
+        let (totals, position, reopen) = (self.totals, self.position(), self.output.reopener());
+        let work = move || {
+            if ffi::reopen_requested() {
+                reopen();
+            }
+            if ffi::page_requested() {
+                session::show_page_between(&totals, position);
+            }
+        };
+        waiter.between_streams(Some(Box::new(work)));
     }
 
     // Where a stream has ended and something that was printed is not acknowledged, it comes again.
@@ -256,6 +273,12 @@ impl Following {
             }
             _ => Ok(()),
         }
+    }
+
+    fn one_connection(&mut self, client: &Client, mut talk: Talk) -> Result<End, Failure> {
+        self.meet(client, &mut talk)?;
+        client.waiter.between_streams(None);
+        self.one_stream(client.options, talk)
     }
 
     // Before each stream: whether the server's log and the slot still have all that comes after what is done.
@@ -348,6 +371,7 @@ impl Following {
             keepalives: options.keepalives,
             ack_idle: options.ack_idle,
             verbose: options.verbose,
+            server_timeout: options.given.server_timeout,
         };
         Session::new(talk, self.settings, (run, &query), &mut self.payload, host)?.stream()
     }

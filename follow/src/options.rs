@@ -59,6 +59,7 @@ Confirming:
   -s, --status-interval SECS   time between two confirmations (default: 10; 0: only where the server asks)
 How:
       --max-message-size BYTES longest message that is taken (default: 1073741824)
+      --server-timeout SECS    after how long a server that says nothing is given up (default: 60; 0: never)
   -n, --no-loop                end with the connection instead of connecting again
   -v, --verbose                tell of connections and confirmations on standard error, and counters at the end
   -?, --help                   print this
@@ -154,7 +155,7 @@ fn usage(line: String) -> Failure {
 impl Options {
     fn defaults() -> Options {
         Options {
-            given: Given::default(),
+            given: Given { server_timeout: Some(Duration::from_secs(60)), ..Given::default() },
             ask: Ask::WhenNeeded,
             create_slot: false,
             if_not_exists: false,
@@ -241,6 +242,7 @@ impl Options {
             "--fsync-interval" | "-F" => self.fsync_interval = interval(name, &value()?)?,
             "--format" => self.format = format(name, &value()?)?,
             "--status-interval" | "-s" => self.status_interval = interval(name, &value()?)?.unwrap_or(LONGEST_INTERVAL),
+            "--server-timeout" => self.given.server_timeout = interval(name, &value()?)?,
             "--max-message-size" => self.max_message_size = size(name, &value()?)?,
             _ => return Err(usage(format!("there is no option {name}"))),
         }

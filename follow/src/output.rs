@@ -190,6 +190,16 @@ impl Output {
         self.hand_over(Batch { reopen: true, ..Batch::default() });
     }
 
+    /// What asks for the same between two streams, when nothing is taken.
+    pub fn reopener(&self) -> impl Fn() + 'static {
+        let shared = self.shared.clone();
+        move || {
+            let mut queue = shared.queue();
+            queue.reopen = true;
+            shared.notify(queue);
+        }
+    }
+
     /// Whether a transaction has begun and not ended.
     pub fn in_transaction(&self) -> bool {
         self.outstanding

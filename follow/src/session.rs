@@ -48,7 +48,7 @@ impl Clock {
 }
 
 /// What is told at the end.
-#[derive(Default)]
+#[derive(Clone, Copy, Default)]
 pub struct Totals {
     pub streams: u64,
     pub events: u64,
@@ -81,6 +81,8 @@ pub struct Host<'a> {
     /// Whether other keepalives count, too, once all that was printed is acknowledged.
     pub ack_idle: bool,
     pub verbose: bool,
+    /// After how long a silent server is given up; none where it never is.
+    pub server_timeout: Option<Duration>,
 }
 
 impl Host<'_> {
@@ -126,6 +128,9 @@ pub struct Session<'a> {
     reported: [Lsn; Run::FILES as usize],
     // When a status was sent within a message, where the run sends none.
     within: Moment,
+    // When bytes last came, or were not waited for, and whether the server was asked for an answer since.
+    heard: Instant,
+    asked: bool,
     gather: Gather,
     // The clocks, as they were when they were last looked at.
     now: Moment,
@@ -188,6 +193,8 @@ impl<'a> Session<'a> {
             end: End::Server,
             reported,
             within: Moment(0),
+            heard: Instant::now(),
+            asked: false,
             gather: Gather { since: Instant::now(), times: 0, bytes: 0, came: false, pauses: false },
             now,
             client_time_micros,
@@ -236,7 +243,7 @@ impl<'a> Session<'a> {
                     }
                     _ => {}
                 }
-                if self.pause() {
+                if self.pause()? {
                     break;
                 }
             }
@@ -275,12 +282,10 @@ impl<'a> Session<'a> {
         }
     }
 
-    // The service page on standard error; where that cannot be written the program goes on without it.
     fn show_page(&self) {
         let mut page = [0; PAGE];
         let n = self.run.page(&mut page).unwrap_or(0);
-        progress::clear();
-        let _ = io::stderr().write_all(&page[..n]);
+        show(&page, n);
     }
 
     fn stops(&self) -> Option<End> {
@@ -302,11 +307,32 @@ impl<'a> Session<'a> {
             return Ok(());
         }
         self.within = self.now;
-        let (mut out, position, limit) = ([0; STEP_OUTPUT], self.run.position(), self.settings.max_message_size);
-        let n = rufflesquash::write_status(position, self.client_time_micros, false, &mut out).map_err(|refusal| Failure::refused(refusal, limit))?;
+        self.own_status(self.run.position(), false)
+    }
+
+    // A status that the run does not write; with whether the server is to answer it.
+    fn own_status(&mut self, position: Lsn, reply: bool) -> Result<(), Failure> {
+        let (mut out, limit) = ([0; STEP_OUTPUT], self.settings.max_message_size);
+        let written = rufflesquash::write_status(position, Clock::client_time_micros(), reply, &mut out);
+        let n = written.map_err(|refusal| Failure::refused(refusal, limit))?;
         self.link.send(&out[..n])?;
         self.confirmed(position);
         Ok(())
+    }
+
+    // Nothing is there to read. A server that is well says nothing by itself while it hears our statuses, so at half the time it is asked. How long it
+    // may still be silent.
+    fn bear_silence(&mut self) -> Result<Option<Duration>, Failure> {
+        let Some(limit) = self.host.server_timeout else { return Ok(None) };
+        let silent = self.heard.elapsed();
+        if silent >= limit {
+            return Err(Failure::cut(format!("the server has sent nothing for {} s (--server-timeout)", limit.as_secs_f64())));
+        }
+        if silent >= limit / 2 && !self.asked && self.run.last_sent().is_some() {
+            self.asked = true;
+            self.own_status(self.run.position(), true)?;
+        }
+        Ok(Some(if self.asked { limit - silent } else { (limit / 2).saturating_sub(silent).max(Duration::from_millis(1)) }))
     }
 
     // Up to four steps of the run; answers how many bytes are to be sent.
@@ -367,35 +393,40 @@ impl<'a> Session<'a> {
     }
 
     // Reads where the run takes bytes and has none, and waits where no step would move. Whether time may have passed.
-    fn pause(&mut self) -> bool {
+    fn pause(&mut self) -> Result<bool, Failure> {
         let takes = matches!(self.run.state(), State::Opening | State::Reading | State::Waiting);
         if takes && (self.at < self.filled || self.ended) {
-            return false;
+            return Ok(false);
         }
         if takes && self.read() {
-            return true;
+            return Ok(true);
         }
         if !takes && self.run.next_step(self.payload.len(), self.host.output.queue()) == NextStep::AtOnce {
-            return false;
+            return Ok(false);
         }
         // The input is used up, or the queue is full: what was gathered is written now.
         self.host.output.flush();
         if takes && self.gather.pause() && self.read() {
-            return true;
+            return Ok(true);
+        }
+        let silent = if takes { self.bear_silence()? } else { None };
+        if !takes {
+            (self.heard, self.asked) = (Instant::now(), false);
         }
         let timeout = match self.run.next_step(self.payload.len(), self.host.output.queue()) {
-            NextStep::AtOnce | NextStep::Never => return true,
+            NextStep::AtOnce | NextStep::Never => return Ok(true),
             NextStep::From(moment) => Some(Duration::from_nanos(moment.0.saturating_sub(self.host.clock.now().0))),
             NextStep::OnInput => self.due_within().map(|due| Duration::from_nanos(due.0.saturating_sub(self.host.clock.now().0))),
         };
         let shown = self.host.progress.as_ref().map(|progress| progress.due());
-        self.link.wait(takes, [timeout, shown].into_iter().flatten().min());
-        true
+        self.link.wait(takes, [timeout, shown, silent].into_iter().flatten().min());
+        Ok(true)
     }
 
     fn read(&mut self) -> bool {
         let Some(n) = self.link.read(&mut self.input) else { return false };
         (self.at, self.filled, self.ended) = (0, n, n == 0);
+        (self.heard, self.asked) = (Instant::now(), false);
         self.gather.came(n);
         true
     }
@@ -449,9 +480,7 @@ impl<'a> Session<'a> {
         let unwritten = |refusal| Failure::refused(refusal, limit);
         if self.host.totals.last_status.unwrap_or_default() < done {
             // An ended run sends no status any more.
-            let n = rufflesquash::write_status(done, Clock::client_time_micros(), false, &mut out).map_err(unwritten)?;
-            self.link.send(&out[..n])?;
-            self.confirmed(done);
+            self.own_status(done, false)?;
         }
         // Within a transaction the server takes a Terminate alone for a reason to end at once; after a CopyDone it first sends the rest.
         if !self.host.output.in_transaction() {
@@ -487,6 +516,27 @@ impl<'a> Session<'a> {
             }
         }
     }
+}
+
+// The service page on standard error; where that cannot be written the program goes on without it.
+fn show(page: &[u8], n: usize) {
+    progress::clear();
+    let _ = io::stderr().write_all(&page[..n]);
+}
+
+/// The page while there is no stream: what was done in all streams so far.
+pub fn show_page_between(totals: &Totals, position: Lsn) {
+    let sent = totals.last_status.map_or("-".to_string(), |sent| sent.to_string());
+    let lines = [
+        ("POSITION", position.to_string()),
+        ("SENT", sent),
+        ("SERVER", "-".to_string()),
+        ("EVENTS", totals.events.to_string()),
+        ("STALLS", totals.stalls.to_string()),
+        ("STATE", "CONNECTING".to_string()),
+    ];
+    let page: String = lines.iter().map(|(name, value)| format!("{name:<8}{value:>24}\n")).collect();
+    show(page.as_bytes(), page.len());
 }
 
 // A run never ends at a keepalive, so the host does: all before its position was sent, where no transaction is open.

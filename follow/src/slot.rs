@@ -95,7 +95,7 @@ impl Talk<'_> {
         slot.check(name)?;
         if !slot.pid.is_empty() {
             let line = format!("slot {name} is in use by the connection with PID {} on the server; {ONE_AT_A_TIME}; {}", slot.pid, who(&slot.pid));
-            return Err(Failure { again: true, ..Failure::new(FAILED, line) });
+            return Err(Failure { again: true, there: true, ..Failure::new(FAILED, line) });
         }
         let rows = self.query_columns("IDENTIFY_SYSTEM", 3)?.map_err(|error| Failure::server(&error))?;
         let text = |at: usize| rows.first().and_then(|row| row.get(at)).and_then(|value| std::str::from_utf8(value).ok());
@@ -106,13 +106,16 @@ impl Talk<'_> {
         Ok(Standing { origin: Origin { system, timeline, slot: name.clone() }, end, confirmed: slot.confirmed, timeout: slot.timeout })
     }
 
-    // After a while the user is told what is waited for.
+    // The server may have to wait for others, without a limit of time. After a while the user is told what is waited for.
     fn slow_query(&mut self, text: &str, waits: &str) -> Result<Answers<Vec<u8>>, Failure> {
         self.send_query(text)?;
         if self.silent_for(PATIENCE) {
             tell(format_args!("waiting for {waits}; Ctrl-C ends this"));
         }
-        self.answers()
+        let timeout = self.timeout.take();
+        let answers = self.answers();
+        self.timeout = timeout;
+        answers
     }
 
     fn slot(&mut self, name: &str) -> Result<Slot, Failure> {

@@ -106,7 +106,7 @@ impl<'a> Opening<'_, 'a> {
     // Each server, and each address of it, in order.
     fn each_target(&mut self) -> Result<Talk<'a>, Miss> {
         let conninfo = self.conninfo;
-        let (mut missed, mut unreached) = (Vec::new(), true);
+        let (mut missed, mut unreached, mut there) = (Vec::new(), true, false);
         for target in &conninfo.targets {
             let addresses = match Address::all(target, self.waiter) {
                 Ok(addresses) => addresses,
@@ -123,13 +123,14 @@ impl<'a> Opening<'_, 'a> {
                 let several = if addresses.len() > 1 { format!(" ({address})") } else { String::new() };
                 missed.push(format!("{target}{several}: {}", failure.line));
                 unreached &= socket;
+                there |= failure.there;
                 if ffi::stop_requested() {
                     return Err(Failure::cut("stopped before a connection was open").into());
                 }
             }
         }
         let advice = if unreached { "; is the server running, and are host and port right?" } else { "" };
-        Err(Failure::cut(format!("cannot connect to {}{advice}", missed.join("; "))).into())
+        Err(Failure { there, ..Failure::cut(format!("cannot connect to {}{advice}", missed.join("; "))) }.into())
     }
 
     // A server that is not of the wanted kind is left for the next.
@@ -144,7 +145,7 @@ impl<'a> Opening<'_, 'a> {
 
     // With and without TLS, as sslmode has it; Unix sockets have none.
     fn each_mode(&mut self, target: &Target, address: &Address) -> Result<Talk<'a>, Miss> {
-        let until = self.conninfo.connect_timeout.map(|timeout| Instant::now() + timeout);
+        let until = self.conninfo.connect_timeout.or(self.conninfo.server_timeout).map(|timeout| Instant::now() + timeout);
         let mode = if matches!(address, Address::Unix(_)) { SslMode::Disable } else { self.conninfo.tls.mode };
         let (first, second) = match mode {
             SslMode::Disable => (false, None),
@@ -178,7 +179,7 @@ impl<'a> Opening<'_, 'a> {
         let is_tls = link.is_tls();
         let channel = Channel { tls: is_tls, unix: matches!(address, Address::Unix(_)), end_point: link.end_point() };
         let mut auth = Auth::new(self.conninfo, password, channel);
-        let mut talk = Talk::new(link);
+        let mut talk = Talk::new(link, self.conninfo.server_timeout);
         let opened = talk.startup(self.conninfo, &mut auth, until).and_then(|()| Ok(talk.take_any_encoding()?));
         match opened {
             Ok(()) => {
@@ -270,6 +271,8 @@ pub struct Talk<'a> {
     about: String,
     // Whether the database's texts are of no encoding.
     sql_ascii: bool,
+    /// After how long a server that does not answer is given up; none where it never is.
+    pub timeout: Option<Duration>,
 }
 
 impl<'a> Talk<'a> {
@@ -291,9 +294,9 @@ impl<'a> Talk<'a> {
         }
     }
 
-    fn new(link: Link<'a>) -> Talk<'a> {
+    fn new(link: Link<'a>, timeout: Option<Duration>) -> Talk<'a> {
         let (input, payload) = (vec![0; 65_536], vec![0; LONGEST_ANSWER]);
-        Talk { link, reader: MessageReader::new(), input, at: 0, filled: 0, payload, about: String::new(), sql_ascii: false }
+        Talk { link, reader: MessageReader::new(), input, at: 0, filled: 0, payload, about: String::new(), sql_ascii: false, timeout }
     }
 
     // Until the server is ready for a query.
@@ -345,9 +348,9 @@ impl<'a> Talk<'a> {
         (self.link, self.input[self.at..self.filled].to_vec())
     }
 
-    /// The next message of the server, for which there is no limit of time: a server may have to wait for others.
+    /// The next message of the server.
     pub(crate) fn answer(&mut self) -> Result<Message<'_>, Failure> {
-        self.answer_before(None)
+        self.answer_before(self.timeout.map(|timeout| Instant::now() + timeout))
     }
 
     fn answer_before(&mut self, until: Option<Instant>) -> Result<Message<'_>, Failure> {
@@ -506,6 +509,7 @@ mod tests {
             application_name: "follow".into(),
             options: Some("-c x=y".into()),
             connect_timeout: None,
+            server_timeout: None,
             keepalives: Keepalives { on: true, idle: Some(60), interval: Some(5), count: Some(3), user_timeout: Some(1000) },
             tls: Tls { min_version: Some(TlsVersion::V1_2), ..tls },
             channel_binding: ChannelBinding::Prefer,

@@ -68,7 +68,7 @@ impl Connector {
                         return Err(Failure::cut("stopped before the server answered"));
                     }
                     if left.is_some_and(|left| left.is_zero()) {
-                        return Err(Failure::cut("the TLS handshake did not end within connect_timeout"));
+                        return Err(Failure::cut("the TLS handshake did not end within connect_timeout or --server-timeout"));
                     }
                     // It nearly always waits to read; where it waits to write, a second later.
                     waiter.wait(Some((middle.get_ref().as_raw_fd(), false)), Some(left.unwrap_or(Duration::MAX).min(Duration::from_secs(1))));

@@ -100,7 +100,7 @@ fn a_slot_that_cannot_be_followed_is_told_before_the_stream() {
             answer(&mut client, if row.is_empty() { &[][..] } else { std::slice::from_ref(&row) });
             ended(&mut client);
         });
-        let output = follow(port, &[]);
+        let output = follow(port, &["-n"]);
         server.join().unwrap();
         let line = line(&output);
         assert!(output.status.code() == Some(1) && line.contains(part), "{line}");
@@ -130,7 +130,7 @@ fn the_servers_errors_and_what_to_do() {
             refuse(&mut client, &error(state, text));
             ended(&mut client);
         });
-        let output = follow(port, &[]);
+        let output = follow(port, &["-n"]);
         server.join().unwrap();
         let line = line(&output);
         assert!(output.status.code() == Some(1) && line.contains(&format!("{text} (SQLSTATE {state})")) && line.contains(part), "{line}");
@@ -146,7 +146,12 @@ fn errors_of_slots_and_streams() {
         (&["--create-slot"], "0A000", "logical decoding cannot be used while in recovery", "follow the primary server"),
         (&["--drop-slot"], "42704", "replication slot \"s\" does not exist", "SELECT slot_name FROM pg_replication_slots"),
         (&["--drop-slot"], "55006", "replication slot \"s\" is active for PID 12", "SELECT * FROM pg_stat_activity WHERE pid = 12 tells"),
-        (FOLLOW, "55006", "replication slot \"s\" is active for PID 12", "SELECT * FROM pg_stat_activity WHERE pid = 12 tells"),
+        (
+            &["--publication", "P", "-n"],
+            "55006",
+            "replication slot \"s\" is active for PID 12",
+            "SELECT * FROM pg_stat_activity WHERE pid = 12 tells",
+        ),
         (FOLLOW, "42704", "replication slot \"s\" does not exist", "--create-slot makes it"),
         (FOLLOW, "58P01", "requested WAL segment 000000010000000000000001 has already been removed", "--drop-slot and then --create-slot"),
         (FOLLOW, "55000", "can no longer get changes from replication slot \"s\"", "--drop-slot and then --create-slot"),

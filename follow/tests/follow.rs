@@ -703,3 +703,116 @@ fn a_file_goes_on_where_it_stands() {
     assert_eq!((commits, lines_of(&file).len()), (3, 12));
     std::fs::remove_dir_all(folder).unwrap();
 }
+
+// Whether a status asks for an answer.
+fn asks(body: &[u8]) -> bool {
+    status(body);
+    body[33] == 1
+}
+
+// At half the time the server is asked, and one that answers is kept; one that is silent for all of it is given up.
+#[test]
+fn a_silent_server_is_asked_and_then_given_up() {
+    let (port, server) = serve(|listener| {
+        let mut client = accept(&listener);
+        let_in(&mut client);
+        client.write_all(&transaction(0x100, 1)).unwrap();
+        for _ in 0..2 {
+            while !asks(&receive(&mut client).1) {}
+            client.write_all(&keepalive(0x108, 0, 0)).unwrap();
+        }
+        let begun = std::time::Instant::now();
+        while !asks(&receive(&mut client).1) {}
+        let asked = begun.elapsed().as_millis();
+        let _ = client.read_to_end(&mut Vec::new());
+        let ended = begun.elapsed().as_millis();
+        let mut client = accept(&listener);
+        let_in(&mut client);
+        client.write_all(&transaction(0x200, 2)).unwrap();
+        statuses(&mut client);
+        (asked, ended)
+    });
+    let output = follow(port, &["--server-timeout", "1", "-E", "0/208"]);
+    let (asked, ended) = server.join().unwrap();
+    let told = String::from_utf8(output.stderr).unwrap();
+    assert!(asked >= 450 && ended >= 950, "{asked} {ended}");
+    assert!(output.status.code() == Some(0) && told.contains("the server has sent nothing for 1 s (--server-timeout); again from 0/108"), "{told}");
+}
+
+#[test]
+fn a_server_that_is_silent_before_the_stream() {
+    for queries in [false, true] {
+        let (port, server) = serve(move |listener| {
+            let mut client = accept(&listener);
+            if queries {
+                authenticate(&mut client);
+            }
+            let _ = client.read_to_end(&mut Vec::new());
+        });
+        let output = follow(port, &["--server-timeout", "0.5", "-n"]);
+        server.join().unwrap();
+        let line = line(&output);
+        assert!(output.status.code() == Some(1) && line.contains("did not answer within connect_timeout or --server-timeout"), "{line}");
+    }
+}
+
+// A server that starts, and a slot that is still held by one that was killed.
+#[test]
+fn the_first_connection_is_tried_again() {
+    let (port, server) = serve(|listener| {
+        for _ in 0..2 {
+            let mut client = accept(&listener);
+            startup(&mut client);
+            client.write_all(&message(b'E', &error("57P03", "the database system is starting up"))).unwrap();
+        }
+        let mut client = accept(&listener);
+        authenticate(&mut client);
+        query(&mut client);
+        answer(&mut client, &[b"P"]);
+        query(&mut client);
+        answer(&mut client, &[b"logical\n4711\nreserved\n0/0\nfalse\n60000\npgoutput\n"]);
+        let mut client = accept(&listener);
+        let_in(&mut client);
+        client.write_all(&transaction(0x100, 1)).unwrap();
+        statuses(&mut client);
+    });
+    let output = follow(port, &["-E", "0/108"]);
+    server.join().unwrap();
+    let told = String::from_utf8_lossy(&output.stderr).into_owned();
+    let ends = ["again from where the slot stands in 50 ms", "in 100 ms", "in 200 ms"];
+    assert!(told.lines().count() == 3 && told.lines().zip(ends).all(|(line, end)| line.ends_with(end)), "{told}");
+    assert_eq!((output.status.code(), kinds(&output).len()), (Some(0), 4));
+}
+
+#[test]
+fn signals_while_the_server_is_away() {
+    let (folder, file) = file("away");
+    let (connected, is_connected) = std::sync::mpsc::channel();
+    let (port, server) = serve(move |listener| {
+        let mut client = accept(&listener);
+        startup(&mut client);
+        client.write_all(&message(b'E', &error("57P03", "the database system is starting up"))).unwrap();
+        // The next connection is open, and says nothing.
+        let mut client = accept(&listener);
+        connected.send(()).unwrap();
+        let _ = client.read_to_end(&mut Vec::new());
+    });
+    let mut follow = command(port, &["--publication", "P", "-f", &file]).stderr(Stdio::piped()).spawn().unwrap();
+    let mut told = follow.stderr.take().unwrap();
+    assert!(lines(&mut told, 1)[0].contains("57P03"));
+    is_connected.recv().unwrap();
+    signal(follow.id(), "USR1");
+    let page = lines(&mut told, 6);
+    assert_eq!((page[0].as_str(), page[5].as_str()), ("POSITION                     0/0", "STATE                 CONNECTING"));
+    std::fs::rename(&file, format!("{file}.1")).unwrap();
+    signal(follow.id(), "HUP");
+    let begun = std::time::Instant::now();
+    while !std::path::Path::new(&file).exists() {
+        assert!(begun.elapsed().as_secs() < 20, "the file is not opened again");
+        thread::sleep(std::time::Duration::from_millis(5));
+    }
+    signal(follow.id(), "TERM");
+    assert_eq!(follow.wait().unwrap().code(), Some(0));
+    server.join().unwrap();
+    std::fs::remove_dir_all(folder).unwrap();
+}

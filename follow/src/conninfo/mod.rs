@@ -25,6 +25,8 @@ pub struct Given {
     pub username: Option<String>,
     /// The least and the most iterations of SCRAM that are taken.
     pub scram_iterations: Option<(u32, u32)>,
+    /// After how long a silent server is given up; none where it never is.
+    pub server_timeout: Option<Duration>,
 }
 
 /// All that is needed to connect.
@@ -39,6 +41,8 @@ pub struct Conninfo {
     pub options: Option<String>,
     /// For each target; none where there is no limit.
     pub connect_timeout: Option<Duration>,
+    /// After how long a silent server is given up; none where it never is.
+    pub server_timeout: Option<Duration>,
     pub keepalives: Keepalives,
     pub tls: Tls,
     pub channel_binding: ChannelBinding,
@@ -254,6 +258,7 @@ fn resolve_in(given: &Given, around: &Surroundings) -> Result<(Conninfo, Vec<Str
         tls: values::tls(&params, &targets, around)?,
         channel_binding: values::channel_binding(&params)?,
         require_auth: values::require_auth(&params)?,
+        server_timeout: given.server_timeout,
         scram_iterations: given.scram_iterations.unwrap_or(SCRAM_ITERATIONS),
         session_attrs: values::session_attrs(&params)?,
         targets,
@@ -365,6 +370,7 @@ mod tests {
             application_name: "follow".into(),
             options: None,
             connect_timeout: None,
+            server_timeout: None,
             keepalives: Keepalives { on: true, idle: None, interval: None, count: None, user_timeout: None },
             tls: Tls { mode: SslMode::Prefer, root_cert, cert, key, sni: true, min_version: Some(TlsVersion::V1_2), max_version: None },
             channel_binding: ChannelBinding::Prefer,
@@ -374,14 +380,14 @@ mod tests {
         };
         assert_eq!(around.resolve_given(&Given::default()).unwrap(), (expected.clone(), vec![]));
         let empty = || Some(String::new());
-        let given = Given { dbname: empty(), host: empty(), port: empty(), username: empty(), scram_iterations: None };
+        let given = Given { dbname: empty(), host: empty(), port: empty(), username: empty(), scram_iterations: None, server_timeout: None };
         assert_eq!(around.resolve_given(&given).unwrap().0, expected);
     }
 
     // What the user is called, the database, the first server and the name of the application.
     fn named(around: &Around, given: [&str; 4]) -> String {
         let [dbname, host, port, username] = given.map(|text| Some(text.to_string()));
-        let conninfo = around.resolve_given(&Given { dbname, host, port, username, scram_iterations: None }).unwrap().0;
+        let conninfo = around.resolve_given(&Given { dbname, host, port, username, scram_iterations: None, server_timeout: None }).unwrap().0;
         format!("{} {} {} {}", conninfo.user, conninfo.dbname, conninfo.targets[0], conninfo.application_name)
     }
 

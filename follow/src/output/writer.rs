@@ -38,6 +38,8 @@ pub struct Queue {
     /// Memory of batches that are written.
     pub spare: Vec<Vec<u8>>,
     pub sync: bool,
+    /// Whether the file is to be opened again between two streams, when all batches are written.
+    pub reopen: bool,
     pub ended: bool,
     /// Ends as a kill would, without a sync.
     #[cfg(test)]
@@ -182,6 +184,9 @@ impl Writer {
                     self.reopen()?;
                 }
             }
+            if work.reopen {
+                self.reopen()?;
+            }
             #[cfg(test)]
             if work.killed {
                 return Ok(());
@@ -200,7 +205,7 @@ impl Writer {
         let mut queue = self.shared.queue();
         loop {
             let left = self.due().map(|due| due.saturating_duration_since(Instant::now()));
-            if queue.sync || queue.ended || !queue.batches.is_empty() || left.is_some_and(|left| left.is_zero()) {
+            if queue.sync || queue.reopen || queue.ended || !queue.batches.is_empty() || left.is_some_and(|left| left.is_zero()) {
                 let spare = std::mem::take(&mut queue.spare);
                 let work = std::mem::take(&mut *queue);
                 (queue.spare, queue.ended) = (spare, work.ended);
