@@ -1,0 +1,9 @@
+pub mod CallLaws
+pub mod Laws
+pub mod ListLaws
+pub mod OneCall
+pub mod RingLaws
+pub mod Rising
+pub mod SlotLaws
+pub mod Standing
+pub mod UndoneLaws
