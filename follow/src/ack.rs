@@ -208,8 +208,16 @@ fn parse(line: &[u8]) -> Option<Ack> {
 }
 
 #[cfg(test)]
-mod tests {
+pub(crate) mod tests {
     use super::*;
+
+    /// What is done after these lines, where this was printed.
+    pub(crate) fn read(lines: &[u8], printed: u64) -> [Lsn; FILES] {
+        let shared = Arc::new(Shared::default());
+        shared.printed.store(printed, SeqCst);
+        Reader { shared: shared.clone() }.run(lines);
+        Acks { shared, used: [true; FILES] }.done()
+    }
 
     #[test]
     fn lines() {

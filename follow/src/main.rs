@@ -6,6 +6,8 @@ mod auth;
 mod conninfo;
 mod failure;
 mod ffi;
+#[cfg(test)]
+mod fuzz;
 mod json;
 mod link;
 mod names;

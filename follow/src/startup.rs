@@ -479,7 +479,7 @@ fn startup_message(conninfo: &Conninfo) -> Result<Vec<u8>, Failure> {
 mod scram;
 
 #[cfg(test)]
-mod tests {
+pub(crate) mod tests {
     use super::*;
     use crate::conninfo::{CertFile, ChannelBinding, Keepalives, RequireAuth, Tls, TlsVersion};
     use crate::startup::scram::Scram;
@@ -497,7 +497,7 @@ mod tests {
         Random(u64),
     }
 
-    fn conninfo(port: u16) -> Conninfo {
+    pub(crate) fn conninfo(port: u16) -> Conninfo {
         let none = CertFile { path: None, named: false };
         let place = Place::Tcp { host: "127.0.0.1".into(), hostaddr: None };
         let tls =

@@ -1,5 +1,5 @@
 -- What a ledger stands for: the calls that were not refused, the last one first, read by themselves. Nothing here knows a ring, a slot or a mark.
--- Issue 42, definitions 1 to 9; SCOPE 19.
+-- SCOPE 19.
 use mathlib.Core.Bool.{Bool, true, false}
 use mathlib.Core.List.{List, [], _∷_, _++_}
 use Prim.Native.Nat.{ℕ, zero, suc, _-_, max}

@@ -1,4 +1,4 @@
--- What the reading promises, over all histories: what may be reported covers nothing but what is done, and is not less than that. Issue 42; SCOPE 19.
+-- What the reading promises, over all histories: what may be reported covers nothing but what is done, and is not less than that. SCOPE 19.
 use mathlib.Core.Path.{_≡_}
 use mathlib.Core.Bool.{Bool, true, false}
 use mathlib.Core.List.{List, [], _∷_, _++_}

@@ -290,7 +290,7 @@ fn collect(given: &Given, around: &Surroundings) -> Result<Params, Failure> {
 }
 
 #[cfg(test)]
-mod tests {
+pub(crate) mod tests {
     use super::*;
     use crate::ffi::Account;
     use std::collections::BTreeMap;
