@@ -33,7 +33,7 @@ struct Kept {
     // The ends under which a transaction came, and how many rows it had.
     ends: BTreeMap<u64, Vec<u64>>,
     rows: BTreeMap<u64, u64>,
-    // The last acknowledgement of each file, and the last two since the last start.
+    // The largest acknowledgement of each file, which is what counts, and the last two since the last start.
     acknowledged: [u64; FILES],
     since: [[u64; 2]; FILES],
     twice: u64,
@@ -73,7 +73,7 @@ impl Kept {
         self.acks += 1;
         let files = if file == "*" { 0..FILES } else { number(file) as usize..number(file) as usize + 1 };
         for file in files {
-            self.acknowledged[file] = end;
+            self.acknowledged[file] = self.acknowledged[file].max(end);
             self.since[file] = [end, self.since[file][0]];
         }
     }

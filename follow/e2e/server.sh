@@ -23,13 +23,25 @@ cleanup() {
 trap cleanup EXIT
 trap 'exit 1' INT TERM
 
-install() { apt-get install -y -q postgresql-15 >> "$work/install.err" 2>&1; }
+# Where the lists of packages are missing or old, they are fetched first.
+apt_install() { apt-get install -y -q --no-install-recommends "$@" >> "$work/install.err" 2>&1; }
+install() { apt_install "$@" || { apt-get update >> "$work/install.err" 2>&1 && apt_install "$@"; }; }
 install_server() {
     [ -x "$bin/postgres" ] && [ -x "$bin/pgbench" ] && return
     say "installing PostgreSQL 15"
-    # Where the lists of packages are missing or old, they are fetched first.
-    install || { apt-get update >> "$work/install.err" 2>&1 && install; } ||
-        fail "PostgreSQL 15 is missing and cannot be installed; PG_BIN may name its programs"
+    install postgresql-15 || fail "PostgreSQL 15 is missing and cannot be installed; PG_BIN may name its programs"
+}
+# What a check needs besides; where it cannot be had, the last line says what was left out.
+left_out=()
+needs() { # package, what is left out without it, command that tells whether it is there
+    "${@:3}" > /dev/null 2>&1 && return
+    install "$1" && "${@:3}" > /dev/null 2>&1 && return
+    left_out+=("$2 ($1 cannot be installed)")
+    return 1
+}
+passed() { # what has passed
+    say "passed: $*"
+    [ "${#left_out[@]}" = 0 ] || { printf 'LEFT OUT: %s\n' "${left_out[@]}"; }
 }
 
 free_port() { # a port that nobody listens on
