@@ -296,7 +296,7 @@ fn lossy_texts(v: &mut Vectors, draw: &mut Draw) {
 }
 
 /// Characters of one and two bytes, which the writer passes in blocks of 32 bytes, with something else at each place of the first blocks; and
-/// what stands where no block passes.
+/// blocks of any characters.
 fn lossy_blocks(v: &mut Vectors) {
     let text = "Wystawa w głównej sali: η έκθεση ανοίγει στις δέκα.".as_bytes();
     for n in 0..=text.len() {
@@ -305,7 +305,7 @@ fn lossy_blocks(v: &mut Vectors) {
             v.lossy_roomy(b'u', &[&text[..n], other, &text[n..]].concat());
         }
     }
-    // behind characters of three bytes, which no block passes, the table is read
+    // within blocks of characters of three bytes
     for first in [0x7F, 0x80, 0xBF, 0xC1, 0xC2, 0xDF, 0xE0, 0xE1, 0xEC, 0xED, 0xEE, 0xF0, 0xF1, 0xF3, 0xF4, 0xF5] {
         for second in [0x41, 0x80, 0x8F, 0x90, 0x9F, 0xA0, 0xBF, 0xC2] {
             for rest in [&[0x80, 0x80][..], &[0x42]] {

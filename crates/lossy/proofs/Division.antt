@@ -27,7 +27,7 @@ use Rattle.lossy.proofs.Encoding.{inside, range-of}
 is-in : (low high b : ℕ) → In low high b → within (record { low = low; high = high }) b ≡ true
 is-in low high b w = inside (record { low = low; high = high }) b (w .0) (w .1)
 
-to-sequence : {s : List ℕ} → Character s → Sequence s
+pub to-sequence : {s : List ℕ} → Character s → Sequence s
 unfolding table
 to-sequence (row-1 a) = inl (is-in _ _ _ a, tt)
 to-sequence (row-2 a b) = inr (inl (is-in _ _ _ a, (is-in _ _ _ b, tt)))

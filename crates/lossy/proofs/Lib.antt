@@ -11,3 +11,4 @@ pub mod Encoding
 pub mod Automaton
 pub mod Division
 pub mod Answers
+mod Windows

@@ -1,5 +1,5 @@
 -- A part that was found at a place, and what comes after it: the lossy text, its marks, the stretch of well-formed parts.
-use mathlib.Core.Path.{_≡_, refl, ap, _∙_}
+use mathlib.Core.Path.{_≡_, refl, sym, ap, _∙_}
 use mathlib.Core.Bool.{Bool, true, false}
 use mathlib.Core.List.{List, _∷_, _++_}
 use Prim.Native.Nat.{ℕ, suc, _+_, _≤_, _<_}
@@ -83,22 +83,30 @@ walked-ill s from stop i p q a w =
     let o : 1 ≤ p .len = a .some in
     record { passed = q; far = λ n. absurd (omega arith); behind = λ n. ill-part s i p a w }
 
--- a walk to the end of the text finds the stretch
+-- a stretch behind places that were passed
+pub stretch-behind : {s : List ℕ} {i j : ℕ} (t : Stretch) → PassedTo s i j → StretchAt s j t → StretchAt s i t
+stretch-behind t p a = record { is = a .is ∙ sym (p .is); last = a .last; behind = a .behind }
+
+-- a walk that an ill-formed part ends has found the stretch
+pub walked-ends : (s : List ℕ) (i stop : ℕ) (t : Stretch) → WalkedTo s i stop t → 1 ≤ t .ill → StretchAt s i t
+walked-ends s i stop t w o =
+    let p = w .behind o in
+    let g : t .end + t .ill ≤ length s = p .ends in
+    let z : stretchOf (drop (t .end) s) ≡ 0 = stretch-ends s (t .end) (record { len = t .ill; well = false }) (omega arith) p refl in
+    let e : i + stretchOf (drop i s) ≡ t .end + stretchOf (drop (t .end) s) = w .passed .is in
+    record { is = omega arith; last = λ n. absurd (omega arith); behind = w .behind }
+
+-- and so has one that came to the end of the text
 pub walked-stretch : (s : List ℕ) (i : ℕ) (t : Stretch) → WalkedTo s i (length s) t → StretchAt s i t
 walked-stretch s i t w =
     by-test (eqb (t .ill) 0)
     (λ e.
     let n : t .ill ≡ 0 = eqb-true _ _ e in
     let h : length s ≤ t .end = w .far n in
-    found (rw (drop-of-length-le s h) stretch-none) (λ m. let g : t .end ≤ length s = w .passed .within in omega arith))
+    let g : t .end ≤ length s = w .passed .within in
+    let z : stretchOf (drop (t .end) s) ≡ 0 = rw (drop-of-length-le s h) stretch-none in
+    let q : i + stretchOf (drop i s) ≡ t .end + stretchOf (drop (t .end) s) = w .passed .is in
+    record { is = omega arith; last = λ m. omega arith; behind = w .behind })
     (λ e.
     let f : t .ill ≡ 0 → ⊥ = eqb-false _ _ e in
-    let o : 1 ≤ t .ill = omega (arith, f) in
-    let p = w .behind o in
-    let g : t .end + t .ill ≤ length s = p .ends in
-    found (stretch-ends s (t .end) (record { len = t .ill; well = false }) (omega arith) p refl) (λ m. absurd (omega arith)))
-  where
-    found : stretchOf (drop (t .end) s) ≡ 0 → (t .ill ≡ 0 → t .end ≡ length s) → StretchAt s i t
-    found z l =
-        let e : i + stretchOf (drop i s) ≡ t .end + stretchOf (drop (t .end) s) = w .passed .is in
-        record { is = omega arith; last = l; behind = w .behind }
+    walked-ends s i (length s) t w (omega (arith, f)))

@@ -3,6 +3,7 @@ pub mod Marks
 pub mod Parts
 pub mod Stretch
 pub mod Blocks
+pub mod Wide
 pub mod Code
 pub mod Encoding
 pub mod Automaton

@@ -8,7 +8,7 @@ ghost use Rattle.lossy.specs.Blocks.{trails, leads, fits, unfitAt, Passe
 pub(crate) const BLOCK: usize = 32;
 
 // 1 for a continuation byte.
-fn trail(b: u8) -> u8
+pub(crate) fn trail(b: u8) -> u8
     ensures { λ r. ⌜ r ≡ trails b ⌝ }
 {
     if b < 0x80 {

@@ -4,9 +4,10 @@ pub mod by_table;
 mod lookup;
 mod part;
 pub mod plain;
+mod wide;
 
 ghost use mathlib.Core.Path.{_≡_};
-ghost use Prim.Native.Nat.{_+_, _-_, _≤_, _<_, min};
+ghost use Prim.Native.Nat.{_+_, _≤_, _<_};
 ghost use lib.ListN.{length};
 ghost use Rattle.wire.specs.Bytes.{placed, put};
 ghost use Rattle.error.specs.Writer.{writing, counted, countOf};
@@ -87,42 +88,21 @@ fn table_to(text: &[u8], from: usize, stop: usize, table: &[u8; 2048]) -> Stretc
     Stretch { end: i, ill: 0 }
 }
 
-// How many bytes go by the table where a block does not pass: to make the table takes some time.
-const BY_TABLE: usize = 256;
-
-fn table_some(text: &[u8], from: usize) -> Stretch
-    requires { ⌜ from ≤ length (now text) ⌝ }
-    ensures { λ r. ⌜ WalkedTo (now (text .entry)) from (from + min (length (now (text .entry)) - from) 256) r ⌝ }
-{
-    let table = utf8::states();
-    table_to(
-        text,
-        from,
-        from + least(text.len() - from, BY_TABLE),
-        &table,
-    )
-}
-
-// What stands where a block does not pass: as many bytes as a block has go a part at a time, since the text may soon be ill-formed; where no block
-// passes then, the table is made.
+// What stands where a block of characters of one and two bytes does not pass: blocks of any characters, or else as many bytes as a block has, a part at
+// a time, since the text may soon be ill-formed.
 fn unblocked(text: &[u8], from: usize) -> Stretch
     requires { ⌜ from + 32 < length (now text) ⌝ }
     ensures { λ r. ⌜ WalkedTo (now (text .entry)) from (from + 1) r ⌝ }
 {
-    let t = plain_to(text, from, from + blocks::BLOCK);
-    if t.ill != 0 {
-        return t;
-    }
-    let a = t.end;
-    let b = blocks::passed(text, a);
-    if a < b {
+    let b = wide::passed(text, from);
+    if from < b {
         return Stretch { end: b, ill: 0 };
     }
-    table_some(text, b)
+    plain_to(text, from, from + blocks::BLOCK)
 }
 
-// The same by blocks and by the table. The last bytes, fewer than a block has, go a part at a time.
-fn table_from(text: &[u8], from: usize) -> Stretch
+// The same by blocks. The last bytes, fewer than a block has, go a part at a time.
+fn blocks_from(text: &[u8], from: usize) -> Stretch
     requires { ⌜ from ≤ length (now text) ⌝ }
     ensures { λ r. ⌜ StretchAt (now (text .entry)) from r ⌝ }
 {
@@ -141,13 +121,30 @@ fn table_from(text: &[u8], from: usize) -> Stretch
     Stretch { end: i, ill: 0 }
 }
 
-// How far the text is well-formed from a place on, on the path that is asked for.
-fn stretch_from(text: &[u8], from: usize, by_table: bool) -> Stretch
+// How many bytes go a part at a time behind an ill-formed part before blocks are tried: where one is, another may soon follow.
+const BEHIND_ILL: usize = 48;
+
+fn behind_ill(text: &[u8], from: usize) -> Stretch
     requires { ⌜ from ≤ length (now text) ⌝ }
     ensures { λ r. ⌜ StretchAt (now (text .entry)) from r ⌝ }
 {
-    if by_table {
-        return table_from(text, from);
+    let t = plain_to(text, from, from + least(text.len() - from, BEHIND_ILL));
+    if t.ill != 0 {
+        return t;
+    }
+    blocks_from(text, t.end)
+}
+
+// How far the text is well-formed from a place on, on the path that is asked for.
+fn stretch_from(text: &[u8], from: usize, by_blocks: bool) -> Stretch
+    requires { ⌜ from ≤ length (now text) ⌝ }
+    ensures { λ r. ⌜ StretchAt (now (text .entry)) from r ⌝ }
+{
+    if by_blocks {
+        if from == 0 {
+            return blocks_from(text, from);
+        }
+        return behind_ill(text, from);
     }
     plain_from(text, from)
 }
@@ -160,14 +157,14 @@ pub fn well_formed_prefix(text: &[u8]) -> usize
 }
 
 // The length of the lossy text, where that is at most room, and the marks that are put in, on the path that is asked for.
-fn measure_by(text: &[u8], room: usize, by_table: bool) -> Measured
+fn measure_by(text: &[u8], room: usize, by_blocks: bool) -> Measured
     ensures { λ r. ⌜ measureOf r ≡ measured room (length (lossyOf (now (text .entry)))) (marksOf (now (text .entry))) ⌝ }
 {
     let mut bytes: usize = 0;
     let mut marks: usize = 0;
     let mut i: usize = 0;
     while i < text.len() {
-        let t = stretch_from(text, i, by_table);
+        let t = stretch_from(text, i, by_blocks);
         let n = t.end - i;
         if room - bytes < n {
             return Measured::Over;
@@ -204,14 +201,14 @@ pub fn count(text: &[u8], room: usize) -> Counted
 }
 
 // The lossy text over out from `to` on: a well-formed stretch as it is, one mark for what ends it, and so on.
-fn fill(out: &mut [u8], to: usize, text: &[u8], by_table: bool)
+fn fill(out: &mut [u8], to: usize, text: &[u8], by_blocks: bool)
     requires { ⌜ to + length (lossyOf (now text)) ≤ length (now out) ⌝ }
     ensures { λ _. ⌜ now (out .exit) ≡ put (now (out .entry)) to (lossyOf (now (text .entry))) ⌝ }
 {
     let mut at = to;
     let mut i: usize = 0;
     while i < text.len() {
-        let t = stretch_from(text, i, by_table);
+        let t = stretch_from(text, i, by_blocks);
         let end = t.end;
         at = wire::store::place(out, at, &text[i..end]);
         if t.ill == 0 {
@@ -237,21 +234,21 @@ pub fn place(out: &mut [u8], to: usize, text: &[u8]) -> usize
 }
 
 // The lossy text over the front of out, and its marks. A text without marks is well-formed to its end, and copied whole without a second walk.
-fn write_by(text: &[u8], out: &mut [u8], by_table: bool) -> Lossy
+fn write_by(text: &[u8], out: &mut [u8], by_blocks: bool) -> Lossy
     ensures { λ r. ⌜ (lossyOutcome r, now (out .exit))
         ≡ withMarks (marksOf (now (text .entry))) (writing (length (now (text .entry))) (lossyOf (now (text .entry))) (now (out .entry))) ⌝ }
 {
     if INPUT_LIMIT < text.len() {
         return Lossy::Refused(Refusal::InputTooLong);
     }
-    let Measured::Fits { bytes, marks } = measure_by(text, out.len(), by_table) else {
+    let Measured::Fits { bytes, marks } = measure_by(text, out.len(), by_blocks) else {
         return Lossy::Refused(Refusal::OutputTooShort);
     };
     if marks == 0 {
         wire::store::place(out, 0, text);
         return Lossy::Wrote { bytes, marks };
     }
-    fill(out, 0, text, by_table);
+    fill(out, 0, text, by_blocks);
     Lossy::Wrote { bytes, marks }
 }
 

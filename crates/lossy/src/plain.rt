@@ -1,4 +1,4 @@
-// The plain path, a part at a time: what the table path is held against, and measured beside.
+// The plain path, a part at a time: what the other paths are held against, and measured beside.
 ghost use mathlib.Core.Path.{_≡_};
 ghost use lib.ListN.{length};
 ghost use Rattle.error.specs.Writer.{writing};

@@ -1,19 +1,16 @@
--- What blocks and the table have passed is well-formed; where a part is ill-formed, the stretch ends.
+-- What blocks have passed is well-formed; where a part is ill-formed, the stretch ends.
 use Rattle.lossy.specs.Stretch.{stretchOf}
 use Rattle.lossy.specs.Blocks.{PassedTo}
-use Rattle.lossy.specs.Code.{StretchAt}
-use Rattle.lossy.specs.declared.Stretch.{Stretch}
 use Rattle.lossy.proofs.Laws.{stretch-none}
-use Rattle.lossy.proofs.Turns.{stretch-ends, passed-on}
-use Prim.Native.Nat.{ℕ, _≤_, _+_, _-_}
-use mathlib.Core.Path.{_≡_, refl, sym, _∙_}
+use Rattle.lossy.proofs.Turns.{stretch-ends, passed-on, stretch-behind}
+use Prim.Native.Nat.{_≤_, _+_, _-_}
+use mathlib.Core.Path.{_≡_, refl}
 use mathlib.Core.Bool.{false}
-use mathlib.Core.List.{List}
 use native.Mathlib.Omega.{arith}
 use lib.ListN.{length, drop, drop-of-length-le}
 use borrow.Author.Needs.{needs}
-use Rattle.lossy.proofs.table_from.Statement.{statement}
-use Rattle.lossy.proofs.table_from.Tie as tie
+use Rattle.lossy.proofs.blocks_from.Statement.{statement}
+use Rattle.lossy.proofs.blocks_from.Tie as tie
 
 abbrev Inv-loop : tie.InvT-loop
 Inv-loop text from i₀ i = (i ≤ length text) × PassedTo text from i
@@ -33,11 +30,7 @@ plain-from-requires c κs = c .before .passed .ensures .within
 unblocked-requires : tie.Need-unblocked-requires Inv-loop μ-loop
 unblocked-requires c κs = let w = c .before .passed .ensures .within in omega arith
 
--- a stretch behind places that were passed
-stretch-behind : {s : List ℕ} {i j : ℕ} (t : Stretch) → PassedTo s i j → StretchAt s j t → StretchAt s i t
-stretch-behind t p a = record { is = a .is ∙ sym (p .is); last = a .last; behind = a .behind }
-
--- what is passed up to where the table has led
+-- what is passed up to where these have led
 led : (c : tie.After-unblocked Inv-loop μ-loop) → let l = c .before .before .before .before in let a = l .before .before .args in
     PassedTo (a .text .now) (a .from) (c .unblocked .result .end)
 led c =
@@ -86,7 +79,7 @@ returns-3 c =
     let e = l .loop .inv .1 .is in
     record { is = omega arith; last = λ n. omega arith; behind = λ n. absurd (omega arith) }
 
-pub table-from-spec : {M : Type 1} → statement M
-table-from-spec =
+pub blocks-from-spec : {M : Type 1} → statement M
+blocks-from-spec =
     tie.close
     (tie.spec Inv-loop μ-loop loop-holds (search needs) sub-if1 plain-from-requires returns unblocked-requires returns-2 loop-less loop-again returns-3)
