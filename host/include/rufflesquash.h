@@ -266,10 +266,10 @@ extern "C" {
 /* An event of a load: its kind and its six numbers, as in the answer of a step. */
 #define RUFFLESQUASH_LOAD_WORDS 7 /* How many words the event has. */
 
-/* The lent memory of a relation cache: five parts, 145,736 bytes in all. */
+/* The lent memory of a relation cache: 16,712 bytes in four parts, and the names, for which as many bytes are lent as the host has. */
 #define RUFFLESQUASH_CACHE_RELATIONS 64 /* At most so many relations are held, each with an identifier and a count of columns. */
 #define RUFFLESQUASH_CACHE_COLUMNS 2048 /* The words of their columns, 32 for each relation. */
-#define RUFFLESQUASH_CACHE_NAMES 129024 /* The bytes of the columns' names, 63 for each column. */
+#define RUFFLESQUASH_CACHE_NAMES 129024 /* No more bytes of the names are read or written: 63 for each column. */
 
 /* A column of a held relation. */
 #define RUFFLESQUASH_CACHE_COLUMN_WORDS 5     /* How many words are told of a column. */
@@ -517,34 +517,37 @@ uint64_t rufflesquash_load_event(uint64_t state, uint64_t event[RUFFLESQUASH_LOA
 /* ---- A relation cache: what the Relation messages of a stream said of their columns, and rows matched with it.
  *
  * The memory is lent in five parts: how many relations are held (64 bits); of each slot its relation's identifier (32 bits) and how many columns
- * that has (8 bits); a word of each column (64 bits); and the bytes of the names. Column c of the relation in slot r has number 32 r + c, and its
- * name stands from byte 63 times that on. A word has, from its most significant bit on, whether the column belongs to the key (1 bit), its type
- * (32), its name's length (7) and its name's place in names (24). Every call gets the memory as the last one left it. Any content of it is some
- * cache: a call with it has one stated outcome, whatever the bytes are; a name that a word places outside of names ends with them. */
+ * that has (8 bits); a word of each column (64 bits); and the bytes of the names. Column c of the relation in slot r has number 32 r + c. A word
+ * has, from its most significant bit on, whether the column belongs to the key (1 bit), its type (32), its name's length (7) and its name's place
+ * in names (24). The names lie without gaps, in the order of the columns' numbers, so as many bytes suffice as the names have that are held: for
+ * names of at most L bytes, L for each column, and 63 × 2,048 = 129,024 always; bytes past these are neither read nor written. Every call gets
+ * the memory as the last one left it. Any content of it is some cache: a call with it has one stated outcome, whatever the bytes are; a name that
+ * a word places outside of names ends with them. */
 
-/* An empty cache: every byte of the memory is 0. */
+/* An empty cache: every byte of what is lent is 0. The names are not lent: nothing of them is read before it is written. */
 void rufflesquash_cache_clear(uint64_t *held, uint32_t ids[RUFFLESQUASH_CACHE_RELATIONS], uint8_t counts[RUFFLESQUASH_CACHE_RELATIONS],
-                              uint64_t words[RUFFLESQUASH_CACHE_COLUMNS], uint8_t names[RUFFLESQUASH_CACHE_NAMES]);
+                              uint64_t words[RUFFLESQUASH_CACHE_COLUMNS]);
 
 /* One message: the row that its data hold, as rufflesquash_row answers it. A Relation is held from then on, in place of an earlier one with its
- * identifier. Answers the refusal (26 to 30); refused, the memory is as it was and all words are 0.
+ * identifier: the names of later slots are moved. Answers the refusal (26 to 30, 4); refused, the memory is as it was and all words are 0.
  *
  * - 26, 27: those of rufflesquash_row.
  * - 28: a Relation, where 64 others are held.
  * - 29: a Relation with more than 32 columns or with a column's name of more than 63 bytes. The former description of the relation stays, and rows
  *   with the old number of columns are read under the old names.
- * - 30: an Insert, Update or Delete whose relation is not held or has another number of columns than one of its tuples. */
+ * - 30: an Insert, Update or Delete whose relation is not held or has another number of columns than one of its tuples.
+ * - 4: a Relation, where the names of those that are held, or of those that would be, are longer than names. It is told after 26 to 29. */
 uint64_t rufflesquash_cache_message(uint64_t *held, uint32_t ids[RUFFLESQUASH_CACHE_RELATIONS], uint8_t counts[RUFFLESQUASH_CACHE_RELATIONS],
-                                    uint64_t words[RUFFLESQUASH_CACHE_COLUMNS], uint8_t names[RUFFLESQUASH_CACHE_NAMES], const uint8_t *data,
+                                    uint64_t words[RUFFLESQUASH_CACHE_COLUMNS], uint8_t *names, size_t names_len, const uint8_t *data,
                                     size_t data_len, uint64_t row[RUFFLESQUASH_ROW_WORDS]);
 
 /* Whether a relation is held, 1 or 0, and how many columns it has. */
 uint64_t rufflesquash_cache_count(uint64_t held, const uint32_t ids[RUFFLESQUASH_CACHE_RELATIONS],
                                   const uint8_t counts[RUFFLESQUASH_CACHE_RELATIONS], uint32_t id, uint64_t *columns);
 
-/* A column of a relation, from 0. All words are 0 where the relation is not held or has no such column. */
+/* A column of a relation, from 0. All words are 0 where the relation is not held or has no such column. Of names the length alone is read. */
 void rufflesquash_cache_column(uint64_t held, const uint32_t ids[RUFFLESQUASH_CACHE_RELATIONS], const uint8_t counts[RUFFLESQUASH_CACHE_RELATIONS],
-                               const uint64_t words[RUFFLESQUASH_CACHE_COLUMNS], uint32_t id, size_t index,
+                               const uint64_t words[RUFFLESQUASH_CACHE_COLUMNS], const uint8_t *names, size_t names_len, uint32_t id, size_t index,
                                uint64_t column[RUFFLESQUASH_CACHE_COLUMN_WORDS]);
 
 #ifdef __cplusplus

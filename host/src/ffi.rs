@@ -410,34 +410,33 @@ pub fn load_event(state: u64) -> (u64, [u64; LOAD_WORDS]) {
     (next, event)
 }
 
-/// The memory of a relation cache; any content of it is some cache.
+/// The memory of a relation cache beside its names; any content of it is some cache.
 pub struct CacheMemory {
     pub held: u64,
     pub ids: [u32; CACHE_RELATIONS],
     pub counts: [u8; CACHE_RELATIONS],
     pub words: [u64; CACHE_COLUMNS],
-    pub names: [u8; CACHE_NAMES],
 }
 
 impl CacheMemory {
-    /// An empty cache, whose memory is zero.
+    /// An empty cache: all is zero.
     pub const fn new() -> CacheMemory {
-        CacheMemory { held: 0, ids: [0; CACHE_RELATIONS], counts: [0; CACHE_RELATIONS], words: [0; CACHE_COLUMNS], names: [0; CACHE_NAMES] }
+        CacheMemory { held: 0, ids: [0; CACHE_RELATIONS], counts: [0; CACHE_RELATIONS], words: [0; CACHE_COLUMNS] }
     }
 }
 
 pub fn cache_clear(m: &mut CacheMemory) {
     // SAFETY: arrays have the lengths that the function names, and exclusive references do not overlap.
-    unsafe { rufflesquash_cache_clear(&mut m.held, &mut m.ids, &mut m.counts, &mut m.words, &mut m.names) };
+    unsafe { rufflesquash_cache_clear(&mut m.held, &mut m.ids, &mut m.counts, &mut m.words) };
 }
 
 /// The refusal's number and the words of a row's head.
-pub fn cache_message(m: &mut CacheMemory, data: &[u8]) -> (u64, [u64; ROW_WORDS]) {
+pub fn cache_message(m: &mut CacheMemory, names: &mut [u8], data: &[u8]) -> (u64, [u64; ROW_WORDS]) {
     let mut row = [0; ROW_WORDS];
-    // SAFETY: the slice is lent whole, arrays have the lengths that the function names, and exclusive references do not overlap.
+    // SAFETY: slices are lent whole, arrays have the lengths that the function names, and exclusive references do not overlap.
     let number = unsafe {
-        let (at, len) = (data.as_ptr(), data.len());
-        rufflesquash_cache_message(&mut m.held, &mut m.ids, &mut m.counts, &mut m.words, &mut m.names, at, len, &mut row)
+        let (names, names_len, at, len) = (names.as_mut_ptr(), names.len(), data.as_ptr(), data.len());
+        rufflesquash_cache_message(&mut m.held, &mut m.ids, &mut m.counts, &mut m.words, names, names_len, at, len, &mut row)
     };
     (number, row)
 }
@@ -451,9 +450,9 @@ pub fn cache_count(m: &CacheMemory, id: u32) -> Option<u64> {
 }
 
 /// The words of a column of a relation; any identifier and index are answered.
-pub fn cache_column(m: &CacheMemory, id: u32, index: usize) -> [u64; CACHE_COLUMN_WORDS] {
+pub fn cache_column(m: &CacheMemory, names: &[u8], id: u32, index: usize) -> [u64; CACHE_COLUMN_WORDS] {
     let mut column = [0; CACHE_COLUMN_WORDS];
-    // SAFETY: arrays have the lengths that the function names.
-    unsafe { rufflesquash_cache_column(m.held, &m.ids, &m.counts, &m.words, id, index, &mut column) };
+    // SAFETY: the slice is lent whole, and arrays have the lengths that the function names.
+    unsafe { rufflesquash_cache_column(m.held, &m.ids, &m.counts, &m.words, names.as_ptr(), names.len(), id, index, &mut column) };
     column
 }

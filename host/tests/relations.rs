@@ -1,8 +1,12 @@
 //! The relation cache: rows with their columns, what it refuses, and that it is then as it was.
 
-use rufflesquash::relations::{HeldColumn, MatchedColumn, MatchedRow, RelationCache, Which};
+mod common;
+
+use common::Draw;
+use rufflesquash::relations::{names_needed, HeldColumn, MatchedColumn, MatchedRow, RelationCache, Which};
 use rufflesquash::rows::{Column, Row};
 use rufflesquash::Refusal;
+use std::collections::HashMap;
 use std::fmt::Write as _;
 use std::fs;
 
@@ -45,7 +49,7 @@ fn insert(id: u32, columns: usize) -> Vec<u8> {
     row(b'I', id, &[tuple(b'N', &vec![&b"7"[..]; columns])])
 }
 
-fn held(cache: &RelationCache, id: u32) -> Option<Vec<(Vec<u8>, bool, u32)>> {
+fn held<N: AsRef<[u8]> + AsMut<[u8]>>(cache: &RelationCache<N>, id: u32) -> Option<Vec<(Vec<u8>, bool, u32)>> {
     cache.columns(id).map(|columns| columns.map(|c| (c.name.to_vec(), c.key, c.type_oid)).collect())
 }
 
@@ -194,4 +198,95 @@ fn every_list_of_changes_is_answered_as_its_line_says() {
         records = &rest[len..];
     }
     assert!(count > 80, "{count}");
+}
+
+/// A relation cache by a plain map: which relations are held, with the name, key flag and type of each column.
+struct Model {
+    held: HashMap<u32, Vec<(Vec<u8>, bool, u32)>>,
+    room: usize,
+}
+
+impl Model {
+    /// The number of a Relation's refusal, 0 for none; it is held from then on.
+    fn relation(&mut self, id: u32, columns: &[(u8, &[u8], u32)]) -> u8 {
+        if !self.held.contains_key(&id) && self.held.len() == 64 {
+            return 28;
+        }
+        if columns.len() > 32 || columns.iter().any(|column| column.1.len() > 63) {
+            return 29;
+        }
+        let others = self.held.iter().filter(|(other, _)| **other != id).flat_map(|(_, columns)| columns);
+        if others.map(|column| column.0.len()).sum::<usize>() + columns.iter().map(|column| column.1.len()).sum::<usize>() > self.room {
+            return 4;
+        }
+        self.held.insert(id, columns.iter().map(|(flags, name, oid)| (name.to_vec(), flags % 2 == 1, *oid)).collect());
+        0
+    }
+}
+
+fn drawn_name(draw: &mut Draw, longest: u64) -> Vec<u8> {
+    (0..draw.below(longest + 1)).map(|_| 1 + draw.below(255) as u8).collect()
+}
+
+/// Relations and rows of some seventy identifiers, drawn, on a cache with so many bytes for names: the answers and all that is held are the model's.
+fn drawn(seed: u64, lent: usize, longest: u64, seen: &mut [u64; 31]) {
+    let mut draw = Draw(seed + 1);
+    let mut model = Model { held: HashMap::new(), room: lent.min(129_024) };
+    let mut names = vec![0xA5; lent];
+    let mut cache = RelationCache::with_names(&mut names[..]);
+    for _ in 0..400 {
+        let id = draw.below(70) as u32;
+        let most = if draw.below(20) == 0 { 36 } else { 12 };
+        let columns = draw.below(most) as usize;
+        let told = if draw.below(4) == 0 {
+            let expected = if model.held.get(&id).is_some_and(|held| held.len() == columns) { 0 } else { 30 };
+            assert_eq!(cache.row(&insert(id, columns)).err().map_or(0, Refusal::number), expected, "{seed}");
+            expected
+        } else {
+            let texts: Vec<_> = (0..columns).map(|_| drawn_name(&mut draw, longest)).collect();
+            let parts: Vec<_> = texts.iter().map(|name| (draw.below(256) as u8, &name[..], draw.below(1 << 32) as u32)).collect();
+            let expected = model.relation(id, &parts);
+            assert_eq!(cache.row(&relation(id, &parts)).err().map_or(0, Refusal::number), expected, "{seed}");
+            expected
+        };
+        seen[usize::from(told)] += 1;
+        for id in 0..70 {
+            assert_eq!(cache.columns(id).map(|c| c.map(|c| (c.name.to_vec(), c.key, c.type_oid)).collect()), model.held.get(&id).cloned(), "{seed}");
+        }
+    }
+    let used: usize = model.held.values().flatten().map(|column| column.0.len()).sum();
+    drop(cache);
+    assert!(used <= lent && names[lent.min(129_024)..].iter().all(|byte| *byte == 0xA5));
+}
+
+#[test]
+fn drawn_lists_are_answered_as_a_plain_map_answers() {
+    let mut seen = [0; 31];
+    for seed in 0..40 {
+        drawn(seed, 129_024, 66, &mut seen);
+        drawn(seed, 200_000, 66, &mut seen);
+    }
+    assert_eq!(seen[4], 0);
+    for (lent, longest) in [(0, 3), (1, 3), (100, 10), (700, 20), (2_000, 20), (10_000, 66)] {
+        for seed in 0..20 {
+            drawn(1_000 + seed, lent, longest, &mut seen);
+        }
+    }
+    assert!([0, 4, 28, 29, 30].iter().all(|number| seen[*number] > 100), "{seen:?}");
+}
+
+#[test]
+fn as_many_bytes_suffice_as_are_said() {
+    assert_eq!(names_needed(64, 32, 63), 129_024);
+    assert_eq!(names_needed(usize::MAX, usize::MAX, usize::MAX), 129_024);
+    assert_eq!(names_needed(64, 8, 10), 5_120);
+    let mut cache = RelationCache::with_names([0; names_needed(5, 4, 9)]);
+    for id in 0..5 {
+        assert!(cache.row(&wide(id, 4, 9)).is_ok());
+    }
+    assert_eq!(cache.row(&wide(5, 1, 1)).err(), Some(Refusal::OutputTooShort));
+    assert!(cache.columns(5).is_none());
+    assert!(cache.row(&wide(2, 4, 8)).is_ok());
+    assert!(cache.row(&wide(5, 4, 1)).is_ok());
+    assert_eq!(held(&cache, 4).unwrap()[3], (vec![b'd'; 9], true, 3));
 }

@@ -1341,12 +1341,15 @@ static struct {
     uint8_t names[R(CACHE_NAMES)];
 } cache;
 
+/* so many bytes are lent for the names */
+static size_t lent = R(CACHE_NAMES);
+
 static uint64_t cache_message(const uint8_t *data, size_t len, uint64_t row[R(ROW_WORDS)]) {
-    return rufflesquash_cache_message(&cache.held, cache.ids, cache.counts, cache.words, cache.names, data, len, row);
+    return rufflesquash_cache_message(&cache.held, cache.ids, cache.counts, cache.words, cache.names, lent, data, len, row);
 }
 
 static void cache_column(uint32_t id, size_t index, uint64_t column[R(CACHE_COLUMN_WORDS)]) {
-    rufflesquash_cache_column(cache.held, cache.ids, cache.counts, cache.words, id, index, column);
+    rufflesquash_cache_column(cache.held, cache.ids, cache.counts, cache.words, cache.names, lent, id, index, column);
 }
 
 /* Relation 0x10203040 with columns "k", of the key, of type 23, and "value", of type 0x80000001. */
@@ -1354,17 +1357,17 @@ static void caches(void) {
     static const uint8_t relation[] = "R\x10\x20\x30\x40sp\0rel\0f\0\2\1k\0\0\0\0\x17\xFF\xFF\xFF\xFF\xFEvalue\0\x80\0\0\1\0\0\0\0";
     static const uint8_t insert[] = "I\x10\x20\x30\x40N\0\2nu";
     uint64_t row[R(ROW_WORDS)], column[R(CACHE_COLUMN_WORDS)], columns = 1;
-    SAME(sizeof cache, 145736);
+    SAME((size_t)((const uint8_t *)cache.names - (const uint8_t *)&cache), 16712);
     memset(&cache, 0xA5, sizeof cache);
     cache_column(7, 0, column);
     WORDS(column, 0);
     SAME(cache_message(insert, sizeof insert - 1, row), 30);
-    rufflesquash_cache_clear(&cache.held, cache.ids, cache.counts, cache.words, cache.names);
+    rufflesquash_cache_clear(&cache.held, cache.ids, cache.counts, cache.words);
     const uint8_t *bytes = (const uint8_t *)&cache;
     size_t zeros = 0;
     while (zeros < sizeof cache && bytes[zeros] == 0)
         zeros++;
-    SAME(zeros, sizeof cache);
+    SAME(zeros, 16712);
     SAME(cache_message(insert, sizeof insert - 1, row), 30);
     WORDS(row, 0);
     SAME(cache_message(relation, sizeof relation - 1, row), 0);
@@ -1376,11 +1379,11 @@ static void caches(void) {
     SAME(column[R(CACHE_COLUMN_GIVEN)], 1);
     SAME(column[R(CACHE_COLUMN_KEY)], 1);
     cache_column(0x10203040, 1, column);
-    WORDS(column, 1, 63, 5, 0, 0x80000001);
+    WORDS(column, 1, 1, 5, 0, 0x80000001);
     SAME(column[R(CACHE_COLUMN_TYPE)], 0x80000001);
     /* key flag, type, length and place of each name, from the most significant bit on */
     SAME(cache.words[0], (uint64_t)1 << 63 | (uint64_t)23 << 31 | 1 << 24);
-    SAME(cache.words[1], (uint64_t)0x80000001 << 31 | 5 << 24 | 63);
+    SAME(cache.words[1], (uint64_t)0x80000001 << 31 | 5 << 24 | 1);
     BYTES(cache.names + column[R(CACHE_COLUMN_NAME_FROM)], "value", column[R(CACHE_COLUMN_NAME_LEN)]);
     cache_column(0x10203040, 2, column);
     WORDS(column, 0);
@@ -1396,6 +1399,16 @@ static void caches(void) {
     SAME(cache_message(insert, sizeof insert - 2, row), 26);
     SAME(rufflesquash_cache_count(cache.held, cache.ids, cache.counts, 7, &columns), 0);
     SAME(columns, 0);
+    /* six bytes hold both names, five do not: nothing is altered then */
+    rufflesquash_cache_clear(&cache.held, cache.ids, cache.counts, cache.words);
+    lent = 5;
+    SAME(cache_message(relation, sizeof relation - 1, row), 4);
+    WORDS(row, 0);
+    SAME(cache.held, 0);
+    lent = 6;
+    SAME(cache_message(relation, sizeof relation - 1, row), 0);
+    BYTES(cache.names, "kvalue", 6);
+    SAME(cache.names[6], 0xA5);
 }
 
 int main(void) {

@@ -1,2 +1,1 @@
-pub mod Caches
 pub mod Mixed

@@ -1,186 +1,33 @@
 -- The packed memory beside the former one: a step of the one is a step of the other.
 use mathlib.Core.Path.{_≡_, refl, sym, ap, subst, _∙_}
 use mathlib.Core.Bool.{Bool, true, false}
-use mathlib.Core.List.{List, [], _∷_}
+use mathlib.Core.List.{List, [], _∷_, map}
 use mathlib.Core.Option.{Option, some, none}
+use mathlib.Core.Logic.{_⊎_, inl, inr}
 use Prim.Native.Nat.{ℕ, zero, suc, _+_, _*_, _-_, _<_, _≤_, _^_, min, max}
 use native.Mathlib.Omega.{arith}
-use lib.ListN.{length, take, getD, set, replicate, length-take, length-set, length-replicate}
-use lib.Seq.{getD-set-same, getD-set-other}
-use lib.IntN.{ℤ}
+use lib.ListN.{length, take, getD, replicate, length-take, length-append, length-replicate}
 use lib.Dec.{eqb, leb, ltb}
 use lib.Pow.{areBytes}
-use borrow.Author.Tests.{eqb-true, eqb-false, leb-true, leb-false, ltb-true, ltb-false}
-use Rattle.wire.specs.Bytes.{pick, placed}
+use borrow.Author.Tests.{leb-true, leb-false, le-leb, lt-leb, ltb-true, ltb-false}
+use Rattle.wire.specs.Bytes.{pick}
 use Rattle.wire.proofs.Laws.{impossible, by-test}
 use Rattle.rows.specs.Layout.{All}
 use Rattle.rows.specs.Rows.{Described, described, Row, relation, type, origin, insert, update, update-from, delete, truncate, Said, row, no-row, refused-by, rowSaid}
 use Rattle.rows.specs.RowLayout.{DescribedFits, RowFits}
-use Rattle.rows.specs.Head.{Answer, answerOf, refusal}
+use Rattle.rows.specs.Head.{Answer, head, headOf, answerOf, refusal}
 use Rattle.rows.proofs.Sent.{read-is-sent}
-use Rattle.relations.specs.Cache.{isKey, namesFit, fits, judged, answered}
-use Rattle.relations.specs.Memory.{Columns, Memory, heldIds, slotIn, countAt, countIn, judgedBy, storeColumn, storeFrom, stored as formerStored, leaves as formerLeaves, messageOf as formerMessage, emptied as formerEmptied}
-use Rattle.relations.specs.Answers.{Told, columnSpan, columnTold as formerTold}
-use Rattle.relations.specs.Laws.{SizedColumns, Sized, named, answersOn as formerAnswers, memoryAfter as formerAfter}
-use Rattle.relations.proofs.Leaves.{name-short, fits-few}
-use Rattle.relations.proofs.Held.{place-most}
-use Rattle.relations.proofs.Stored.{one-sized}
-use Rattle.relations.proofs.Theorems.{message-leaves, emptied-sized}
-use Rattle.column_word.specs.Word.{columnIn}
-use Rattle.column_word.proofs.Laws.{words}
-use Rattle.packed_relations.specs.Packed.{Words, Packed, wordsOf, packed, emptied, common, columnFor, wordFor, storeWords, stored, leaves, messageOf, namesLength, toldOf, columnTold}
-use Rattle.packed_relations.specs.Laws.{answersOn, memoryAfter, AllBytes, wordTold, Stands, Answers-alike, Lookups-alike, Told-within, Refused-leaves-all}
-
--- a word says what the former layout tells of column j
-abbrev Says-at : Columns → List ℕ → ℕ → Type 0
-Says-at s w j = columnIn (getD w j 0) ≡ wordTold (columnSpan s j)
-
--- ---- one column
-
-module _ (i flags : ℕ) (v : List ℕ) (oid : ℕ) (s : Columns) (w : List ℕ) where
-  abbrev newWord : ℕ
-  newWord = wordFor i (isKey flags) oid (length v)
-
-  one-there : SizedColumns s → length w ≡ 2048 → i < 2048 → length v ≤ 63 → oid < 2 ^ 32 → Says-at (storeColumn i flags v oid s) (set w i newWord) i
-  one-there z l h short small =
-      let m : min (length v) 63 ≡ length v = omega arith in
-      rw (
-        getD-set-same w i newWord 0 (omega arith),
-        getD-set-same (s .types) i oid 0 (omega (arith, z .types)),
-        getD-set-same (s .flags) i flags 0 (omega (arith, z .flags)),
-        getD-set-same (s .lens) i (length v) 0 (omega (arith, z .lens)),
-        m,
-      )
-      (words .column (columnFor i (isKey flags) oid (length v)) (record { oid = small; len = omega arith; place = omega arith }))
-
-  one-other : (j : ℕ) → (j ≡ i → ⊥) → Says-at s w j → Says-at (storeColumn i flags v oid s) (set w i newWord) j
-  one-other j n h =
-      rw (
-        getD-set-other w i j newWord 0 n,
-        getD-set-other (s .types) i j oid 0 n,
-        getD-set-other (s .flags) i j flags 0 n,
-        getD-set-other (s .lens) i j (length v) 0 n,
-      )
-      h
-
--- ---- columns one after the other
-
--- the words after columns were stored
-abbrev wordsAfter : ℕ → List Described → List ℕ → List ℕ → List ℕ
-wordsAfter i ds w n = storeWords i ds (wordsOf w n) .words
-
-words-long : (ds : List Described) (i : ℕ) (w n : List ℕ) → length (wordsAfter i ds w n) ≡ length w
-unfolding storeWords
-words-long [] i w n = refl
-words-long (described flags v oid modifier ∷ ds) i w n =
-    let x : ℕ = wordFor i (isKey flags) oid (length v) in
-    words-long ds (suc i) (set w i x) (placed n (63 * i) v .1) ∙ length-set w i x
-
--- the names are those of the former layout
-names-alike : (ds : List Described) (i : ℕ) (w : List ℕ) (s : Columns) → storeWords i ds (wordsOf w (s .names)) .names ≡ storeFrom i ds s .names
-unfolding storeWords storeFrom
-names-alike [] i w s = refl
-names-alike (described flags v oid modifier ∷ ds) i w s =
-    names-alike ds (suc i) (set w i (wordFor i (isKey flags) oid (length v))) (storeColumn i flags v oid s)
-
--- a column before the first, and one behind the last
-store-before : (ds : List Described) (i : ℕ) (s : Columns) (w n : List ℕ) (j : ℕ) → j < i → Says-at s w j
-    → Says-at (storeFrom i ds s) (wordsAfter i ds w n) j
-unfolding storeWords storeFrom
-store-before [] i s w n j b h = h
-store-before (described flags v oid modifier ∷ ds) i s w n j b h =
-    store-before ds (suc i) (storeColumn i flags v oid s) (set w i (wordFor i (isKey flags) oid (length v))) (placed n (63 * i) v .1) j (omega arith)
-    (one-other i flags v oid s w j (λ e. omega arith) h)
-
-store-behind : (ds : List Described) (i : ℕ) (s : Columns) (w n : List ℕ) (j : ℕ) → i + length ds ≤ j → Says-at s w j
-    → Says-at (storeFrom i ds s) (wordsAfter i ds w n) j
-unfolding storeWords storeFrom
-store-behind [] i s w n j b h = h
-store-behind (described flags v oid modifier ∷ ds) i s w n j b h =
-    store-behind ds (suc i) (storeColumn i flags v oid s) (set w i (wordFor i (isKey flags) oid (length v))) (placed n (63 * i) v .1) j (omega arith)
-    (one-other i flags v oid s w j (λ e. omega arith) h)
-
-store-there : (ds : List Described) (i : ℕ) (s : Columns) (w n : List ℕ) → SizedColumns s → length w ≡ 2048 → namesFit ds ≡ true
-    → All DescribedFits ds → i + length ds ≤ 2048
-    → (j : ℕ) → i ≤ j → j < i + length ds → Says-at (storeFrom i ds s) (wordsAfter i ds w n) j
-unfolding storeWords storeFrom
-store-there [] i s w n z l f a h j b c = impossible (omega arith)
-store-there (described flags v oid modifier ∷ ds) i s w n z l f a h j b c =
-    let short = name-short flags v oid modifier ds f in
-    let x : ℕ = wordFor i (isKey flags) oid (length v) in
-    let here : Says-at (storeColumn i flags v oid s) (set w i x) i = one-there i flags v oid s w z l (omega arith) (short .0) (a .0 .2) in
-    by-test (eqb j i)
-    (λ t.
-    let e : j ≡ i = eqb-true j i t in
-    rw e (store-before ds (suc i) (storeColumn i flags v oid s) (set w i x) (placed n (63 * i) v .1) i (omega arith) here))
-    (λ g.
-    store-there ds (suc i) (storeColumn i flags v oid s) (set w i x) (placed n (63 * i) v .1) (one-sized i flags v oid s z (omega arith) (short .0))
-    (length-set w i x ∙ l)
-    (short .1) (a .1) (omega arith) j (omega (arith, eqb-false j i g)) (omega arith))
-
--- ---- a Relation
-
--- the words of the columns of the relations that are held say what the former layout tells of them
-abbrev Says : Memory → List ℕ → Type 0
-Says m w = (r c : ℕ) → r < length (heldIds m) → c < countAt (m .counts) r → Says-at (m .columns) w (32 * r + c)
-
--- the packed memory with these words
-abbrev view : Memory → List ℕ → Packed
-view m w = packed (m .held) (m .ids) (m .counts) (wordsOf w (m .columns .names))
-
-module _ (m : Memory) (w : List ℕ) (z : Sized m) (l : length w ≡ 2048) (h : Says m w) (id : ℕ) (ds : List Described) (room : slotIn m id < 64) (f : fits ds ≡ true) (a : All DescribedFits ds) where
-  abbrev r : ℕ
-  r = slotIn m id
-
-  abbrev wordsThen : List ℕ
-  wordsThen = wordsAfter (32 * r) ds w (m .columns .names)
-
-  few : (length ds ≤ 32) × (namesFit ds ≡ true)
-  few = fits-few ds (sym f)
-
-  there : (c : ℕ) → c < countAt (set (m .counts) r (length ds)) r → Says-at (storeFrom (32 * r) ds (m .columns)) wordsThen (32 * r + c)
-  there c b =
-      let e : getD (set (m .counts) r (length ds)) r 0 ≡ length ds = getD-set-same (m .counts) r (length ds) 0 (omega (arith, z .counts)) in
-      let less : c < min (length ds) 32 = rw e at b in
-      store-there ds (32 * r) (m .columns) w (m .columns .names) (z .columns) l (few .1) a (omega (arith, few .0)) (32 * r + c) (omega arith)
-      (omega arith)
-
-  beside : (q c : ℕ) → (q ≡ r → ⊥) → c < countAt (m .counts) q → Says-at (m .columns) w (32 * q + c)
-      → Says-at (storeFrom (32 * r) ds (m .columns)) wordsThen (32 * q + c)
-  beside q c n b g =
-      by-test (ltb q r)
-      (λ t. store-before ds (32 * r) (m .columns) w (m .columns .names) (32 * q + c) (omega (arith, ltb-true q r t)) g)
-      (λ u. store-behind ds (32 * r) (m .columns) w (m .columns .names) (32 * q + c) (omega (arith, ltb-false q r u, few .0, n)) g)
-
-  -- another slot that is held after it was held before it
-  held-before : (q : ℕ) → (q ≡ r → ⊥) → q < length (take (max (m .held) (suc r)) (set (m .ids) r id)) → q < length (heldIds m)
-  held-before q n b =
-      omega (
-        arith,
-        n,
-        place-most id (heldIds m),
-        length-take (m .held) (m .ids),
-        length-take (max (m .held) (suc r)) (set (m .ids) r id),
-        length-set (m .ids) r id,
-      )
-
-  stored-says : Says (formerStored m r id ds) wordsThen
-  stored-says q c b d =
-      by-test (eqb q r)
-      (λ t.
-      let e : q ≡ r = eqb-true q r t in
-      let d′ : c < countAt (set (m .counts) r (length ds)) r = rw e at d in
-      rw e (there c d′))
-      (λ g.
-      let n : q ≡ r → ⊥ = eqb-false q r g in
-      let same : getD (set (m .counts) r (length ds)) q 0 ≡ getD (m .counts) q 0 = getD-set-other (m .counts) r q (length ds) 0 n in
-      let d′ : c < countAt (m .counts) q = rw same at d in
-      beside q c n d′ (h q c (held-before q n b) d′))
-
-  stored-view : stored (view m w) r id ds ≡ view (formerStored m r id ds) wordsThen
-  stored-view =
-      ap (λ (x : List ℕ). packed (max (m .held) (suc r)) (set (m .ids) r id) (set (m .counts) r (length ds)) (wordsOf wordsThen x))
-      (names-alike ds (32 * r) w (m .columns))
+use Rattle.relations.specs.Cache.{fits, judged, answered}
+use Rattle.relations.specs.Memory.{Memory, heldIds, slotIn, countAt, countIn, cacheOf, relationsFrom, judgedBy, stored as formerStored, leaves as formerLeaves, messageOf as formerMessage, emptied as formerEmptied}
+use Rattle.relations.specs.Answers.{Told, relatedOf, columnTold as formerTold}
+use Rattle.relations.specs.Laws.{Sized, named, nth, columnAmong, answersOn as formerAnswers, memoryAfter as formerAfter}
+use Rattle.relations.proofs.Held.{place-most, slot-unfound, length-relations}
+use Rattle.relations.proofs.Theorems.{emptied-sized, emptied-holds, lookups}
+use Rattle.packed_relations.specs.Packed.{Packed, wordsOf, packed, emptied, common, roomIn, newLens, hasRoom, judgedIn, leaves, messageOf, toldAmong, columnTold}
+use Rattle.packed_relations.specs.Laws.{answersOn, memoryAfter, AllBytes, None-crowded, Roomy, cacheNames, Answers-alike, Lookups-alike, Crowded, Told-within, Refused-leaves-all}
+use Rattle.packed_relations.proofs.Leaves.{same-answered}
+use Rattle.packed_relations.proofs.Says.{SlotsSay, slots-look, idsOf}
+use Rattle.packed_relations.proofs.Kept.{view, Good, ids-are, full-room, lies-in, stored-view, good-then, long-then, no-room}
 
 -- ---- one message
 
@@ -195,145 +42,258 @@ said-fits s b (row r) e = read-is-sent s r b e .0
 said-fits s b no-row e = tt
 said-fits s b (refused-by n) e = tt
 
--- after an answer, other words, with which the one memory is the other again
-record Left (m : Memory) (w : List ℕ) (answer : Said) : Type 0 where
-  then : List ℕ
-  same : leaves (view m w) answer ≡ view (formerLeaves m answer) then
-  says : Says (formerLeaves m answer) then
-  long : length then ≡ 2048
+-- after an answer, other words and names, with which the one memory is the other again
+record Left (m : Memory) (ws ns : List ℕ) (answer : Said) : Type 0 where
+  words : List ℕ
+  names : List ℕ
+  same : leaves (view m ws ns) answer ≡ view (formerLeaves m answer) words names
+  good : Good (formerLeaves m answer) words names
+  long : length names ≡ length ns
 
-module _ (m : Memory) (w : List ℕ) (z : Sized m) (l : length w ≡ 2048) (h : Says m w) where
-  left-row : (r : Row) (j : ℕ) → Left m w (row r) → Left m w (pick (eqb j 0) (row r) (refused-by j))
-  left-row r j x = by-test (eqb j 0) (λ t. rw t x) (λ f. rw f (record { then = w; same = refl; says = h; long = l }))
+-- the former answer, and what it leaves
+record Step (m : Memory) (ws ns : List ℕ) (said : Said) : Type 0 where
+  answer : answered (judgedIn (view m ws ns)) said ≡ answered (judgedBy m) said
+  left : Left m ws ns (answered (judgedBy m) said)
 
-  left : (said : Said) → SaidFits said → Left m w (answered (judgedBy m) said)
+-- all bytes are lent, or this answer is not 4
+abbrev Has : Memory → List ℕ → List ℕ → Said → Type 0
+Has m ws ns said = (129024 ≤ length ns) ⊎ (answerOf (answered (judgedIn (view m ws ns)) said) ≡ refusal 4 → ⊥)
+
+module _ (m : Memory) (ws ns : List ℕ) (g : Good m ws ns) where
+  as-it-was : (answer : Said) → leaves (view m ws ns) answer ≡ view m ws ns → formerLeaves m answer ≡ m → Left m ws ns answer
+  as-it-was answer e f = record { words = ws; names = ns; same = e ∙ rw f; good = rw f g; long = refl }
+
+  -- a row that changes nothing, or its refusal
+  left-row : (r : Row) (j : ℕ) → leaves (view m ws ns) (row r) ≡ view m ws ns → formerLeaves m (row r) ≡ m
+      → Left m ws ns (pick (eqb j 0) (row r) (refused-by j))
+  left-row r j e f = by-test (eqb j 0) (λ t. rw t (as-it-was (row r) e f)) (λ x. rw x (as-it-was (refused-by j) refl refl))
+
+  other : (r : Row) → none ≡ relatedOf (answerOf (row r)) → leaves (view m ws ns) (row r) ≡ view m ws ns → formerLeaves m (row r) ≡ m
+      → Step m ws ns (row r)
+  other r n e f = record { answer = same-answered (view m ws ns) (row r) n; left = left-row r (judgedBy m r) e f }
+
+  module _ (id : ℕ) (space v : List ℕ) (identity : ℕ) (ds : List Described) (few : slotIn m id < 64) (f : fits ds ≡ true) where
+    abbrev rel : Row
+    rel = relation id space v identity ds
+
+    -- where there is no room, the answer is 4
+    crowded : hasRoom (view m ws ns) (slotIn m id) (newLens ds) ≡ false → answered (judgedIn (view m ws ns)) (row rel) ≡ refused-by 4
+    unfolding judged
+    crowded h = rw (lt-leb 64 (slotIn m id) few, f, h)
+
+    roomy : Has m ws ns (row rel) → hasRoom (view m ws ns) (slotIn m id) (newLens ds) ≡ true
+    roomy (inl all) = full-room m ws ns g id ds few f all
+    roomy (inr not) =
+        by-test (hasRoom (view m ws ns) (slotIn m id) (newLens ds))
+        (λ t. t)
+        (λ h. absurd (not (ap answerOf (crowded h))))
+
+    taken : All DescribedFits ds → hasRoom (view m ws ns) (slotIn m id) (newLens ds) ≡ true → Step m ws ns (row rel)
+    unfolding judged
+    taken a h =
+        let lies = lies-in m ws ns g id ds few h in
+        record {
+          answer = rw (lt-leb 64 (slotIn m id) few, f, h);
+          left =
+              rw (lt-leb 64 (slotIn m id) few, f)
+              (record {
+                words = _;
+                names = _;
+                same = stored-view m ws ns g id ds few f a lies;
+                good = good-then m ws ns g id ds few f a lies;
+                long = long-then m ws ns g id ds few f a lies;
+              });
+        }
+
+  step : (said : Said) → SaidFits said → Has m ws ns said → Step m ws ns said
   unfolding judged
-  left (row (relation id space v identity cs)) a =
+  step (row (relation id space v identity cs)) a h =
       by-test (leb 64 (slotIn m id))
-      (λ t. rw t (record { then = w; same = refl; says = h; long = l }))
-      (λ f.
+      (λ t. record { answer = rw t; left = rw t (as-it-was (refused-by 28) refl refl) })
+      (λ x.
+      let few : slotIn m id < 64 = leb-false 64 (slotIn m id) x in
       by-test (fits cs)
-      (λ t.
-      let few : slotIn m id < 64 = leb-false 64 (slotIn m id) f in
-      rw (f, t)
-      (record {
-        then = wordsThen m w z l h id cs few t (a .5);
-        same = stored-view m w z l h id cs few t (a .5);
-        says = stored-says m w z l h id cs few t (a .5);
-        long = words-long cs (32 * slotIn m id) w (m .columns .names) ∙ l;
-      }))
-      (λ g. rw (f, g) (record { then = w; same = refl; says = h; long = l })))
-  left (row (type id space v)) a = record { then = w; same = refl; says = h; long = l }
-  left (row (origin position v)) a = record { then = w; same = refl; says = h; long = l }
-  left (row (insert id new)) a = left-row (insert id new) (judgedBy m (insert id new)) (record { then = w; same = refl; says = h; long = l })
-  left (row (update id new)) a = left-row (update id new) (judgedBy m (update id new)) (record { then = w; same = refl; says = h; long = l })
-  left (row (update-from id which old new)) a =
-      left-row (update-from id which old new) (judgedBy m (update-from id which old new)) (record { then = w; same = refl; says = h; long = l })
-  left (row (delete id which old)) a =
-      left-row (delete id which old) (judgedBy m (delete id which old)) (record { then = w; same = refl; says = h; long = l })
-  left (row (truncate options ids)) a = record { then = w; same = refl; says = h; long = l }
-  left no-row a = record { then = w; same = refl; says = h; long = l }
-  left (refused-by n) a = record { then = w; same = refl; says = h; long = l }
+      (λ t. taken id space v identity cs few t (a .5) (roomy id space v identity cs few t h))
+      (λ y. record { answer = rw (x, y); left = rw (x, y) (as-it-was (refused-by 29) refl refl) }))
+  step (row (type id space v)) a h = other (type id space v) refl refl refl
+  step (row (origin position v)) a h = other (origin position v) refl refl refl
+  step (row (insert id new)) a h = other (insert id new) refl refl refl
+  step (row (update id new)) a h = other (update id new) refl refl refl
+  step (row (update-from id which old new)) a h = other (update-from id which old new) refl refl refl
+  step (row (delete id which old)) a h = other (delete id which old) refl refl refl
+  step (row (truncate options ids)) a h = other (truncate options ids) refl refl refl
+  step no-row a h = record { answer = refl; left = as-it-was no-row refl refl }
+  step (refused-by n) a h = record { answer = refl; left = as-it-was (refused-by n) refl refl }
 
-  message-same : (said : Said) → (x : Left m w (answered (judgedBy m) said))
-      → messageOf (view m w) said ≡ (formerMessage m said .0, view (formerMessage m said .1) (x .then))
+  message-same : (said : Said) → (x : Step m ws ns said)
+      → messageOf (view m ws ns) said ≡ (formerMessage m said .0, view (formerMessage m said .1) (x .left .words) (x .left .names))
   unfolding messageOf formerMessage
-  message-same said x = ap (λ (p : Packed). (answerOf (answered (judgedBy m) said), p)) (x .same)
+  message-same said x =
+      ap (λ (y : Said). (answerOf y, leaves (view m ws ns) y)) (x .answer)
+      ∙ ap (λ (p : Packed). (answerOf (answered (judgedBy m) said), p)) (x .left .same)
 
-  message-says : (said : Said) → (x : Left m w (answered (judgedBy m) said)) → Says (formerMessage m said .1) (x .then)
+  message-good : (said : Said) → (x : Step m ws ns said) → Good (formerMessage m said .1) (x .left .words) (x .left .names)
   unfolding formerMessage
-  message-says said x = x .says
+  message-good said x = x .left .good
+
+  message-has : (said : Said) → (129024 ≤ length ns) ⊎ (messageOf (view m ws ns) said .0 ≡ refusal 4 → ⊥) → Has m ws ns said
+  unfolding messageOf
+  message-has said h = h
 
 -- ---- any list of messages
 
-record End (m : Memory) (w : List ℕ) (ss : List (List ℕ)) : Type 0 where
-  then : List ℕ
-  answers : answersOn (view m w) ss ≡ formerAnswers m ss
-  same : memoryAfter (view m w) ss ≡ view (formerAfter m ss) then
-  says : Says (formerAfter m ss) then
+abbrev Lent : Memory → List ℕ → List ℕ → List (List ℕ) → Type 0
+Lent m ws ns ss = (129024 ≤ length ns) ⊎ None-crowded (answersOn (view m ws ns) ss)
 
-end : (m : Memory) (w : List ℕ) (ss : List (List ℕ)) → Sized m → length w ≡ 2048 → Says m w → AllBytes ss → End m w ss
+record End (m : Memory) (ws ns : List ℕ) (ss : List (List ℕ)) : Type 0 where
+  words : List ℕ
+  names : List ℕ
+  answers : answersOn (view m ws ns) ss ≡ formerAnswers m ss
+  same : memoryAfter (view m ws ns) ss ≡ view (formerAfter m ss) words names
+  good : Good (formerAfter m ss) words names
+  long : length names ≡ length ns
+
+first-has : (p : Packed) (s : List ℕ) (ss : List (List ℕ)) (k : ℕ) → (129024 ≤ k) ⊎ None-crowded (answersOn p (s ∷ ss))
+    → (129024 ≤ k) ⊎ (messageOf p (rowSaid s) .0 ≡ refusal 4 → ⊥)
+unfolding answersOn None-crowded
+first-has p s ss k (inl a) = inl a
+first-has p s ss k (inr b) = inr (b .0)
+
+next-has : (p p′ : Packed) (s : List ℕ) (ss : List (List ℕ)) (k k′ : ℕ) → k′ ≡ k → messageOf p (rowSaid s) .1 ≡ p′
+    → (129024 ≤ k) ⊎ None-crowded (answersOn p (s ∷ ss)) → (129024 ≤ k′) ⊎ None-crowded (answersOn p′ ss)
+unfolding answersOn None-crowded
+next-has p p′ s ss k k′ e f (inl a) = inl (omega arith)
+next-has p p′ s ss k k′ e f (inr b) = inr (subst (λ (q : Packed). None-crowded (answersOn q ss)) f (b .1))
+
+end : (m : Memory) (ws ns : List ℕ) (ss : List (List ℕ)) → Good m ws ns → AllBytes ss → Lent m ws ns ss → End m ws ns ss
 unfolding answersOn memoryAfter formerAnswers formerAfter AllBytes
-end m w [] z l h b = record { then = w; answers = refl; same = refl; says = h }
-end m w (s ∷ ss) z l h b =
+end m ws ns [] g b h = record { words = ws; names = ns; answers = refl; same = refl; good = g; long = refl }
+end m ws ns (s ∷ ss) g b h =
     let said : Said = rowSaid s in
-    let x : Left m w (answered (judgedBy m) said) = left m w z l h said (said-fits s (b .0) said refl) in
+    let p : Packed = view m ws ns in
+    let x : Step m ws ns said = step m ws ns g said (said-fits s (b .0) said refl) (message-has m ws ns g said (first-has p s ss (length ns) h)) in
     let m′ : Memory = formerMessage m said .1 in
-    let e : messageOf (view m w) said ≡ (formerMessage m said .0, view m′ (x .then)) = message-same m w z l h said x in
-    let i = end m′ (x .then) ss (message-leaves m z said .1) (x .long) (message-says m w z l h said x) (b .1) in
+    let p′ : Packed = view m′ (x .left .words) (x .left .names) in
+    let e : messageOf p said ≡ (formerMessage m said .0, p′) = message-same m ws ns g said x in
+    let h′ = next-has p p′ s ss (length ns) (length (x .left .names)) (x .left .long) (ap (λ (y : Answer × Packed). y .1) e) h in
+    let i = end m′ (x .left .words) (x .left .names) ss (message-good m ws ns g said x) (b .1) h′ in
     record {
-      then = i .then;
+      words = i .words;
+      names = i .names;
       answers = ap (λ (y : Answer × Packed). y .0 ∷ answersOn (y .1) ss) e ∙ ap (λ (y : List Answer). formerMessage m said .0 ∷ y) (i .answers);
       same = ap (λ (y : Answer × Packed). memoryAfter (y .1) ss) e ∙ i .same;
-      says = i .says;
+      good = i .good;
+      long = i .long ∙ x .left .long;
     }
 
 -- no word
 abbrev zeros : List ℕ
 zeros = replicate {A = ℕ} 2048 0
 
-none-held : Says formerEmptied zeros
-unfolding formerEmptied
-none-held r c b d = impossible (omega (arith, length-take 0 (replicate {A = ℕ} 64 0)))
-
-empty-view : emptied ≡ view formerEmptied zeros
+empty-view : (names : List ℕ) → emptied names ≡ view formerEmptied zeros names
 unfolding emptied formerEmptied
-empty-view = refl
+empty-view names = refl
 
-from-empty : (ss : List (List ℕ)) → AllBytes ss → End formerEmptied zeros ss
-from-empty ss b = end formerEmptied zeros ss emptied-sized (length-replicate {0} {A = ℕ} 2048 0) none-held b
+empty-good : (names : List ℕ) → Good formerEmptied zeros names
+unfolding SlotsSay cacheNames
+empty-good names = record {
+  sized = emptied-sized;
+  long = length-replicate {0} {A = ℕ} 2048 0;
+  says = rw emptied-holds tt;
+  rest = names;
+  names = rw emptied-holds;
+  few = rw emptied-holds (omega arith);
+}
 
-same-end : (ss : List (List ℕ)) (b : AllBytes ss) → memoryAfter emptied ss ≡ view (formerAfter formerEmptied ss) (from-empty ss b .then)
-same-end ss b = ap (λ (p : Packed). memoryAfter p ss) empty-view ∙ from-empty ss b .same
+from-empty : (names : List ℕ) (ss : List (List ℕ)) → AllBytes ss → Roomy names ss → End formerEmptied zeros names ss
+from-empty names ss b h = end formerEmptied zeros names ss (empty-good names) b (rw (empty-view names) at h)
+
+same-end : (names : List ℕ) (ss : List (List ℕ)) (b : AllBytes ss) (h : Roomy names ss)
+    → memoryAfter (emptied names) ss ≡ view (formerAfter formerEmptied ss) (from-empty names ss b h .words) (from-empty names ss b h .names)
+same-end names ss b h = ap (λ (p : Packed). memoryAfter p ss) (empty-view names) ∙ from-empty names ss b h .same
 
 pub answers-alike : Answers-alike
-answers-alike ss b =
-    let m : Memory = formerAfter formerEmptied ss in
-    let x = from-empty ss b in (
-      ap (λ (p : Packed). answersOn p ss) empty-view ∙ x .answers,
-      subst (λ (p : Packed). Stands p m) (sym (same-end ss b)) (record { held = refl; ids = refl; counts = refl; names = refl; words = x .says }),
-    )
+answers-alike names ss b h = ap (λ (p : Packed). answersOn p ss) (empty-view names) ∙ from-empty names ss b h .answers
 
 -- ---- lookups
 
--- a part that lies in the names stays as it is
-clip : (s : Columns) (i : ℕ) → i < 2048 → toldOf (wordTold (columnSpan s i)) ≡ columnSpan s i
-clip s i h =
-    let a : min (63 * i) namesLength ≡ 63 * i = omega arith in
-    let b : min (min (getD (s .lens) i 0) 63) (namesLength - 63 * i) ≡ min (getD (s .lens) i 0) 63 = omega arith in
-    rw (a, b)
-
-column-alike : (m : Memory) (w : List ℕ) → Says m w → (id k : ℕ) → columnTold (view m w) id k ≡ formerTold m id k
-column-alike m w h id k =
+column-alike : (m : Memory) (ws ns : List ℕ) → Good m ws ns → (id k : ℕ)
+    → named ns (columnTold (view m ws ns) id k) ≡ named (m .columns .names) (formerTold m id k)
+column-alike m ws ns g id k =
     let r : ℕ = slotIn m id in
-    by-test (leb 64 r)
-    (λ t. rw t)
-    (λ f.
+    let cache = cacheOf m in
+    let len : length cache ≡ length (heldIds m) = length-relations m (heldIds m) 0 in
+    let most : length (heldIds m) ≤ 64 = omega (arith, length-take (m .held) (m .ids), g .sized .ids) in
+    let ids : idsOf cache ≡ heldIds m = ids-are m (heldIds m) 0 in
+    let fit : 0 + length (cacheNames cache) ≤ roomIn ns =
+    omega (arith, g .few, ap (λ (y : List ℕ). length y) (g .names), length-append (cacheNames cache) (g .rest)) in
     by-test (ltb r (length (heldIds m)))
     (λ t.
-    by-test (leb (countAt (m .counts) r) k)
-    (λ x. rw (f, t, x))
-    (λ y.
-    let less : k < countAt (m .counts) r = leb-false (countAt (m .counts) r) k y in
-    let small : 32 * r + k < 2048 = omega (arith, leb-false 64 r f) in
-    rw (f, t, y)
-    (ap (λ c. some (toldOf c)) (h r k (ltb-true r (length (heldIds m)) t) less) ∙ ap (λ (x : Told). some x) (clip (m .columns) (32 * r + k) small))))
-    (λ g. rw (f, g)))
+    let less : r < length (heldIds m) = ltb-true r (length (heldIds m)) t in
+    let z : 0 + r ≡ r = omega arith in
+    let look = slots-look (m .counts) ws ns (roomIn ns) cache 0 0 [] (g .rest) (g .says) (g .names) refl fit id k (rw (ids, len) less) in
+    let told : columnTold (view m ws ns) id k ≡ toldAmong (roomIn ns) ws (32 * r) (some (countAt (m .counts) r)) k =
+    rw (lt-leb 64 r (omega (arith, less, most)), t) in
+    ap (named ns) told ∙ (rw (ids, z) at look) ∙ sym (lookups .column m (g .sized) id k))
+    (λ f.
+    let out : length (heldIds m) ≤ r = ltb-false r (length (heldIds m)) f in
+    nothing (leb 64 r) (rw f) ∙ sym (lookups .column m (g .sized) id k ∙ rw (slot-unfound m id out)))
+  where
+    nothing : (b : Bool) → countIn m id ≡ none → named ns (pick (leb 64 (slotIn m id)) none (toldAmong (roomIn ns) ws (32 * slotIn m id) (countIn m id) k)) ≡ none
+    nothing b e = by-test (leb 64 (slotIn m id)) (λ t. rw t) (λ f. rw (f, e))
 
 pub lookups-alike : Lookups-alike
 lookups-alike =
     record {
-      count = (λ ss b id. ap (λ (p : Packed). countIn (common p) id) (same-end ss b));
+      count = (λ names ss b h id. ap (λ (p : Packed). countIn (common p) id) (same-end names ss b h));
       column =
-          (λ ss b id k.
-          ap (λ (p : Packed). columnTold p id k) (same-end ss b)
-          ∙ column-alike (formerAfter formerEmptied ss) (from-empty ss b .then) (from-empty ss b .says) id k);
-      named =
-          (λ ss b id k.
-          let m : Memory = formerAfter formerEmptied ss in
-          ap (λ (p : Packed). named (p .columns .names) (columnTold p id k)) (same-end ss b)
-          ∙ ap (λ (t : Option Told). named (m .columns .names) t) (column-alike m (from-empty ss b .then) (from-empty ss b .says) id k));
+          (λ names ss b h id k.
+          let x = from-empty names ss b h in
+          ap (λ (p : Packed). named (p .columns .names) (columnTold p id k)) (same-end names ss b h)
+          ∙ column-alike (formerAfter formerEmptied ss) (x .words) (x .names) (x .good) id k);
     }
+
+-- ---- too little room
+
+-- a Relation that is answered as such was not refused
+not-refused : (m : Memory) (id : ℕ) (space v : List ℕ) (identity : ℕ) (ds : List Described)
+    → formerMessage m (row (relation id space v identity ds)) .0 ≡ head (headOf (relation id space v identity ds))
+    → (slotIn m id < 64) × (fits ds ≡ true)
+unfolding formerMessage judged
+not-refused m id space v identity ds e =
+    by-test (leb 64 (slotIn m id))
+    (λ t. let h : refusal 28 ≡ head (headOf (relation id space v identity ds)) = rw t at e in let z : _≡_ {A = ℕ} 0 1 = cc in impossible z)
+    (λ f.
+    by-test (fits ds)
+    (λ t. (leb-false 64 (slotIn m id) f, t))
+    (λ y. let h : refusal 29 ≡ head (headOf (relation id space v identity ds)) = rw (f, y) at e in let z : _≡_ {A = ℕ} 0 1 = cc in impossible z))
+
+former-left : (m : Memory) (id : ℕ) (space v : List ℕ) (identity : ℕ) (ds : List Described) → slotIn m id < 64 → fits ds ≡ true
+    → formerMessage m (row (relation id space v identity ds)) .1 ≡ formerStored m (slotIn m id) id ds
+unfolding formerMessage judged
+former-left m id space v identity ds few f = rw (lt-leb 64 (slotIn m id) few, f)
+
+crowded-answer : (m : Memory) (ws ns : List ℕ) → Good m ws ns → (id : ℕ) (space v : List ℕ) (identity : ℕ) (ds : List Described)
+    → formerMessage m (row (relation id space v identity ds)) .0 ≡ head (headOf (relation id space v identity ds))
+    → roomIn ns < length (cacheNames (cacheOf (formerMessage m (row (relation id space v identity ds)) .1)))
+    → messageOf (view m ws ns) (row (relation id space v identity ds)) .0 ≡ refusal 4
+unfolding messageOf
+crowded-answer m ws ns g id space v identity ds e h =
+    let w = not-refused m id space v identity ds e in
+    let l = rw (former-left m id space v identity ds (w .0) (w .1)) at h in
+    ap answerOf (crowded m ws ns g id space v identity ds (w .0) (w .1) (no-room m ws ns g id ds (w .0) (w .1) l))
+
+pub crowded-is-refused : Crowded
+crowded-is-refused names ss b h s c id space v identity ds e f l =
+    let x = from-empty names ss b h in
+    let m : Memory = formerAfter formerEmptied ss in
+    let f′ = rw e at f in
+    let k : roomIn (x .names) ≡ roomIn names = ap (λ (y : ℕ). min y 129024) (x .long) in
+    let l′ = rw (e, ← k) at l in
+    ap (λ (p : Packed). messageOf p (rowSaid s) .0) (same-end names ss b h)
+    ∙ rw e (crowded-answer m (x .words) (x .names) (x .good) id space v identity ds f′ l′)
+
+-- ---- any memory
 
 pub told-within : Told-within
 told-within p id k =
@@ -345,8 +305,6 @@ told-within p id k =
     (λ t. by-test (leb (countAt (p .counts) r) k) (λ x. rw (f, t, x) tt) (λ y. rw (f, t, y) (omega arith)))
     (λ g. rw (f, g) tt))
 
--- ---- refusals
-
 left-all : (p : Packed) (r : Row) (j n : ℕ) → answerOf (pick (eqb j 0) (row r) (refused-by j)) ≡ refusal n
     → leaves p (pick (eqb j 0) (row r) (refused-by j)) ≡ p
 left-all p r j n e =
@@ -356,6 +314,6 @@ left-all p r j n e =
 
 pub refused-leaves-all : Refused-leaves-all
 unfolding messageOf
-refused-leaves-all p (row r) n e = left-all p r (judgedBy (common p) r) n e
+refused-leaves-all p (row r) n e = left-all p r (judgedIn p r) n e
 refused-leaves-all p no-row n e = refl
 refused-leaves-all p (refused-by k) n e = refl

@@ -1,20 +1,19 @@
 -- What the packed memory is for: over any list of messages it answers as the former layout does, and so does every lookup in it. 02, wish 12; SCOPE
--- 17.
+-- 17. Where the names have less room than the former layout has, that is so until a Relation is refused with 4.
 use mathlib.Core.Path.{_≡_}
 use mathlib.Core.Bool.{true}
-use mathlib.Core.List.{List, [], _∷_}
-use mathlib.Core.Option.{Option, some, none}
-use Prim.Native.Nat.{ℕ, _+_, _*_, _<_}
-use lib.ListN.{length, getD}
+use mathlib.Core.List.{List, [], _∷_, _++_}
+use mathlib.Core.Logic.{_⊎_}
+use Prim.Native.Nat.{ℕ, _<_, _≤_, min}
+use lib.ListN.{length}
 use lib.Pow.{areBytes}
-use Rattle.rows.specs.Rows.{Said, rowSaid}
-use Rattle.rows.specs.Head.{Answer, refusal}
-use Rattle.relations.specs.Memory.{Memory, heldIds, countAt, countIn, emptied as formerEmptied}
-use Rattle.relations.specs.Answers.{Told, columnSpan, columnTold as formerTold}
+use Rattle.rows.specs.Rows.{Described, relation, Said, row, rowSaid}
+use Rattle.rows.specs.Head.{Answer, head, headOf, refusal}
+use Rattle.relations.specs.Cache.{Column, column, Cache}
+use Rattle.relations.specs.Memory.{Memory, cacheOf, countIn, messageOf as formerMessage, emptied as formerEmptied}
+use Rattle.relations.specs.Answers.{columnTold as formerTold}
 use Rattle.relations.specs.Laws.{Within, named, answersOn as formerAnswers, memoryAfter as formerAfter}
-use Rattle.column_word.specs.Word.{columnIn}
-use Rattle.column_word.specs.declared.Column.{Column}
-use Rattle.packed_relations.specs.Packed.{Packed, emptied, common, wordColumn, messageOf, columnTold}
+use Rattle.packed_relations.specs.Packed.{Packed, emptied, common, messageOf, columnTold}
 
 -- ---- any list of messages, each call getting the memory as the last one left it
 
@@ -31,41 +30,56 @@ unfoldable pub AllBytes : List (List ℕ) → Type 0
 AllBytes [] = Unit
 AllBytes (s ∷ ss) = (areBytes s ≡ true) × AllBytes ss
 
--- ---- one memory for the other
+-- none is refused with 4
+unfoldable pub None-crowded : List Answer → Type 0
+None-crowded [] = Unit
+None-crowded (a ∷ others) = (a ≡ refusal 4 → ⊥) × None-crowded others
 
--- what a word has to say of a column that the former layout tells so
-abbrev pub wordTold : Told → Column
-wordTold t = wordColumn (t .1) (t .2) (t .0 .1) (t .0 .0)
+-- all bytes are lent that the former layout has for names, or no message found too few
+abbrev pub Roomy : List ℕ → List (List ℕ) → Type 0
+Roomy names ss = (129024 ≤ length names) ⊎ None-crowded (answersOn (emptied names) ss)
 
--- the same relations are held with the same counts and names, and the word of each of their columns says what the former layout tells of it
-pub record Stands (p : Packed) (m : Memory) : Type 0 where
-  pub held : p .held ≡ m .held
-  pub ids : p .ids ≡ m .ids
-  pub counts : p .counts ≡ m .counts
-  pub names : p .columns .names ≡ m .columns .names
-  pub words : (r c : ℕ) → r < length (heldIds m) → c < countAt (m .counts) r
-      → columnIn (getD (p .columns .words) (32 * r + c) 0) ≡ wordTold (columnSpan (m .columns) (32 * r + c))
+-- ---- the former layout's answers
 
--- from an empty cache, all answers are those of the former layout, and the one memory stands for the other after the last message
+-- from an empty cache, whatever bytes stand in the names, all answers are those of the former layout
 abbrev pub Answers-alike : Type 0
-Answers-alike =
-    (ss : List (List ℕ)) → AllBytes ss
-    → (answersOn emptied ss ≡ formerAnswers formerEmptied ss) × Stands (memoryAfter emptied ss) (formerAfter formerEmptied ss)
+Answers-alike = (names : List ℕ) (ss : List (List ℕ)) → AllBytes ss → Roomy names ss → answersOn (emptied names) ss ≡ formerAnswers formerEmptied ss
 
--- after any list of messages every lookup answers the same, whatever identifier and index are asked for
+-- after any list of messages every lookup answers the same, whatever identifier and index are asked for: how many columns there are, and of each the
+-- bytes of its name, whether it is of the key, and its type
 pub record Lookups-alike : Type 0 where
-  pub count : (ss : List (List ℕ)) → AllBytes ss → (id : ℕ)
-      → countIn (common (memoryAfter emptied ss)) id ≡ countIn (formerAfter formerEmptied ss) id
-  pub column : (ss : List (List ℕ)) → AllBytes ss → (id k : ℕ)
-      → columnTold (memoryAfter emptied ss) id k ≡ formerTold (formerAfter formerEmptied ss) id k
-  -- with the bytes of its name
-  pub named : (ss : List (List ℕ)) → AllBytes ss → (id k : ℕ)
-      → named (memoryAfter emptied ss .columns .names) (columnTold (memoryAfter emptied ss) id k)
+  pub count : (names : List ℕ) (ss : List (List ℕ)) → AllBytes ss → Roomy names ss → (id : ℕ)
+      → countIn (common (memoryAfter (emptied names) ss)) id ≡ countIn (formerAfter formerEmptied ss) id
+  pub column : (names : List ℕ) (ss : List (List ℕ)) → AllBytes ss → Roomy names ss → (id k : ℕ)
+      → named (memoryAfter (emptied names) ss .columns .names) (columnTold (memoryAfter (emptied names) ss) id k)
       ≡ named (formerAfter formerEmptied ss .columns .names) (formerTold (formerAfter formerEmptied ss) id k)
+
+-- ---- too little room
+
+-- the bytes of the names of columns, one after the other, and those of all relations that are held
+unfoldable pub columnNames : List Column → List ℕ
+columnNames [] = []
+columnNames (column v key oid ∷ cs) = v ++ columnNames cs
+
+unfoldable pub cacheNames : Cache → List ℕ
+cacheNames [] = []
+cacheNames (one ∷ others) = columnNames (one .1) ++ cacheNames others
+
+-- a Relation that the former layout takes is refused with 4 exactly where the names of the relations that would then be held are longer than the
+-- names that are lent, or than 129,024 bytes
+abbrev pub Crowded : Type 0
+Crowded =
+    (names : List ℕ) (ss : List (List ℕ)) → AllBytes ss → Roomy names ss → (s : List ℕ) → areBytes s ≡ true
+    → (id : ℕ) (space v : List ℕ) (identity : ℕ) (ds : List Described) → rowSaid s ≡ row (relation id space v identity ds)
+    → formerMessage (formerAfter formerEmptied ss) (rowSaid s) .0 ≡ head (headOf (relation id space v identity ds))
+    → min (length names) 129024 < length (cacheNames (cacheOf (formerMessage (formerAfter formerEmptied ss) (rowSaid s) .1)))
+    → messageOf (memoryAfter (emptied names) ss) (rowSaid s) .0 ≡ refusal 4
+
+-- ---- any memory
 
 -- whatever the memory is, the name of a column that is told lies in the names
 abbrev pub Told-within : Type 0
-Told-within = (p : Packed) (id k : ℕ) → Within 129024 (columnTold p id k)
+Told-within = (p : Packed) (id k : ℕ) → Within (min (length (p .columns .names)) 129024) (columnTold p id k)
 
 -- a message that is refused, with whichever number, leaves the whole memory as it was, whatever it is
 abbrev pub Refused-leaves-all : Type 0

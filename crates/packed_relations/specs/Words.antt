@@ -21,9 +21,9 @@ columnWords (some t) = 1 ∷ t .0 .0 ∷ t .0 .1 ∷ flagWord (t .1) ∷ t .2 �
 
 -- ---- calls: how many relations are held, their identifiers, their counts of columns, the columns' words and the names are the lent memory
 
--- `rufflesquash_cache_clear`: the whole memory is zero
+-- `rufflesquash_cache_clear`: all that it is lent is zero; it is lent no names
 abbrev pub clearCall : Packed
-clearCall = emptied
+clearCall = emptied []
 
 -- `rufflesquash_cache_message`, with data: the refusal's number, 0 for none, and the words of the row's head; and the memory after it
 abbrev pub messageCall : Packed → List ℕ → (ℕ × List ℕ) × Packed
@@ -33,6 +33,6 @@ messageCall m s = (rowReply (messageOf m (rowSaid s) .0), messageOf m (rowSaid s
 abbrev pub countCall : ℕ → List ℕ → List ℕ → ℕ → ℕ × ℕ
 countCall held ids counts id = countReply (countHeld held ids counts id)
 
--- `rufflesquash_cache_column`, with an identifier and a column's number; it is lent no names
-abbrev pub columnCall : ℕ → List ℕ → List ℕ → List ℕ → ℕ → ℕ → List ℕ
-columnCall held ids counts words id index = columnWords (columnTold (packed held ids counts (wordsOf words [])) id index)
+-- `rufflesquash_cache_column`, with an identifier and a column's number
+abbrev pub columnCall : ℕ → List ℕ → List ℕ → List ℕ → List ℕ → ℕ → ℕ → List ℕ
+columnCall held ids counts words names id index = columnWords (columnTold (packed held ids counts (wordsOf words names)) id index)

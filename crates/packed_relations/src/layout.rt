@@ -1,7 +1,7 @@
 // The numbers of a relation cache that a host lends and is answered: how long its arrays are, and which word is which. SCOPE 9.10. .ci/border.rs
 // makes the header, the declarations and the tables of it.
 
-// ---- the lent memory of a relation cache: five parts, 145,736 bytes in all
+// ---- the lent memory of a relation cache: 16,712 bytes in four parts, and the names, for which as many bytes are lent as the host has
 
 // At most so many relations are held, each with an identifier and a count of columns.
 pub const CACHE_RELATIONS: usize = 64;
@@ -9,7 +9,7 @@ pub const CACHE_RELATIONS: usize = 64;
 // The words of their columns, 32 for each relation.
 pub const CACHE_COLUMNS: usize = 2048;
 
-// The bytes of the columns' names, 63 for each column.
+// No more bytes of the names are read or written: 63 for each column.
 pub const CACHE_NAMES: usize = 129024;
 
 // ---- a column of a held relation

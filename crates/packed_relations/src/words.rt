@@ -67,7 +67,7 @@ pub fn message_call(
     ids: &mut [u32; layout::CACHE_RELATIONS],
     counts: &mut [u8; layout::CACHE_RELATIONS],
     words: &mut [u64; layout::CACHE_COLUMNS],
-    names: &mut [u8; layout::CACHE_NAMES],
+    names: &mut [u8],
     bytes: &[u8],
     row: &mut [u64; rows::layout::ROW_WORDS],
 ) -> u64
@@ -89,12 +89,14 @@ pub fn column_call(
     ids: &[u32; layout::CACHE_RELATIONS],
     counts: &[u8; layout::CACHE_RELATIONS],
     words: &[u64; layout::CACHE_COLUMNS],
+    names: &[u8],
     id: u32,
     index: usize,
     column: &mut [u64; layout::CACHE_COLUMN_WORDS],
 )
-    ensures { λ _. ⌜ now (column .exit) ≡ columnCall held (now (ids .entry)) (now (counts .entry)) (now (words .entry)) id index ⌝ }
+    ensures { λ _. ⌜ now (column .exit)
+        ≡ columnCall held (now (ids .entry)) (now (counts .entry)) (now (words .entry)) (now (names .entry)) id index ⌝ }
 {
-    let told = held_column(held, ids, counts, words, id, index);
+    let told = held_column(held, ids, counts, words, names, id, index);
     *column = column_words(told);
 }

@@ -1,32 +1,32 @@
 -- Laws of the inner functions: the search for an identifier, and the walk over descriptions.
 use mathlib.Core.Path.{_≡_, refl, sym, ap, _∙_}
-use mathlib.Core.Bool.{Bool, true, false}
+use mathlib.Core.Bool.{true, false}
 use mathlib.Core.List.{List, [], _∷_, _++_}
-use mathlib.Core.Option.{Option, some, none}
-use Prim.Native.Nat.{ℕ, zero, suc, _+_, _*_, _-_, _<_, _≤_, min, max}
+use mathlib.Core.Option.{some, none}
+use Prim.Native.Nat.{ℕ, zero, suc, _+_, _-_, _<_, _≤_, min}
 use native.Mathlib.Omega.{arith}
 use native.Mathlib.Numerals.{add-one}
-use lib.ListN.{length, take, drop, getD, set, length-take, length-drop, length-append, drop-of-length-le}
+use lib.ListN.{length, take, drop, getD, length-take, length-append, drop-of-length-le}
 use lib.IntN.{ℤ}
 use lib.Seq.{drop-cons}
 use lib.Pow.{areBytes}
-use lib.Dec.{eqb, leb, ltb}
+use lib.Dec.{leb, ltb}
 use borrow.Author.Tests.{eq-eqb, ne-eqb, le-leb, lt-leb, lt-ltb, le-ltb, leb-true, leb-false}
-use Rattle.wire.specs.Bytes.{pick, at, placed, beBytes}
+use Rattle.wire.specs.Bytes.{at, beBytes}
 use Rattle.wire.specs.Int.{intBytes}
 use Rattle.wire.proofs.Laws.{impossible, by-test, length-beBytes}
 use Rattle.rows.specs.Layout.{Read, got, refused, mapped}
 use Rattle.rows.specs.Rows.{Described, described, describedBytes}
 use Rattle.rows.proofs.Within.{reader-laws}
 use Rattle.rows.proofs.Parts.{part-laws}
-use Rattle.rows.specs.Head.{Span, ToldDescription, told-description, describedAt, descriptionAt}
+use Rattle.rows.specs.Head.{Span, told-description, describedAt, descriptionAt}
 use Rattle.rows.specs.Head.{Answer, refusal}
 use Rattle.relations.specs.declared.Refusal.{Refusal}
-use Rattle.relations.specs.declared.Refusal.the-variants.{CacheFull, TooLarge, Unmatched}
+use Rattle.relations.specs.declared.Refusal.the-variants.{CacheFull, TooLarge, Unmatched, NoRoom}
 use Rattle.relations.specs.Cache.{namesFit, fits, firstOf}
 use Rattle.relations.specs.declared.Verdict.{Verdict}
-use Rattle.relations.specs.Answers.{numberOf, answerAs, verdictBy, Told, columnSpan, columnTold}
-use Rattle.relations.specs.Memory.{Columns, columns, Memory, memory, kept, stored, placeOf, slotIn, countIn, countHeld, describedFrom, describedOr, storeColumn, storeFrom}
+use Rattle.relations.specs.Answers.{numberOf, answerAs, verdictBy}
+use Rattle.relations.specs.Memory.{placeOf, countHeld, describedFrom}
 
 -- ---- identifiers
 
@@ -123,6 +123,7 @@ refused-by-number : (x : Refusal) (a : Answer) → refusal (numberOf x) ≡ answ
 refused-by-number CacheFull a = refl
 refused-by-number TooLarge a = refl
 refused-by-number Unmatched a = refl
+refused-by-number NoRoom a = refl
 
 pub refused-answer : (v : Verdict) (x : Refusal) (a : Answer) → v ≡ Verdict.Refused x → refusal (numberOf x) ≡ answerAs (verdictBy v) a
 refused-answer v x a e = rw e (refused-by-number x a)
@@ -131,35 +132,10 @@ first-by-number : (x : Refusal) (b : ℕ) → numberOf x ≡ firstOf (numberOf x
 first-by-number CacheFull b = refl
 first-by-number TooLarge b = refl
 first-by-number Unmatched b = refl
+first-by-number NoRoom b = refl
 
 pub first-refused : (v : Verdict) (x : Refusal) (a b : ℕ) → v ≡ Verdict.Refused x → verdictBy v ≡ a → verdictBy v ≡ firstOf a b
 first-refused v x a b e h = rw (← h, e) (first-by-number x b)
-
--- ---- one column
-
-part-length : (s : List ℕ) (from len : ℕ) → from + len ≤ length s → length (at s from len) ≡ len
-part-length s from len h = simp (length-take, length-drop) (omega arith)
-
-pub stored-column : (i flag oid : ℕ) (s : List ℕ) (from len : ℕ) (t₀ f₀ l₀ n₀ : List ℕ) {t f l n : List ℕ} {r : ℕ} (p : List ℕ) → from + len ≤ length s → t ≡ set t₀ i oid → f ≡ set f₀ i flag
-    → l ≡ set l₀ i len → (r, n) ≡ placed n₀ (63 * i) p → p ≡ at s from len → columns t f l n ≡ storeColumn i flag (at s from len) oid (columns t₀ f₀ l₀ n₀)
-stored-column i flag oid s from len t₀ f₀ l₀ n₀ {t} {f} {l} {n} {r} p h et ef el en ep =
-    let en′ : n ≡ placed n₀ (63 * i) (at s from len) .1 = ap (λ (x : ℕ × List ℕ). x .1) en ∙ ap (λ (q : List ℕ). placed n₀ (63 * i) q .1) ep in
-    rw (et, ef, el, en′, part-length s from len h)
-
-pub store-next : (i flags : ℕ) (v : List ℕ) (oid : ℕ) (modifier : ℤ) (ds : List Described) (c : Columns)
-    → storeFrom i (described flags v oid modifier ∷ ds) c ≡ storeFrom (i + 1) ds (storeColumn i flags v oid c)
-unfolding storeFrom
-store-next i flags v oid modifier ds c = rw (add-one i)
-
-pub store-turn : (first k : ℕ) (all : Columns) (ds rest : List Described) (flags : ℕ) (v : List ℕ) (oid : ℕ) (modifier : ℤ) (c c′ : Columns) → all ≡ storeFrom (first + k) ds c
-    → ds ≡ described flags v oid modifier ∷ rest → c′ ≡ storeColumn (first + k) flags v oid c → all ≡ storeFrom (first + (k + 1)) rest c′
-store-turn first k all ds rest flags v oid modifier c c′ h e st =
-    let y : first + k + 1 ≡ first + (k + 1) = omega arith in
-    h ∙ rw (e, st, ← y) (store-next (first + k) flags v oid modifier rest c)
-
-pub store-none : (i : ℕ) (c : Columns) → storeFrom i [] c ≡ c
-unfolding storeFrom
-store-none i c = refl
 
 -- ---- a relation that is held
 
@@ -180,43 +156,9 @@ module _ (held : ℕ) (ids counts : List ℕ) (id : ℕ) where
       (λ t. let h : some k ≡ some (min (getD counts (placeOf id (take held ids)) 0) 32) = e ∙ rw t in let g : k ≡ min (getD counts (placeOf id (take held ids)) 0) 32 = cc in omega arith)
       (λ f. let h : some k ≡ none = e ∙ rw f in let z : _≡_ {A = ℕ} 0 1 = cc in impossible z)
 
-  module _ (s : Columns) (index : ℕ) where
-    abbrev Tells : Option Told → Type 0
-    Tells x = x ≡ columnTold (memory held ids counts s) id index
-
-    pub told-full : (r : ℕ) → r ≡ placeOf id (take held ids) → 64 ≤ r → Tells none
-    told-full r e h = rw (← e, le-leb 64 r h)
-
-    module _ (r : ℕ) (e : r ≡ placeOf id (take held ids)) (h : r < 64) where
-      pub told-none : none ≡ countHeld held ids counts id → Tells none
-      told-none g = rw (← g, ← e, lt-leb 64 r h)
-
-      pub told-out : (k : ℕ) → some k ≡ countHeld held ids counts id → k ≤ index → Tells none
-      told-out k g m = rw (← g, ← e, lt-leb 64 r h, le-leb k index m)
-
-      pub told-at : (k : ℕ) → some k ≡ countHeld held ids counts id → index < k → {x : Option Told} → x ≡ some (columnSpan s (32 * r + index)) → Tells x
-      told-at k g m y = rw (← g, ← e, lt-leb 64 r h, lt-leb k index m) y
-
 pub fits-few : (ds : List Described) → true ≡ fits ds → (length ds ≤ 32) × (namesFit ds ≡ true)
 unfolding fits
 fits-few ds h =
     by-test (leb (length ds) 32)
     (λ t. (leb-true (length ds) 32 t, sym (h ∙ rw t)))
     (λ f. let z : true ≡ false = h ∙ rw f in let y : _≡_ {A = ℕ} 0 1 = cc in impossible y)
-
--- ---- a Relation
-
-module _ (m : Memory) (id : ℕ) (ds : List Described) (r : ℕ) (e : r ≡ slotIn m id) where
-  pub kept-full : 64 ≤ r → (28, m) ≡ kept m id ds
-  unfolding kept
-  kept-full h = rw (← e, le-leb 64 r h)
-
-  module _ (h : r < 64) where
-    pub kept-large : false ≡ fits ds → (29, m) ≡ kept m id ds
-    unfolding kept
-    kept-large f = rw (← e, lt-leb 64 r h, ← f)
-
-    pub kept-stored : true ≡ fits ds → (n : ℕ) → length ds ≡ n → {h′ : ℕ} {ids′ counts′ : List ℕ} {c′ : Columns} → h′ ≡ max (m .held) (r + 1) → ids′ ≡ set (m .ids) r id
-        → counts′ ≡ set (m .counts) r n → c′ ≡ storeFrom (32 * r) ds (m .columns) → (0, memory h′ ids′ counts′ c′) ≡ kept m id ds
-    unfolding kept
-    kept-stored f n l eh ei ec es = rw (← e, lt-leb 64 r h, ← f, eh, ei, ec, es, l, add-one r)

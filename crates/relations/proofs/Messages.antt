@@ -14,8 +14,8 @@ use Rattle.rows.specs.Rows.{Described, Row, relation, type, origin, insert, upd
 use Rattle.rows.specs.RowLayout.{InTurn}
 use Rattle.rows.specs.Head.{Answer, head, refusal, headOf, answerOf, descriptionAt}
 use Rattle.rows.proofs.Readers.{readers-answer}
-use Rattle.relations.specs.Cache.{judged, answered, fits}
-use Rattle.relations.specs.Memory.{Memory, memory, slotIn, countIn, judgedBy, leaves, messageOf, kept, stored, describedFrom}
+use Rattle.relations.specs.Cache.{judged, answered}
+use Rattle.relations.specs.Memory.{Memory, memory, slotIn, countIn, judgedBy, leaves, messageOf, describedFrom}
 use Rattle.relations.specs.Answers.{answerAs, relatedOf, headJudged}
 
 -- a row that changes nothing
@@ -78,20 +78,3 @@ related s b id n from (refused-by k) e h = let z : _≡_ {A = ℕ} 0 1 = cc in i
 
 pub relation-told : (s : List ℕ) → areBytes s ≡ true → (id n from : ℕ) → some (id, n, from) ≡ relatedOf (answerOf (rowSaid s)) → Relation s id n from
 relation-told s b id n from h = related s b id n from (rowSaid s) refl h
-
--- what a Relation is answered, by what is kept of it
-kept-answered : (m : Memory) (id : ℕ) (space v : List ℕ) (identity : ℕ) (cs : List Described)
-    → (answerAs (kept m id cs .0) (head (headOf (relation id space v identity cs))), kept m id cs .1) ≡ messageOf m (row (relation id space v identity cs))
-unfolding messageOf kept judged
-kept-answered m id space v identity cs =
-    by-test (leb 64 (slotIn m id))
-    (λ t. rw t)
-    (λ f. by-test (fits cs) (λ t. rw (f, t)) (λ g. rw (f, g)))
-
-pub relation-answered : (s : List ℕ) (m : Memory) {id n from : ℕ} → Relation s id n from → (w : ℕ) (m′ : Memory) → (w, m′) ≡ kept m id (describedFrom s n from)
-    → (answerAs w (answerOf (rowSaid s)), m′) ≡ messageOf m (rowSaid s)
-relation-answered s m {id} r w m′ h =
-    let k : (w, m′) ≡ kept m id (r .described) = rw (r .read) at h in
-    let a : w ≡ kept m id (r .described) .0 = ap (λ (x : ℕ × Memory). x .0) k in
-    let b : m′ ≡ kept m id (r .described) .1 = ap (λ (x : ℕ × Memory). x .1) k in
-    rw (r .said, a, b) (kept-answered m id (r .space) (r .name) (r .identity) (r .described))

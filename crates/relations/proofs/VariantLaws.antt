@@ -5,16 +5,9 @@ use mathlib.Core.Option.{Option, some, none}
 use Prim.Native.Nat.{ℕ, _*_}
 use lib.Dec.{leb}
 use Rattle.wire.specs.Bytes.{pick}
-use Rattle.relations.specs.declared.Refusal.{Refusal}
-use Rattle.relations.specs.declared.Refusal.the-variants.{CacheFull, TooLarge, Unmatched}
 use Rattle.relations.specs.Memory.{Memory, memory, columns, slotIn, countIn}
-use Rattle.relations.specs.Answers.{kindOf, Told, toldAmong}
+use Rattle.relations.specs.Answers.{Told, toldAmong}
 use Rattle.relations.specs.VariantLaws.{VariantLaws}
-
-one-kind : (r : Refusal) → kindOf r ≡ 3
-one-kind CacheFull = refl
-one-kind TooLarge = refl
-one-kind Unmatched = refl
 
 same-told : (types flags lens names : List ℕ) (i : ℕ) (o : Option ℕ) (k : ℕ)
     → toldAmong (columns types flags lens names) i o k ≡ toldAmong (columns types flags lens []) i o k
@@ -27,6 +20,7 @@ variant-laws = record {
   full = refl;
   large = refl;
   unmatched = refl;
+  no-room = refl;
   accepted = refl;
   refused = λ r. refl;
   count = λ n. refl;
@@ -38,7 +32,11 @@ variant-laws = record {
   full-number = refl;
   large-number = refl;
   unmatched-number = refl;
-  kind = one-kind;
+  no-room-number = refl;
+  full-kind = refl;
+  large-kind = refl;
+  unmatched-kind = refl;
+  no-room-kind = refl;
   names-unread = λ held ids counts types flags lens names id k.
       let m : Memory = memory held ids counts (columns types flags lens []) in
       ap (λ (x : Option Told). pick (leb 64 (slotIn m id)) none x) (same-told types flags lens names (32 * slotIn m id) (countIn m id) k);

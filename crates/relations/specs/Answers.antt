@@ -3,10 +3,10 @@ use mathlib.Core.Bool.{Bool}
 use mathlib.Core.Option.{Option, some, none}
 use Prim.Native.Nat.{ℕ, _+_, _*_, min}
 use Rattle.wire.specs.Bytes.{pick}
-use Rattle.error.specs.Refusal.{protocol}
+use Rattle.error.specs.Refusal.{usage, protocol}
 use Rattle.rows.specs.Head.{Head, Span, spanOf, relation-head, type-head, origin-head, insert-head, update-head, update-from-head, delete-head, truncate-head, head, none as no-head, refusal, answerBy as rowBy, Answer as RowAnswer}
 use Rattle.relations.specs.declared.Refusal.{Refusal}
-use Rattle.relations.specs.declared.Refusal.the-variants.{CacheFull, TooLarge, Unmatched}
+use Rattle.relations.specs.declared.Refusal.the-variants.{CacheFull, TooLarge, Unmatched, NoRoom}
 use Rattle.relations.specs.declared.Answer.{Answer}
 use Rattle.relations.specs.declared.Verdict.{Verdict}
 use Rattle.relations.specs.declared.Count.{Count}
@@ -22,12 +22,14 @@ abbrev pub numberOf : Refusal → ℕ
 numberOf CacheFull = 28
 numberOf TooLarge = 29
 numberOf Unmatched = 30
+numberOf NoRoom = 4
 
 -- the kind of each, by its number in SCOPE 7.4
 abbrev pub kindOf : Refusal → ℕ
 kindOf CacheFull = protocol
 kindOf TooLarge = protocol
 kindOf Unmatched = protocol
+kindOf NoRoom = usage
 
 -- a message's answer as that of its data, with more numbers
 abbrev pub answerBy : Answer → RowAnswer

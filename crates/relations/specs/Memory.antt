@@ -130,7 +130,3 @@ describedOr (refused n) go = []
 unfoldable pub describedFrom : List ℕ → ℕ → ℕ → List Described
 describedFrom s zero i = []
 describedFrom s (suc n) i = describedOr (descriptionAt s i) (λ d j. d ∷ describedFrom s n j)
-
--- a Relation is stored, or refused: its number, and the memory after it
-unfoldable pub kept : Memory → ℕ → List Described → ℕ × Memory
-kept m id ds = pick (leb 64 (slotIn m id)) (28, m) (pick (fits ds) (0, stored m (slotIn m id) id ds) (29, m))

@@ -8,7 +8,7 @@ use Rattle.rows.specs.declared.Part.{Part}
 use Rattle.rows.specs.declared.Row.{Row}
 use Rattle.rows.specs.Head.{refusal, answerBy as rowBy}
 use Rattle.relations.specs.declared.Refusal.{Refusal}
-use Rattle.relations.specs.declared.Refusal.the-variants.{CacheFull, TooLarge, Unmatched}
+use Rattle.relations.specs.declared.Refusal.the-variants.{CacheFull, TooLarge, Unmatched, NoRoom}
 use Rattle.relations.specs.declared.Answer.{Answer}
 use Rattle.relations.specs.declared.Count.{Count}
 use Rattle.relations.specs.declared.Verdict.{Verdict}
@@ -23,6 +23,7 @@ pub record VariantLaws : Type 0 where
   pub full : answerBy (Answer.Refused CacheFull) ≡ refusal 28
   pub large : answerBy (Answer.Refused TooLarge) ≡ refusal 29
   pub unmatched : answerBy (Answer.Refused Unmatched) ≡ refusal 30
+  pub no-room : answerBy (Answer.Refused NoRoom) ≡ refusal 4
   pub accepted : verdictBy Verdict.Accepted ≡ 0
   pub refused : (r : Refusal) → verdictBy (Verdict.Refused r) ≡ numberOf r
   pub count : (n : ℕ) → countBy (Count.Columns n) ≡ some n
@@ -32,11 +33,15 @@ pub record VariantLaws : Type 0 where
   -- of a Relation its identifier, how many columns it has, and where they are described
   pub related : (id n from : ℕ) → relatedBy (Related.Of id n from) ≡ some (id, n, from)
   pub other : relatedBy Related.Other ≡ none
-  -- the refusals' numbers, and Protocol, kind 3
+  -- the refusals' numbers, and their kinds: Protocol, 3, and Usage, 1
   pub full-number : numberOf CacheFull ≡ 28
   pub large-number : numberOf TooLarge ≡ 29
   pub unmatched-number : numberOf Unmatched ≡ 30
-  pub kind : (r : Refusal) → kindOf r ≡ 3
+  pub no-room-number : numberOf NoRoom ≡ 4
+  pub full-kind : kindOf CacheFull ≡ 3
+  pub large-kind : kindOf TooLarge ≡ 3
+  pub unmatched-kind : kindOf Unmatched ≡ 3
+  pub no-room-kind : kindOf NoRoom ≡ 1
   -- a column is looked up without the names, which need not be lent for it
   pub names-unread : (held : ℕ) (ids counts types flags lens names : List ℕ) (id k : ℕ)
       → columnTold (memory held ids counts (columns types flags lens names)) id k

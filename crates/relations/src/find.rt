@@ -1,32 +1,14 @@
 // Where a relation is held, and whether rows match it.
 ghost use mathlib.Core.Path.{_≡_};
-ghost use mathlib.Core.List.{[]};
-ghost use mathlib.Core.Option.{some};
-ghost use Prim.Native.Nat.{_<_};
 ghost use lib.ListN.{getD, take};
-ghost use Rattle.relations.specs.Memory.{memory, columns, placeOf, countHeld};
+ghost use Rattle.relations.specs.Memory.{placeOf, countAt, countHeld};
 ghost use Rattle.relations.specs.Cache.{matches, isKey};
-ghost use Rattle.relations.specs.Answers.{countBy, verdictBy, columnBy, columnSpan, columnTold};
-use crate::COLUMNS;
-use crate::Column;
+ghost use Rattle.relations.specs.Answers.{countBy, verdictBy};
 use crate::Count;
-use crate::NAME;
-use crate::RELATIONS;
 use crate::Refusal;
 use crate::Verdict;
-use rows::Part;
 
-// The element at a place, 0 outside.
-pub(crate) fn word_at(s: &[u32], i: usize) -> u32
-    ensures { λ r. ⌜ r ≡ getD (now (s .entry)) i 0 ⌝ }
-{
-    if i < s.len() {
-        return s[i];
-    }
-    0
-}
-
-// The same of bytes.
+// The byte at a place, 0 outside.
 pub(crate) fn byte_at(s: &[u8], i: usize) -> u8
     ensures { λ r. ⌜ r ≡ getD (now (s .entry)) i 0 ⌝ }
 {
@@ -51,6 +33,14 @@ pub fn slot_of(held: u64, ids: &[u32], id: u32) -> usize
     n
 }
 
+// How many columns the relation in a slot has; a count above 32 counts as 32.
+pub fn count_at(counts: &[u8], slot: usize) -> usize
+    ensures { λ r. ⌜ r ≡ countAt (now (counts .entry)) slot ⌝ }
+{
+    let count = byte_at(counts, slot);
+    wire::store::least(count as usize, 32)
+}
+
 // How many columns the relation has, if it is held.
 pub fn count_of(held: u64, ids: &[u32], counts: &[u8], id: u32) -> Count
     ensures { λ r. ⌜ countBy r ≡ countHeld held (now (ids .entry)) (now (counts .entry)) id ⌝ }
@@ -58,8 +48,7 @@ pub fn count_of(held: u64, ids: &[u32], counts: &[u8], id: u32) -> Count
     let n = wire::store::least(held as usize, ids.len());
     let slot = slot_of(held, ids, id);
     if slot < n {
-        let count = byte_at(counts, slot);
-        return Count::Columns(wire::store::least(count as usize, 32));
+        return Count::Columns(count_at(counts, slot));
     }
     Count::NotHeld
 }
@@ -85,49 +74,4 @@ pub fn is_key(flags: u8) -> bool
     ensures { λ r. ⌜ r ≡ isKey flags ⌝ }
 {
     flags % 2 == 1
-}
-
-// Column i.
-fn column_at(types: &[u32], flags: &[u8], lens: &[u8], i: usize) -> Column
-    requires { ⌜ i < 2048 ⌝ }
-    ensures { λ r. ⌜ columnBy r ≡ some (columnSpan (columns (now (types .entry)) (now (flags .entry)) (now (lens .entry)) []) i) ⌝ }
-{
-    let len = wire::store::least(byte_at(lens, i) as usize, NAME);
-    let name = Part {
-        from: NAME * i,
-        len,
-    };
-    Column::Of {
-        name,
-        key: is_key(byte_at(flags, i)),
-        oid: word_at(types, i),
-    }
-}
-
-// Column `index` of a relation.
-pub(crate) fn column_of(
-    held: u64,
-    ids: &[u32],
-    counts: &[u8],
-    types: &[u32],
-    flags: &[u8],
-    lens: &[u8],
-    id: u32,
-    index: usize,
-) -> Column
-    ensures { λ r. ⌜ columnBy r
-        ≡ columnTold (memory held (now (ids .entry)) (now (counts .entry))
-        (columns (now (types .entry)) (now (flags .entry)) (now (lens .entry)) [])) id index ⌝ }
-{
-    let slot = slot_of(held, ids, id);
-    if RELATIONS <= slot {
-        return Column::Absent;
-    }
-    let Count::Columns(n) = count_of(held, ids, counts, id) else {
-        return Column::Absent;
-    };
-    if n <= index {
-        return Column::Absent;
-    }
-    column_at(types, flags, lens, COLUMNS * slot + index)
 }

@@ -1,16 +1,15 @@
 // A relation cache: what the Relation messages of a stream said of their columns, and rows matched with it. SCOPE 17.
-// The memory is lent, in fixed arrays: how many relations are held, their identifiers, their column counts; and for each column its type, its flags,
-// its name's length and its name. Column c of the relation in slot r has number 32 r + c, and its name stands from byte 63 times that on.
+// specs/ say it by its meaning and for one layout of a lent memory: how many relations are held, their identifiers, their column counts; and for each
+// column its type, its flags, its name's length and its name. Column c of the relation in slot r has number 32 r + c, and its name stands from byte
+// 63 times that on. Crate packed_relations has the columns in words and the names without gaps, and answers as that layout does.
 pub mod find;
 pub mod store;
 
 ghost use mathlib.Core.Path.{_≡_};
-ghost use mathlib.Core.List.{[]};
 ghost use Rattle.error.specs.Refusal.{kindNumber};
-ghost use Rattle.rows.specs.Rows.{rowSaid};
-ghost use Rattle.relations.specs.Answers.{numberOf, kindOf, answerBy, verdictBy, countBy, columnBy, columnTold, relatedBy, relatedOf};
+ghost use Rattle.relations.specs.Answers.{numberOf, kindOf, answerBy, verdictBy, countBy, relatedBy, relatedOf};
 ghost use Rattle.relations.specs.Answers.{headJudged, answerAs};
-ghost use Rattle.relations.specs.Memory.{memory, columns, messageOf, countHeld};
+ghost use Rattle.relations.specs.Memory.{countHeld};
 ghost use Rattle.relations.specs.Cache.{matches, firstOf};
 ghost use Rattle.rows.specs.Head.{answerBy as rowBy};
 use error::Kind;
@@ -24,11 +23,12 @@ pub const COLUMNS: usize = 32;
 // A column's name has at most so many bytes.
 pub const NAME: usize = 63;
 
-// Why a message is refused that is well-formed, 28 to 30.
+// Why a message is refused that is well-formed: 28 to 30, and 4.
 pub enum Refusal {
     CacheFull, // 64 other relations are held
     TooLarge, // a relation has more than 32 columns or a name of more than 63 bytes
     Unmatched, // a row's relation is not held, or has another number of columns
+    NoRoom, // the names of the relations do not fit in what is lent for them
 }
 
 // What a message is answered with: what its data say, which may be refused with 26 or 27, or a refusal of the cache.
@@ -74,6 +74,7 @@ impl Refusal {
             Refusal::CacheFull => 28,
             Refusal::TooLarge => 29,
             Refusal::Unmatched => 30,
+            Refusal::NoRoom => 4,
         }
     }
 
@@ -84,6 +85,7 @@ impl Refusal {
             Refusal::CacheFull => Kind::Protocol,
             Refusal::TooLarge => Kind::Protocol,
             Refusal::Unmatched => Kind::Protocol,
+            Refusal::NoRoom => Kind::Usage,
         }
     }
 }
@@ -164,100 +166,4 @@ pub fn row_verdict(held: u64, ids: &[u32], counts: &[u8], r: Row) -> Verdict
         Row::NoRow => Verdict::Accepted,
         Row::Refused(_) => Verdict::Accepted,
     }
-}
-
-// One message over slices.
-fn message_in(
-    held: &mut u64,
-    ids: &mut [u32],
-    counts: &mut [u8],
-    types: &mut [u32],
-    flags: &mut [u8],
-    lens: &mut [u8],
-    names: &mut [u8],
-    bytes: &[u8],
-) -> Answer
-    ensures { λ r. ⌜ (
-      answerBy r,
-      (memory (now (held .exit)) (now (ids .exit)) (now (counts .exit))
-          (columns (now (types .exit)) (now (flags .exit)) (now (lens .exit)) (now (names .exit)))),
-    )
-        ≡ messageOf (memory (now (held .entry)) (now (ids .entry))
-        (now (counts .entry)) (columns (now (types .entry)) (now (flags .entry)) (now (lens .entry)) (now (names .entry))))
-        (rowSaid (now (bytes .entry))) ⌝ }
-{
-    let r = rows::read_row(bytes);
-    let Related::Of {
-        id,
-        columns: n,
-        from,
-    } = relation_of(r)
-    else {
-        let before = *held;
-        let w = row_verdict(before, ids, counts, r);
-        return answer_of(w, r);
-    };
-    let v = store::keep(
-        held,
-        ids,
-        counts,
-        types,
-        flags,
-        lens,
-        names,
-        bytes,
-        id,
-        n,
-        from,
-    );
-    answer_of(v, r)
-}
-
-// One message: its answer is what its data say, or a refusal. A Relation that is not refused is held from then on in place of the one with its
-// identifier; a refused message leaves the whole memory as it was.
-pub fn message(
-    held: &mut u64,
-    ids: &mut [u32; 64],
-    counts: &mut [u8; 64],
-    types: &mut [u32; 2048],
-    flags: &mut [u8; 2048],
-    lens: &mut [u8; 2048],
-    names: &mut [u8; 129024],
-    bytes: &[u8],
-) -> Answer
-    ensures { λ r. ⌜ (
-      answerBy r,
-      (memory (now (held .exit)) (now (ids .exit)) (now (counts .exit))
-          (columns (now (types .exit)) (now (flags .exit)) (now (lens .exit)) (now (names .exit)))),
-    )
-        ≡ messageOf (memory (now (held .entry)) (now (ids .entry))
-        (now (counts .entry)) (columns (now (types .entry)) (now (flags .entry)) (now (lens .entry)) (now (names .entry))))
-        (rowSaid (now (bytes .entry))) ⌝ }
-{
-    message_in(held, ids, counts, types, flags, lens, names, bytes)
-}
-
-// How many columns a relation has, if it is held.
-pub fn columns_held(held: u64, ids: &[u32; 64], counts: &[u8; 64], id: u32) -> Count
-    ensures { λ r. ⌜ countBy r ≡ countHeld held (now (ids .entry)) (now (counts .entry)) id ⌝ }
-{
-    find::count_of(held, ids, counts, id)
-}
-
-// Column `index` of a relation, if it is held and has so many.
-pub fn held_column(
-    held: u64,
-    ids: &[u32; 64],
-    counts: &[u8; 64],
-    types: &[u32; 2048],
-    flags: &[u8; 2048],
-    lens: &[u8; 2048],
-    id: u32,
-    index: usize,
-) -> Column
-    ensures { λ r. ⌜ columnBy r
-        ≡ columnTold (memory held (now (ids .entry)) (now (counts .entry))
-        (columns (now (types .entry)) (now (flags .entry)) (now (lens .entry)) [])) id index ⌝ }
-{
-    find::column_of(held, ids, counts, types, flags, lens, id, index)
 }

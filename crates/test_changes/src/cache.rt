@@ -88,7 +88,7 @@ fn held_columns(
     let mut at = test_lines::number(line, from, id as u64);
     let mut k: usize = 0;
     while k < n {
-        let c = packed_relations::held_column(held, ids, counts, columns, id, k);
+        let c = packed_relations::held_column(held, ids, counts, columns, names, id, k);
         at = column_word(line, at, names, c);
         k += 1;
     }

@@ -21,7 +21,7 @@ use Rattle.hours.specs.declared.Refusal as Of-hours
 use Rattle.hours.specs.declared.Refusal.the-variants.{InvalidWindow, OffsetOutOfRange, MomentOutOfRange}
 use Rattle.hours.specs.Answer as Hours
 use Rattle.relations.specs.declared.Refusal as Of-cache
-use Rattle.relations.specs.declared.Refusal.the-variants.{CacheFull, TooLarge, Unmatched}
+use Rattle.relations.specs.declared.Refusal.the-variants.{CacheFull, TooLarge, Unmatched, NoRoom}
 use Rattle.relations.specs.Answers as Cache
 use Rattle.thm_word_meaning.specs.Kinds.{Refusal-numbers, Kind-words, Kinds-agree, Transient-words}
 
@@ -85,6 +85,7 @@ of-cache : (r : Of-cache.Refusal) → kindBy (Cache.numberOf r) ≡ Cache.kindOf
 of-cache CacheFull = refl
 of-cache TooLarge = refl
 of-cache Unmatched = refl
+of-cache NoRoom = refl
 
 pub kinds-agree : Kinds-agree
 kinds-agree = record { of-rows = of-rows; of-files = of-files; of-hours = of-hours; of-cache = of-cache }

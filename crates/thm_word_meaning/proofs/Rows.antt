@@ -76,7 +76,7 @@ cache-words =
       refused = λ m s n e. rw (e, refused-leaves-all m (rowSaid s) n e);
       held = λ held ids counts id n e. ap Cache.countReply e;
       not-held = λ held ids counts id e. ap Cache.countReply e;
-      column = λ held ids counts words id index at len key oid e. ap Cache.columnWords e ∙ ap (λ (n : ℕ). 1 ∷ at ∷ len ∷ n ∷ oid ∷ []) (flag-is key);
-      no-column = λ held ids counts words id index e. ap Cache.columnWords e;
+      column = λ held ids counts words names id index at len key oid e. ap Cache.columnWords e ∙ ap (λ (n : ℕ). 1 ∷ at ∷ len ∷ n ∷ oid ∷ []) (flag-is key);
+      no-column = λ held ids counts words names id index e. ap Cache.columnWords e;
       cleared = refl;
     }

@@ -85,17 +85,17 @@ pub record Cache-words : Type 0 where
   pub held : (held : ℕ) (ids counts : List ℕ) (id n : ℕ) → countHeld held ids counts id ≡ some n → countCall held ids counts id ≡ (1, n)
   pub not-held : (held : ℕ) (ids counts : List ℕ) (id : ℕ) → countHeld held ids counts id ≡ none → countCall held ids counts id ≡ (0, 0)
   -- 1, the name's place and length, whether it is of the key, its type; all 0 where there is no such column
-  pub column : (held : ℕ) (ids counts words : List ℕ) (id index at len : ℕ) (key : Bool) (oid : ℕ)
-      → columnTold (packed held ids counts (wordsOf words [])) id index ≡ some ((at, len), key, oid)
-      → Cache.columnCall held ids counts words id index ≡ 1 ∷ at ∷ len ∷ flag key ∷ oid ∷ []
-  pub no-column : (held : ℕ) (ids counts words : List ℕ) (id index : ℕ)
-      → columnTold (packed held ids counts (wordsOf words [])) id index ≡ none
-      → Cache.columnCall held ids counts words id index ≡ 0 ∷ 0 ∷ 0 ∷ 0 ∷ 0 ∷ []
-  -- cleared, the whole memory is zero
+  pub column : (held : ℕ) (ids counts words names : List ℕ) (id index at len : ℕ) (key : Bool) (oid : ℕ)
+      → columnTold (packed held ids counts (wordsOf words names)) id index ≡ some ((at, len), key, oid)
+      → Cache.columnCall held ids counts words names id index ≡ 1 ∷ at ∷ len ∷ flag key ∷ oid ∷ []
+  pub no-column : (held : ℕ) (ids counts words names : List ℕ) (id index : ℕ)
+      → columnTold (packed held ids counts (wordsOf words names)) id index ≡ none
+      → Cache.columnCall held ids counts words names id index ≡ 0 ∷ 0 ∷ 0 ∷ 0 ∷ 0 ∷ []
+  -- cleared, the whole memory but the names is zero
   pub cleared : clearCall ≡
       record {
         held = 0;
         ids = replicate {A = ℕ} 64 0;
         counts = replicate {A = ℕ} 64 0;
-        columns = record { words = replicate {A = ℕ} 2048 0; names = replicate {A = ℕ} 129024 0 };
+        columns = record { words = replicate {A = ℕ} 2048 0; names = [] };
       }

@@ -433,13 +433,13 @@ pub const IDENTIFIER_ID: usize = 1;
 /// How many words the event has.
 pub const LOAD_WORDS: usize = 7;
 
-// ---- The lent memory of a relation cache: five parts, 145,736 bytes in all.
+// ---- The lent memory of a relation cache: 16,712 bytes in four parts, and the names, for which as many bytes are lent as the host has.
 
 /// At most so many relations are held, each with an identifier and a count of columns.
 pub const CACHE_RELATIONS: usize = 64;
 /// The words of their columns, 32 for each relation.
 pub const CACHE_COLUMNS: usize = 2048;
-/// The bytes of the columns' names, 63 for each column.
+/// No more bytes of the names are read or written: 63 for each column.
 pub const CACHE_NAMES: usize = 129024;
 
 // ---- A column of a held relation.
@@ -764,34 +764,37 @@ extern "C" {
     // ---- A relation cache: what the Relation messages of a stream said of their columns, and rows matched with it.
     //
     // The memory is lent in five parts: how many relations are held (64 bits); of each slot its relation's identifier (32 bits) and how many columns
-    // that has (8 bits); a word of each column (64 bits); and the bytes of the names. Column c of the relation in slot r has number 32 r + c, and its
-    // name stands from byte 63 times that on. A word has, from its most significant bit on, whether the column belongs to the key (1 bit), its type
-    // (32), its name's length (7) and its name's place in names (24). Every call gets the memory as the last one left it. Any content of it is some
-    // cache: a call with it has one stated outcome, whatever the bytes are; a name that a word places outside of names ends with them.
+    // that has (8 bits); a word of each column (64 bits); and the bytes of the names. Column c of the relation in slot r has number 32 r + c. A word
+    // has, from its most significant bit on, whether the column belongs to the key (1 bit), its type (32), its name's length (7) and its name's place
+    // in names (24). The names lie without gaps, in the order of the columns' numbers, so as many bytes suffice as the names have that are held: for
+    // names of at most L bytes, L for each column, and 63 × 2,048 = 129,024 always; bytes past these are neither read nor written. Every call gets
+    // the memory as the last one left it. Any content of it is some cache: a call with it has one stated outcome, whatever the bytes are; a name that
+    // a word places outside of names ends with them.
 
-    /// An empty cache: every byte of the memory is 0.
+    /// An empty cache: every byte of what is lent is 0. The names are not lent: nothing of them is read before it is written.
     pub fn rufflesquash_cache_clear(
         held: *mut u64,
         ids: *mut [u32; CACHE_RELATIONS],
         counts: *mut [u8; CACHE_RELATIONS],
         words: *mut [u64; CACHE_COLUMNS],
-        names: *mut [u8; CACHE_NAMES],
     );
 
     /// One message: the row that its data hold, as `rufflesquash_row` answers it. A Relation is held from then on, in place of an earlier one with
-    /// its identifier. Answers the refusal (26 to 30); refused, the memory is as it was and all words are 0.
+    /// its identifier: the names of later slots are moved. Answers the refusal (26 to 30, 4); refused, the memory is as it was and all words are 0.
     ///
     /// - 26, 27: those of `rufflesquash_row`.
     /// - 28: a Relation, where 64 others are held.
     /// - 29: a Relation with more than 32 columns or with a column's name of more than 63 bytes. The former description of the relation stays, and
     ///   rows with the old number of columns are read under the old names.
     /// - 30: an Insert, Update or Delete whose relation is not held or has another number of columns than one of its tuples.
+    /// - 4: a Relation, where the names of those that are held, or of those that would be, are longer than names. It is told after 26 to 29.
     pub fn rufflesquash_cache_message(
         held: *mut u64,
         ids: *mut [u32; CACHE_RELATIONS],
         counts: *mut [u8; CACHE_RELATIONS],
         words: *mut [u64; CACHE_COLUMNS],
-        names: *mut [u8; CACHE_NAMES],
+        names: *mut u8,
+        names_len: usize,
         data: *const u8,
         data_len: usize,
         row: *mut [u64; ROW_WORDS],
@@ -806,12 +809,14 @@ extern "C" {
         columns: *mut u64,
     ) -> u64;
 
-    /// A column of a relation, from 0. All words are 0 where the relation is not held or has no such column.
+    /// A column of a relation, from 0. All words are 0 where the relation is not held or has no such column. Of names the length alone is read.
     pub fn rufflesquash_cache_column(
         held: u64,
         ids: *const [u32; CACHE_RELATIONS],
         counts: *const [u8; CACHE_RELATIONS],
         words: *const [u64; CACHE_COLUMNS],
+        names: *const u8,
+        names_len: usize,
         id: u32,
         index: usize,
         column: *mut [u64; CACHE_COLUMN_WORDS],

@@ -16,7 +16,7 @@ returns c =
     let a = s .args in
     let n = a .name in
     let z : (n .from + n .len) - n .from ≡ n .len = omega arith in
-    stored-word (a .i) (a .flag) (a .oid) (a .bytes .now) (n .from) (n .len) (a .words .now) (a .names .now) _ (s .pre .1) (w .word-for .ensures)
+    stored-word (a .i) (a .place) (a .flag) (a .oid) (a .bytes .now) (n .from) (n .len) (a .words .now) (a .names .now) _ (s .pre .1) (w .word-for .ensures)
     (t .set-long .ensures) (p .place .ensures)
     (rw z)
 
@@ -24,4 +24,4 @@ pub store-word-spec : {M : Type 1} → statement M
 store-word-spec =
     tie.close
     (tie.spec (search needs) (search needs) (search needs) (search needs) (search needs) (search needs) (search needs) (search needs) (search needs)
-    (search needs) returns)
+    returns)

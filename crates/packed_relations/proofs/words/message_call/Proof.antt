@@ -17,10 +17,10 @@ called m s {p} x {m′} e h = ap (λ (q : ℕ × List ℕ). (q, m′)) e ∙ ap 
 returns : tie.Need-returns
 returns c =
     let r = c .before in
-    let m = r .before in
-    let a = m .before .before .before .before .before .before .before .args in
+    let m = r .before .before .before in
+    let a = m .before .before .before .before .before .before .before .before .args in
     called (packed (a .held .now) (a .ids .now) (a .counts .now) (wordsOf (a .words .now) (a .names .now))) (a .bytes .now) _
     (r .answer-reply .ensures) (m .message .ensures)
 
 pub message-call-spec : {M : Type 1} → statement M
-message-call-spec = tie.close (tie.spec (search needs) (search needs) returns)
+message-call-spec = tie.close (tie.spec (search needs) (search needs) (search needs) returns)

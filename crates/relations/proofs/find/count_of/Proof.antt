@@ -1,20 +1,17 @@
 -- By the slot.
 use borrow.Author.Needs.{needs}
 use native.Mathlib.Omega.{arith}
-use mathlib.Core.Path.{_≡_, sym, ap, _∙_}
-use Prim.Native.Nat.{ℕ, min}
 use Rattle.relations.proofs.Leaves.{held-count, not-held}
 use Rattle.relations.proofs.find.count_of.Statement.{statement}
 use Rattle.relations.proofs.find.count_of.Tie as tie
 
 returns : tie.Need-returns
 returns c =
-    let b = c .before in
-    let s = b .before .before in
+    let s = c .before .before in
     let l = s .before in
     let a = l .before .before .before .args in
     held-count (a .held) (a .ids .now) (a .counts .now) (a .id) (s .slot-of .result) _ (s .slot-of .ensures) (omega (arith, l .least .ensures))
-    (c .least2 .ensures ∙ ap (λ (x : ℕ). min x 32) (b .byte-at .ensures))
+    (c .count-at .ensures)
 
 returns-2 : tie.Need-returns-2
 returns-2 c =
@@ -25,4 +22,4 @@ returns-2 c =
 
 pub count-of-spec : {M : Type 1} → statement M
 count-of-spec =
-    tie.close (tie.spec (search needs) (search needs) (search needs) (search needs) (search needs) returns returns-2)
+    tie.close (tie.spec (search needs) (search needs) (search needs) returns returns-2)
