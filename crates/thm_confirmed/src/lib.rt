@@ -1,0 +1,1 @@
+// Definitions and theorems alone: what a status confirms is done.
