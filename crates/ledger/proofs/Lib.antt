@@ -6,4 +6,5 @@ pub mod RingLaws
 pub mod Rising
 pub mod SlotLaws
 pub mod Standing
+pub mod Undone
 pub mod UndoneLaws

@@ -236,7 +236,7 @@ allDoneOf p l₀ ring =
 
 -- ---- what is asked
 
--- of n entries from a slot on the stable position before the first that is undone for a file; p where there is none
+-- of n entries from a slot on the stable position before the first that is undone for a file; the stable position where there is none
 unfoldable pub answerFrom : List ℕ → Ledger → ℕ → ℕ → ℕ → ℕ
 answerFrom ring l f front zero = stableOf l
 answerFrom ring l f front (suc n) =

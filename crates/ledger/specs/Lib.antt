@@ -2,3 +2,4 @@ pub mod History
 pub mod Laws
 pub mod Ledger
 pub mod Stands
+pub mod Undone
