@@ -191,11 +191,11 @@ local limit rest u e p x c a r' k q ec ex ea ek ew eq d ed es ei =
     }
 
 -- a fresh reader holds nothing
-fresh-holds : (p : List ℕ) → Holds [] fresh p
+pub fresh-holds : (p : List ℕ) → Holds [] fresh p
 fresh-holds p = record { going = refl; filled = refl; five = refl; head = refl; size = λ h. absurd (omega arith); front = refl }
 
 -- a whole message is there in its own bytes
-whole-taken : (limit : ℕ) (s : List ℕ) → 5 ≤ length s → lengthField s < half 4 → 4 ≤ lengthField s → lengthField s - 4 ≤ limit
+pub whole-taken : (limit : ℕ) (s : List ℕ) → 5 ≤ length s → lengthField s < half 4 → 4 ≤ lengthField s → lengthField s - 4 ≤ limit
     → lengthField s + 1 ≤ length s → frontOf limit (take (5 + (lengthField s - 4)) s) ≡ whole-at (getD s 0 0) (lengthField s - 4)
 whole-taken limit s h a b c d =
     let t : List ℕ = take (5 + (lengthField s - 4)) s in

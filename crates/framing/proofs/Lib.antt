@@ -1,5 +1,6 @@
 pub mod Laws
 pub mod Feed
+pub mod WholeFront
 pub mod EveryRead
 pub mod LimitLaws
 pub mod Said

@@ -1,4 +1,5 @@
 // Reads messages from pieces of input: a tag byte, a length that counts itself, a payload.
+pub mod front;
 pub mod tag;
 
 ghost use mathlib.Core.Path.{_≡_};

@@ -15,7 +15,7 @@ use Rattle.wire.proofs.Laws.{by-test, impossible, length-put, part-of-front}
 use Rattle.frames.specs.Message.{Front, in-header, in-payload, bad-length, too-large, whole, frontOf}
 use Rattle.frames.specs.Tag.{isCopyData}
 use Rattle.framing.specs.Read.{Result, limitOf, fresh}
-use Rattle.thm_drain_steps.proofs.ReadFront.{read-front, front-within}
+use Rattle.framing.proofs.WholeFront.{read-front, front-within}
 use Rattle.lsn.specs.declared.Lsn.{Lsn}
 use Rattle.metrics.specs.Metrics.{withEnd}
 use Rattle.metrics.specs.Metrics.{more as add}

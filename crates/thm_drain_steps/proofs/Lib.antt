@@ -1,2 +1,1 @@
-pub mod ReadFront
 pub mod DrainSteps
