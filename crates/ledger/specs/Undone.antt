@@ -1,4 +1,4 @@
--- What is undone, and which bit is which file's, said apart from the definitions that code and reading share. Issue 42, definitions 3 and 7; SCOPE 19.
+-- What is undone, and which bit is which file's, said apart from the definitions that code and reading share. SCOPE 19.
 use mathlib.Core.Path.{_≡_}
 use mathlib.Core.Bool.{true, false}
 use Prim.Native.Nat.{ℕ, _≤_, _<_}

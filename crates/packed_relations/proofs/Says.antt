@@ -123,9 +123,12 @@ pub cols-frame : (ws ws′ : List ℕ) (cs : List Column) (i place : ℕ)
     → ((j : ℕ) → i ≤ j → j < i + length cs → getD ws′ j 0 ≡ getD ws j 0) → ColsSay ws i place cs → ColsSay ws′ i place cs
 unfolding ColsSay
 cols-frame ws ws′ [] i place h s = tt
-cols-frame ws ws′ (column v key oid ∷ cs) i place h s =
-    (ap columnIn (h i (omega arith) (omega arith)) ∙ s .0, s .1, s .2,
-      cols-frame ws ws′ cs (suc i) (place + length v) (λ j a b. h j (omega arith) (omega arith)) (s .3))
+cols-frame ws ws′ (column v key oid ∷ cs) i place h s = (
+  ap columnIn (h i (omega arith) (omega arith)) ∙ s .0,
+  s .1,
+  s .2,
+  cols-frame ws ws′ cs (suc i) (place + length v) (λ j a b. h j (omega arith) (omega arith)) (s .3),
+)
 
 pub slots-frame : (counts counts′ ws ws′ : List ℕ) (a : Cache) (r place : ℕ)
     → ((j : ℕ) → 32 * r ≤ j → j < 32 * (r + length a) → getD ws′ j 0 ≡ getD ws j 0)
@@ -139,8 +142,8 @@ slots-frame counts counts′ ws ws′ (one ∷ a) r place h g s =
       rw e (s .0),
       cols-frame ws ws′ (one .1) (32 * r) place (λ j x y. h j x (omega (arith, few))) (s .1),
       slots-frame counts counts′ ws ws′ a (suc r) (place + length (columnNames (one .1))) (λ j x y. h j (omega arith) (omega arith))
-      (λ q x y. g q (omega arith) (omega arith))
-      (s .2),
+          (λ q x y. g q (omega arith) (omega arith))
+          (s .2),
     )
 
 -- ---- words with other places
@@ -155,6 +158,7 @@ place-words-other (suc n) i place ws j h =
     further : (j < i) ⊎ (i + suc n ≤ j) → (j < suc i) ⊎ (suc i + n ≤ j)
     further (inl a) = inl (omega arith)
     further (inr b) = inr (omega arith)
+
     apart : (j < i) ⊎ (i + suc n ≤ j) → j ≡ i → ⊥
     apart (inl a) e = omega arith
     apart (inr b) e = omega arith
@@ -202,6 +206,7 @@ place-slots-other counts (suc n) r place ws j h =
     further : (j < 32 * r) ⊎ (32 * (r + suc n) ≤ j) → (j < 32 * suc r) ⊎ (32 * (suc r + n) ≤ j)
     further (inl a) = inl (omega arith)
     further (inr b) = inr (omega arith)
+
     near : (j < 32 * r) ⊎ (32 * (r + suc n) ≤ j) → (j < 32 * r) ⊎ (32 * r + countAt counts r ≤ j)
     near (inl a) = inl a
     near (inr b) = inr (omega arith)
@@ -239,7 +244,7 @@ place-says counts (one ∷ a) r old new ws l b h =
     (λ j x y. place-slots-other counts (length a) (suc r) (new + m) z j (inl (omega (arith, few))))
     here in
     let e : placeSlots counts (suc r) (length a) (new + lensFrom ws (32 * r) (countAt counts r)) (placeWords (32 * r) (countAt counts r) new ws)
-        ≡ placeSlots counts (suc r) (length a) (new + m) z =
+    ≡ placeSlots counts (suc r) (length a) (new + m) z =
     ap (λ (q : ℕ). placeSlots counts (suc r) (length a) (new + lensFrom ws (32 * r) q) (placeWords (32 * r) q new ws)) (h .0)
     ∙ ap (λ (q : ℕ). placeSlots counts (suc r) (length a) (new + q) z) lens in
     subst (λ (w : List ℕ). (countAt counts r ≡ length cs) × ColsSay w (32 * r) new cs × SlotsSay counts w (suc r) (new + m) a) (sym e)
@@ -272,6 +277,7 @@ store-other (described flags v oid modifier ∷ ds) i place s j h =
     further : (j < i) ⊎ (i + suc (length ds) ≤ j) → (j < suc i) ⊎ (suc i + length ds ≤ j)
     further (inl a) = inl (omega arith)
     further (inr b) = inr (omega arith)
+
     apart : (j < i) ⊎ (i + suc (length ds) ≤ j) → j ≡ i → ⊥
     apart (inl a) e = omega arith
     apart (inr b) e = omega arith

@@ -26,12 +26,7 @@ use relations::row_verdict;
 pub const NAMES: usize = 129024;
 
 // An empty cache. All but the names, which nothing reads, is zero.
-pub fn clear(
-    held: &mut u64,
-    ids: &mut [u32; 64],
-    counts: &mut [u8; 64],
-    words: &mut [u64; 2048],
-)
+pub fn clear(held: &mut u64, ids: &mut [u32; 64], counts: &mut [u8; 64], words: &mut [u64; 2048])
     ensures { λ _. ⌜ packed (now (held .exit)) (now (ids .exit)) (now (counts .exit)) (wordsOf (now (words .exit)) []) ≡ emptied [] ⌝ }
 {
     *held = 0;

@@ -115,13 +115,7 @@ fn place_words(words: &mut [u64], first: usize, n: usize, place: usize) -> usize
 }
 
 // Those of the columns in n slots from slot `first` on.
-pub(crate) fn place_slots(
-    counts: &[u8],
-    words: &mut [u64],
-    first: usize,
-    n: usize,
-    place: usize,
-)
+pub(crate) fn place_slots(counts: &[u8], words: &mut [u64], first: usize, n: usize, place: usize)
     requires { ⌜ (first + n ≤ 64) × (place + 2016 * n ≤ 16777216) ⌝ }
     ensures { λ _. ⌜ now (words .exit) ≡ placeSlots (now (counts .entry)) first n place (now (words .entry)) ⌝ }
 {

@@ -158,10 +158,7 @@ fn make_room(
     }
     move_names(names, place + own, place + new, later);
     place_slots(counts, words, next, slots - next, place + new);
-    Room {
-        given: true,
-        place,
-    }
+    Room { given: true, place }
 }
 
 // A Relation is stored, or refused.

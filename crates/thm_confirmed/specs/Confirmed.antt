@@ -1,5 +1,5 @@
 -- Nothing is lost: over any list of calls of a run and of a ledger, in which no report is above the ledger's answer for its file then, every entry that
--- a status confirms was told and is done. SCOPE 19; issue 42.
+-- a status confirms was told and is done. SCOPE 19.
 use mathlib.Core.Path.{_≡_}
 use mathlib.Core.Bool.{true}
 use mathlib.Core.List.{List, [], _∷_}

@@ -27,10 +27,11 @@ loop-again c =
     let w = x .before in
     let l = w .before .before in
     let a = l .before .before .args in
-    let e : x .len-of .result ≡ lenOf (w .word-at .result) = x .len-of .ensures in
-    (omega arith,
+    let e : x .len-of .result ≡ lenOf (w .word-at .result) = x .len-of .ensures in (
+      omega arith,
       lens-turn (a .words .now) (a .first) (l .loop .k) (a .n) (l .loop .sum) _ _ (omega arith) (l .loop .inv .1) (x .len-of .ensures ∙ rw (w .word-at .ensures)),
-      omega (arith, l .loop .inv .2, e))
+      omega (arith, l .loop .inv .2, e),
+    )
 
 returns : tie.Need-returns Inv-loop μ-loop
 returns c =

@@ -24,10 +24,11 @@ loop-again : tie.Need-loop-again Inv-loop μ-loop
 loop-again c =
     let l = c .before .before in
     let s = l .before in
-    let a = s .args in
-    (omega arith,
+    let a = s .args in (
+      omega arith,
       down-turn (a .names .now) (a .from) (a .to) (l .loop .k) (s .pre .0) (omega (arith, s .pre .1)) (l .loop .inv .1),
-      simp length-set (l .loop .inv .2))
+      simp length-set (l .loop .inv .2),
+    )
 
 same-length : tie.Need-same-length Inv-loop μ-loop
 same-length c = c .before .loop .inv .2

@@ -29,9 +29,10 @@ place-words-requires : tie.Need-place-words-requires Inv-loop μ-loop
 place-words-requires c κs =
     let d = c .before in
     let l = d .before .before in
-    let s = l .before .before .before in
-    (omega (arith, d .count-at .ensures, s .pre .0, l .loop .inv .0),
-      omega (arith, d .count-at .ensures, s .pre .1, l .loop .inv .0, l .loop .inv .2))
+    let s = l .before .before .before in (
+      omega (arith, d .count-at .ensures, s .pre .0, l .loop .inv .0),
+      omega (arith, d .count-at .ensures, s .pre .1, l .loop .inv .0, l .loop .inv .2),
+    )
 
 loop-again : tie.Need-loop-again Inv-loop μ-loop
 loop-again c =
@@ -41,11 +42,12 @@ loop-again c =
     let a = l .before .before .before .args in
     let slot : ℕ = a .first + l .loop .k in
     let es = p .place-words .ensures .0 ∙ ap (λ (y : ℕ). placeWords (32 * slot) y (l .loop .at) (l .loop .words)) (d .count-at .ensures) in
-    let ep = p .place-words .ensures .1 ∙ ap (λ (y : ℕ). l .loop .at + lensFrom (l .loop .words) (32 * slot) y) (d .count-at .ensures) in
-    (omega arith,
+    let ep = p .place-words .ensures .1 ∙ ap (λ (y : ℕ). l .loop .at + lensFrom (l .loop .words) (32 * slot) y) (d .count-at .ensures) in (
+      omega arith,
       place-turn (a .counts .now) (a .first) (l .loop .k) (a .n) (l .loop .at) _ _ (l .loop .words) _ (omega arith) (l .loop .inv .1) es ep,
       omega (arith, l .loop .inv .2, p .place-words .ensures .2, d .count-at .ensures),
-      search needs)
+      search needs,
+    )
 
 returns : tie.Need-returns Inv-loop μ-loop
 returns c =

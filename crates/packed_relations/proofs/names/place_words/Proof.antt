@@ -35,20 +35,23 @@ loop-again c =
     let ew = w .word-at .ensures in
     let ex : x .len-of .result ≡ lenOf (w .word-at .result) = x .len-of .ensures in
     let ey = p .placed-word .ensures in
-    let es = s .set-long .ensures in
-    (omega arith,
+    let es = s .set-long .ensures in (
+      omega arith,
       words-turn (a .first) (l .loop .k) (a .n) (l .loop .at) _ _ _ _ (l .loop .words) _ (omega arith) (l .loop .inv .1) ew ex ey es,
       lens-kept (a .first) (l .loop .k) (a .n) (l .loop .at) _ _ _ _ (l .loop .words) _ (omega arith) (l .loop .inv .2) ew ex es,
       omega (arith, l .loop .inv .3, ex),
-      search needs)
+      search needs,
+    )
 
 returns : tie.Need-returns Inv-loop μ-loop
 returns c =
     let l = c .before in
     let a = l .before .before .args in
-    let z = lens-done (l .loop .words) (a .first) (l .loop .k) (a .n) (omega arith) in
-    (sym (l .loop .inv .1 ∙ words-done (a .first) (l .loop .k) (a .n) (l .loop .at) (l .loop .words) (omega arith)),
-      omega (arith, l .loop .inv .2, z), omega (arith, l .loop .inv .3))
+    let z = lens-done (l .loop .words) (a .first) (l .loop .k) (a .n) (omega arith) in (
+      sym (l .loop .inv .1 ∙ words-done (a .first) (l .loop .k) (a .n) (l .loop .at) (l .loop .words) (omega arith)),
+      omega (arith, l .loop .inv .2, z),
+      omega (arith, l .loop .inv .3),
+    )
 
 pub place-words-spec : {M : Type 1} → statement M
 place-words-spec =

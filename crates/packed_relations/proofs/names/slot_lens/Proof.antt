@@ -35,10 +35,11 @@ loop-again c =
     let d = c .before in
     let l = d .before .before in
     let a = l .before .before .before .args in
-    let e = c .lens-from .ensures .0 ∙ ap (λ (y : ℕ). lensFrom (a .words .now) (32 * (a .first + l .loop .k)) y) (d .count-at .ensures) in
-    (omega arith,
+    let e = c .lens-from .ensures .0 ∙ ap (λ (y : ℕ). lensFrom (a .words .now) (32 * (a .first + l .loop .k)) y) (d .count-at .ensures) in (
+      omega arith,
       slots-turn (a .counts .now) (a .words .now) (a .first) (l .loop .k) (a .n) (l .loop .sum) _ _ (omega arith) (l .loop .inv .1) e,
-      omega (arith, l .loop .inv .2, c .lens-from .ensures .1, d .count-at .ensures))
+      omega (arith, l .loop .inv .2, c .lens-from .ensures .1, d .count-at .ensures),
+    )
 
 add-sum : tie.Need-add-sum Inv-loop μ-loop
 add-sum c =

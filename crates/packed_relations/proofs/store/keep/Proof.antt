@@ -46,9 +46,11 @@ make-room-requires c κs =
     let t = s .before .before .before .before .before .before .before .before in
     let a = t .args in
     let w = fits-few _ (sym (not-false _ (e .if2 .left)) ∙ f .fit .ensures) in
-    let most = place-most (a .id) (take (a .held .now) (a .ids .now)) in
-    (omega arith, omega (arith, s .slot-of .ensures, most, length-take (a .held .now) (a .ids .now)),
-      omega (arith, c .before .before .before .new-lens .ensures .1, w .0, t .pre))
+    let most = place-most (a .id) (take (a .held .now) (a .ids .now)) in (
+      omega arith,
+      omega (arith, s .slot-of .ensures, most, length-take (a .held .now) (a .ids .now)),
+      omega (arith, c .before .before .before .new-lens .ensures .1, w .0, t .pre),
+    )
 
 returns-3 : tie.Need-returns-3
 returns-3 c =

@@ -52,10 +52,11 @@ lie-in-requires c κs =
     let n = x .before .before in
     let m = n .before in
     let s = m .before .before .before .before in
-    let a = s .args in
-    (sum-small (a .held) _ (a .slot) _ _ _ _ (a .new) (m .least .ensures) (n .least2 .ensures) (s .pre .0) (s .pre .1) (x .slot-lens .ensures .1)
-      (y .slot-lens2 .ensures .1) (z .slot-lens3 .ensures .1) (s .pre .2),
-      s .pre .2)
+    let a = s .args in (
+      sum-small (a .held) _ (a .slot) _ _ _ _ (a .new) (m .least .ensures) (n .least2 .ensures) (s .pre .0) (s .pre .1) (x .slot-lens .ensures .1)
+          (y .slot-lens2 .ensures .1) (z .slot-lens3 .ensures .1) (s .pre .2),
+      s .pre .2,
+    )
 
 returns : tie.Need-returns
 returns c =
@@ -67,11 +68,12 @@ returns c =
     let n = x .before .before in
     let m = n .before in
     let s = m .before .before .before .before in
-    let a = s .args in
-    (made-not (a .held) (a .slot) (a .new) (a .counts .now) (a .words .now) (a .names .now) _ _ _ _ _ _ (m .least .ensures) (n .least2 .ensures)
-      (x .slot-lens .ensures .0) (y .slot-lens2 .ensures .0) (z .slot-lens3 .ensures .0) (r .least3 .ensures)
-      (sym (not-true _ (c .if1 .taken)) ∙ i .lie-in .ensures),
-      omega (arith, x .slot-lens .ensures .1, s .pre .0))
+    let a = s .args in (
+      made-not (a .held) (a .slot) (a .new) (a .counts .now) (a .words .now) (a .names .now) _ _ _ _ _ _ (m .least .ensures) (n .least2 .ensures)
+          (x .slot-lens .ensures .0) (y .slot-lens2 .ensures .0) (z .slot-lens3 .ensures .0) (r .least3 .ensures)
+          (sym (not-true _ (c .if1 .taken)) ∙ i .lie-in .ensures),
+      omega (arith, x .slot-lens .ensures .1, s .pre .0),
+    )
 
 move-names-requires : tie.Need-move-names-requires
 move-names-requires c κs =
@@ -109,9 +111,10 @@ place-slots-requires c κs =
     let e = c .before .before .before .before .before in
     let i = e .before in
     let n = i .before .before .before .before .before .before .before .before in
-    let f = lie-fits _ _ _ _ _ (sym (not-false _ (e .if1 .left)) ∙ i .lie-in .ensures) in
-    (omega (arith, n .least2 .ensures, n .before .least .ensures),
-      omega (arith, f .1, i .before .least3 .ensures, n .least2 .ensures, n .before .least .ensures))
+    let f = lie-fits _ _ _ _ _ (sym (not-false _ (e .if1 .left)) ∙ i .lie-in .ensures) in (
+      omega (arith, n .least2 .ensures, n .before .least .ensures),
+      omega (arith, f .1, i .before .least3 .ensures, n .least2 .ensures, n .before .least .ensures),
+    )
 
 returns-2 : tie.Need-returns-2
 returns-2 c =
@@ -126,12 +129,13 @@ returns-2 c =
     let n = x .before .before in
     let m = n .before in
     let s = m .before .before .before .before in
-    let a = s .args in
-    (made (a .held) (a .slot) (a .new) (a .counts .now) (a .words .now) (a .names .now) _ _ _ _ _ _ (m .least .ensures) (n .least2 .ensures)
-      (x .slot-lens .ensures .0) (y .slot-lens2 .ensures .0) (z .slot-lens3 .ensures .0) (r .least3 .ensures)
-      (sym (not-false _ (e .if1 .left)) ∙ i .lie-in .ensures)
-      (v .move-names .ensures) (p .place-slots .ensures),
-      omega (arith, x .slot-lens .ensures .1, s .pre .0))
+    let a = s .args in (
+      made (a .held) (a .slot) (a .new) (a .counts .now) (a .words .now) (a .names .now) _ _ _ _ _ _ (m .least .ensures) (n .least2 .ensures)
+          (x .slot-lens .ensures .0) (y .slot-lens2 .ensures .0) (z .slot-lens3 .ensures .0) (r .least3 .ensures)
+          (sym (not-false _ (e .if1 .left)) ∙ i .lie-in .ensures)
+          (v .move-names .ensures) (p .place-slots .ensures),
+      omega (arith, x .slot-lens .ensures .1, s .pre .0),
+    )
 
 pub make-room-spec : {M : Type 1} → statement M
 make-room-spec =
