@@ -77,8 +77,11 @@ impl Cache {
     }
 }
 
-/// The columns of a Relation of n columns whose names have so many bytes, other ones in each turn: flags, name and type.
-fn columns(id: u32, turn: u8, n: usize, len: usize) -> Vec<(u8, Vec<u8>, u32)> {
+/// A column as a Relation describes it: flags, name and type.
+type Described = (u8, Vec<u8>, u32);
+
+/// The columns of a Relation of n columns whose names have so many bytes, other ones in each turn.
+fn columns(id: u32, turn: u8, n: usize, len: usize) -> Vec<Described> {
     let name = |i: usize| (0..len).map(|k| b'a' + ((id as usize + turn as usize + i + k) % 26) as u8).collect();
     (0..n).map(|i| (i as u8 ^ turn, name(i), 0x8000_0000 ^ id << 16 ^ i as u32)).collect()
 }
@@ -100,7 +103,7 @@ fn insert(id: u32, n: u16) -> Vec<u8> {
 }
 
 /// What is held is what the map has.
-fn same(cache: &Cache, map: &HashMap<u32, Vec<(u8, Vec<u8>, u32)>>) {
+fn same(cache: &Cache, map: &HashMap<u32, Vec<Described>>) {
     for id in 0..RELATIONS as u32 + 2 {
         for index in 0..COLUMNS + 2 {
             let [given, from, len, key, oid] = cache.column(id, index);

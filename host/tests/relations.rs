@@ -255,7 +255,6 @@ fn drawn(seed: u64, lent: usize, longest: u64, seen: &mut [u64; 31]) {
         }
     }
     let used: usize = model.held.values().flatten().map(|column| column.0.len()).sum();
-    drop(cache);
     assert!(used <= lent && names[lent.min(129_024)..].iter().all(|byte| *byte == 0xA5));
 }
 
