@@ -24,10 +24,10 @@ use Rattle.relations.specs.Laws.{Sized, named, nth, columnAmong, answersOn as f
 use Rattle.relations.proofs.Held.{place-most, slot-unfound, length-relations}
 use Rattle.relations.proofs.Theorems.{emptied-sized, emptied-holds, lookups}
 use Rattle.packed_relations.specs.Packed.{Packed, wordsOf, packed, emptied, common, roomIn, newLens, hasRoom, judgedIn, leaves, messageOf, toldAmong, columnTold}
-use Rattle.packed_relations.specs.Laws.{answersOn, memoryAfter, AllBytes, None-crowded, Roomy, cacheNames, Answers-alike, Lookups-alike, Crowded, Told-within, Refused-leaves-all}
+use Rattle.packed_relations.specs.Laws.{answersOn, memoryAfter, AllBytes, None-crowded, Roomy, cacheNames, Answers-alike, Lookups-alike, Crowded, Uncrowded, Told-within, Refused-leaves-all}
 use Rattle.packed_relations.proofs.Leaves.{same-answered}
 use Rattle.packed_relations.proofs.Says.{SlotsSay, slots-look, idsOf}
-use Rattle.packed_relations.proofs.Kept.{view, Good, ids-are, full-room, lies-in, stored-view, good-then, long-then, no-room}
+use Rattle.packed_relations.proofs.Kept.{view, Good, ids-are, full-room, lies-in, stored-view, good-then, long-then, no-room, has-room}
 
 -- ---- one message
 
@@ -292,6 +292,27 @@ crowded-is-refused names ss b h s c id space v identity ds e f l =
     let l′ = rw (e, ← k) at l in
     ap (λ (p : Packed). messageOf p (rowSaid s) .0) (same-end names ss b h)
     ∙ rw e (crowded-answer m (x .words) (x .names) (x .good) id space v identity ds f′ l′)
+
+uncrowded-answer : (m : Memory) (ws ns : List ℕ) → Good m ws ns → (id : ℕ) (space v : List ℕ) (identity : ℕ) (ds : List Described)
+    → formerMessage m (row (relation id space v identity ds)) .0 ≡ head (headOf (relation id space v identity ds))
+    → length (cacheNames (cacheOf (formerMessage m (row (relation id space v identity ds)) .1))) ≤ roomIn ns
+    → messageOf (view m ws ns) (row (relation id space v identity ds)) .0 ≡ head (headOf (relation id space v identity ds))
+unfolding messageOf judged
+uncrowded-answer m ws ns g id space v identity ds e h =
+    let w = not-refused m id space v identity ds e in
+    let l = rw (former-left m id space v identity ds (w .0) (w .1)) at h in
+    let q = has-room m ws ns g id ds (w .0) (w .1) l in
+    rw (lt-leb 64 (slotIn m id) (w .0), w .1, q)
+
+pub uncrowded-is-taken : Uncrowded
+uncrowded-is-taken names ss b h s c id space v identity ds e f l =
+    let x = from-empty names ss b h in
+    let m : Memory = formerAfter formerEmptied ss in
+    let f′ = rw e at f in
+    let k : roomIn (x .names) ≡ roomIn names = ap (λ (y : ℕ). min y 129024) (x .long) in
+    let l′ = rw (e, ← k) at l in
+    ap (λ (p : Packed). messageOf p (rowSaid s) .0) (same-end names ss b h)
+    ∙ rw e (uncrowded-answer m (x .words) (x .names) (x .good) id space v identity ds f′ l′)
 
 -- ---- any memory
 

@@ -234,6 +234,10 @@ module _ (m : Memory) (ws ns : List ℕ) (g : Good m ws ns) (id : ℕ) (ds : Lis
     pub no-room : roomIn ns < length (cacheNames (cacheOf (formerStored m r id ds))) → hasRoom p r n ≡ false
     no-room h = room-is ∙ lt-leb (B + n + T) (roomIn ns) (omega (arith, held-length))
 
+    -- what would be held lies in it
+    pub has-room : length (cacheNames (cacheOf (formerStored m r id ds))) ≤ roomIn ns → hasRoom p r n ≡ true
+    has-room h = room-is ∙ le-leb (B + n + T) (roomIn ns) (omega (arith, held-length))
+
   module _ (f : fits ds ≡ true) (a : All DescribedFits ds) (lies : B + n + T ≤ roomIn ns) where
     few : (length ds ≤ 32) × (namesFit ds ≡ true)
     few = fits-few ds (sym f)

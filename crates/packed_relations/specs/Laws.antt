@@ -65,8 +65,8 @@ unfoldable pub cacheNames : Cache → List ℕ
 cacheNames [] = []
 cacheNames (one ∷ others) = columnNames (one .1) ++ cacheNames others
 
--- a Relation that the former layout takes is refused with 4 exactly where the names of the relations that would then be held are longer than the
--- names that are lent, or than 129,024 bytes
+-- a Relation that the former layout takes is refused with 4 where the names of the relations that would then be held are longer than the names that
+-- are lent, or than 129,024 bytes
 abbrev pub Crowded : Type 0
 Crowded =
     (names : List ℕ) (ss : List (List ℕ)) → AllBytes ss → Roomy names ss → (s : List ℕ) → areBytes s ≡ true
@@ -74,6 +74,15 @@ Crowded =
     → formerMessage (formerAfter formerEmptied ss) (rowSaid s) .0 ≡ head (headOf (relation id space v identity ds))
     → min (length names) 129024 < length (cacheNames (cacheOf (formerMessage (formerAfter formerEmptied ss) (rowSaid s) .1)))
     → messageOf (memoryAfter (emptied names) ss) (rowSaid s) .0 ≡ refusal 4
+
+-- and only there: where they are not longer it is taken
+abbrev pub Uncrowded : Type 0
+Uncrowded =
+    (names : List ℕ) (ss : List (List ℕ)) → AllBytes ss → Roomy names ss → (s : List ℕ) → areBytes s ≡ true
+    → (id : ℕ) (space v : List ℕ) (identity : ℕ) (ds : List Described) → rowSaid s ≡ row (relation id space v identity ds)
+    → formerMessage (formerAfter formerEmptied ss) (rowSaid s) .0 ≡ head (headOf (relation id space v identity ds))
+    → length (cacheNames (cacheOf (formerMessage (formerAfter formerEmptied ss) (rowSaid s) .1))) ≤ min (length names) 129024
+    → messageOf (memoryAfter (emptied names) ss) (rowSaid s) .0 ≡ head (headOf (relation id space v identity ds))
 
 -- ---- any memory
 
