@@ -6,7 +6,8 @@ use mathlib.Core.Option.{Option, some, none}
 use mathlib.Core.Logic.{_⊎_, inl, inr}
 use Prim.Native.Nat.{ℕ, zero, suc, _+_, _*_, _-_, _<_, _≤_, _^_, min, max}
 use native.Mathlib.Omega.{arith}
-use lib.ListN.{length, take, getD, replicate, length-take, length-append, length-replicate}
+use lib.ListN.{length, take, drop, getD, replicate, length-take, length-append, length-replicate}
+use lib.Seq.{take-append-seam}
 use lib.Dec.{eqb, leb, ltb}
 use lib.Pow.{areBytes}
 use borrow.Author.Tests.{leb-true, leb-false, le-leb, lt-leb, ltb-true, ltb-false}
@@ -24,10 +25,10 @@ use Rattle.relations.specs.Laws.{Sized, named, nth, columnAmong, answersOn as f
 use Rattle.relations.proofs.Held.{place-most, slot-unfound, length-relations}
 use Rattle.relations.proofs.Theorems.{emptied-sized, emptied-holds, lookups}
 use Rattle.packed_relations.specs.Packed.{Packed, wordsOf, packed, emptied, common, roomIn, newLens, hasRoom, judgedIn, leaves, messageOf, toldAmong, columnTold}
-use Rattle.packed_relations.specs.Laws.{answersOn, memoryAfter, AllBytes, None-crowded, Roomy, cacheNames, Answers-alike, Lookups-alike, Crowded, Uncrowded, Told-within, Refused-leaves-all}
+use Rattle.packed_relations.specs.Laws.{answersOn, memoryAfter, AllBytes, None-crowded, Roomy, cacheNames, Answers-alike, Lookups-alike, Names-lie, Behind-stays, Crowded, Uncrowded, Told-within, Refused-leaves-all}
 use Rattle.packed_relations.proofs.Leaves.{same-answered}
 use Rattle.packed_relations.proofs.Says.{SlotsSay, slots-look, idsOf}
-use Rattle.packed_relations.proofs.Kept.{view, Good, ids-are, full-room, lies-in, stored-view, good-then, long-then, no-room, has-room}
+use Rattle.packed_relations.proofs.Kept.{view, Good, ids-are, full-room, lies-in, stored-view, good-then, long-then, no-room, has-room, behind-then}
 
 -- ---- one message
 
@@ -49,6 +50,7 @@ record Left (m : Memory) (ws ns : List ℕ) (answer : Said) : Type 0 where
   same : leaves (view m ws ns) answer ≡ view (formerLeaves m answer) words names
   good : Good (formerLeaves m answer) words names
   long : length names ≡ length ns
+  behind : let held : List ℕ = cacheNames (cacheOf (formerLeaves m answer)) in drop (length held) names ≡ drop (length held) ns
 
 -- the former answer, and what it leaves
 record Step (m : Memory) (ws ns : List ℕ) (said : Said) : Type 0 where
@@ -61,7 +63,7 @@ Has m ws ns said = (129024 ≤ length ns) ⊎ (answerOf (answered (judgedIn (vie
 
 module _ (m : Memory) (ws ns : List ℕ) (g : Good m ws ns) where
   as-it-was : (answer : Said) → leaves (view m ws ns) answer ≡ view m ws ns → formerLeaves m answer ≡ m → Left m ws ns answer
-  as-it-was answer e f = record { words = ws; names = ns; same = e ∙ rw f; good = rw f g; long = refl }
+  as-it-was answer e f = record { words = ws; names = ns; same = e ∙ rw f; good = rw f g; long = refl; behind = refl }
 
   -- a row that changes nothing, or its refusal
   left-row : (r : Row) (j : ℕ) → leaves (view m ws ns) (row r) ≡ view m ws ns → formerLeaves m (row r) ≡ m
@@ -102,6 +104,7 @@ module _ (m : Memory) (ws ns : List ℕ) (g : Good m ws ns) where
                 same = stored-view m ws ns g id ds few f a lies;
                 good = good-then m ws ns g id ds few f a lies;
                 long = long-then m ws ns g id ds few f a lies;
+                behind = behind-then m ws ns g id ds few f a lies;
               });
         }
 
@@ -252,6 +255,36 @@ lookups-alike =
           ap (λ (p : Packed). named (p .columns .names) (columnTold p id k)) (same-end names ss b h)
           ∙ column-alike (formerAfter formerEmptied ss) (x .words) (x .names) (x .good) id k);
     }
+
+-- ---- where the names lie
+
+pub names-lie : Names-lie
+names-lie names ss b h =
+    let x = from-empty names ss b h in
+    let held : List ℕ = cacheNames (cacheOf (formerAfter formerEmptied ss)) in
+    ap (λ (p : Packed). take (length held) (p .columns .names)) (same-end names ss b h)
+    ∙ ap (take (length held)) (x .good .names)
+    ∙ take-append-seam held (x .good .rest)
+
+left-behind : (m : Memory) (ws ns : List ℕ) (said : Said) (y : Step m ws ns said)
+    → let held : List ℕ = cacheNames (cacheOf (formerMessage m said .1)) in drop (length held) (y .left .names) ≡ drop (length held) ns
+unfolding formerMessage
+left-behind m ws ns said y = y .left .behind
+
+pub behind-stays : Behind-stays
+behind-stays names ss b h s c not =
+    let x = from-empty names ss b h in
+    let m : Memory = formerAfter formerEmptied ss in
+    let p : Packed = view m (x .words) (x .names) in
+    let e : memoryAfter (emptied names) ss ≡ p = same-end names ss b h in
+    let said : Said = rowSaid s in
+    let not′ : messageOf p said .0 ≡ refusal 4 → ⊥ = subst (λ (q : Packed). messageOf q said .0 ≡ refusal 4 → ⊥) e not in
+    let y = step m (x .words) (x .names) (x .good) said (said-fits s c said refl) (message-has m (x .words) (x .names) (x .good) said (inr not′)) in
+    let held : List ℕ = cacheNames (cacheOf (formerMessage m said .1)) in
+    ap (λ (q : Packed). drop (length held) (messageOf q said .1 .columns .names)) e
+    ∙ (ap (λ (q : Answer × Packed). drop (length held) (q .1 .columns .names)) (message-same m (x .words) (x .names) (x .good) said y)
+    ∙ (left-behind m (x .words) (x .names) said y
+    ∙ ap (λ (q : Packed). drop (length held) (q .columns .names)) (sym e)))
 
 -- ---- too little room
 

@@ -6,7 +6,7 @@ use mathlib.Core.Logic.{_⊎_, inl, inr}
 use Prim.Native.Nat.{ℕ, zero, suc, _+_, _*_, _-_, _<_, _≤_, _^_, min, max}
 use native.Mathlib.Omega.{arith}
 use lib.ListN.{length, take, drop, getD, set, length-take, length-drop, length-append, length-set, length-map}
-use lib.Seq.{getD-set-same, getD-set-other, take-at, drop-at, take-append-le, take-take}
+use lib.Seq.{getD-set-same, getD-set-other, take-at, drop-at, take-append-le, take-take, drop-append-seam}
 use lib.IntN.{ℤ}
 use lib.Dec.{eqb, leb}
 use borrow.Author.Tests.{le-leb, lt-leb, leb-true}
@@ -315,6 +315,9 @@ module _ (m : Memory) (ws ns : List ℕ) (g : Good m ws ns) (id : ℕ) (ds : Lis
         (subst (λ (q : ℕ). SlotsSay (set (m .counts) r (length ds)) (after .words) q (0 + B) ((id, cs) ∷ x .later)) z
         (subst (λ (k : ℕ). SlotsSay (set (m .counts) r (length ds)) (after .words) r k ((id, cs) ∷ x .later)) y behind))
 
+    names-now : after .names ≡ cacheNames (cacheOf (formerStored m r id ds)) ++ drop (B + n + T) ns
+    names-now = names-then ∙ rw (names-held f) (simp append-assoc)
+
     pub good-then : Good (formerStored m r id ds) (after .words) (after .names)
     good-then = record {
       sized = stored-sized m (g .sized) r id ds room f;
@@ -324,7 +327,7 @@ module _ (m : Memory) (ws ns : List ℕ) (g : Good m ws ns) (id : ℕ) (ds : Lis
           ∙ g .long;
       says = rw (then-is f) says-then;
       rest = drop (B + n + T) ns;
-      names = names-then ∙ rw (names-held f) (simp append-assoc);
+      names = names-now;
       few = omega (arith, held-length f, lies);
     }
 
@@ -335,3 +338,12 @@ module _ (m : Memory) (ws ns : List ℕ) (g : Good m ws ns) (id : ℕ) (ds : Lis
         let c = length-append (columnNames cs) (cacheNames (x .later) ++ drop (B + n + T) ns) in
         let d = length-append (cacheNames (x .later)) (drop (B + n + T) ns) in
         omega (arith, a, b, c, d, n-is, length-drop (B + n + T) ns, lies)
+
+    -- what stands behind the names stays as it was
+    pub behind-then : let held : List ℕ = cacheNames (cacheOf (formerStored m r id ds)) in
+        drop (length held) (after .names) ≡ drop (length held) ns
+    behind-then =
+        let held : List ℕ = cacheNames (cacheOf (formerStored m r id ds)) in
+        ap (drop (length held)) names-now
+        ∙ drop-append-seam held (drop (B + n + T) ns)
+        ∙ ap (λ (k : ℕ). drop k ns) (sym (held-length f))

@@ -5,7 +5,7 @@ use mathlib.Core.Bool.{true}
 use mathlib.Core.List.{List, [], _∷_, _++_}
 use mathlib.Core.Logic.{_⊎_}
 use Prim.Native.Nat.{ℕ, _<_, _≤_, min}
-use lib.ListN.{length}
+use lib.ListN.{length, take, drop}
 use lib.Pow.{areBytes}
 use Rattle.rows.specs.Rows.{Described, relation, Said, row, rowSaid}
 use Rattle.rows.specs.Head.{Answer, head, headOf, refusal}
@@ -54,7 +54,7 @@ pub record Lookups-alike : Type 0 where
       → named (memoryAfter (emptied names) ss .columns .names) (columnTold (memoryAfter (emptied names) ss) id k)
       ≡ named (formerAfter formerEmptied ss .columns .names) (formerTold (formerAfter formerEmptied ss) id k)
 
--- ---- too little room
+-- ---- where the names lie
 
 -- the bytes of the names of columns, one after the other, and those of all relations that are held
 unfoldable pub columnNames : List Column → List ℕ
@@ -64,6 +64,23 @@ columnNames (column v key oid ∷ cs) = v ++ columnNames cs
 unfoldable pub cacheNames : Cache → List ℕ
 cacheNames [] = []
 cacheNames (one ∷ others) = columnNames (one .1) ++ cacheNames others
+
+-- after any list of messages the names that are held lie at the front, one behind the other in the order of slots and columns
+abbrev pub Names-lie : Type 0
+Names-lie =
+    (names : List ℕ) (ss : List (List ℕ)) → AllBytes ss → Roomy names ss
+    → let held : List ℕ = cacheNames (cacheOf (formerAfter formerEmptied ss)) in
+    take (length held) (memoryAfter (emptied names) ss .columns .names) ≡ held
+
+-- what stands behind them after a message stood there before it; a message that is refused with 4 leaves all (`Refused-leaves-all`)
+abbrev pub Behind-stays : Type 0
+Behind-stays =
+    (names : List ℕ) (ss : List (List ℕ)) → AllBytes ss → Roomy names ss → (s : List ℕ) → areBytes s ≡ true
+    → let p : Packed = memoryAfter (emptied names) ss in (messageOf p (rowSaid s) .0 ≡ refusal 4 → ⊥)
+    → let held : List ℕ = cacheNames (cacheOf (formerMessage (formerAfter formerEmptied ss) (rowSaid s) .1)) in
+    drop (length held) (messageOf p (rowSaid s) .1 .columns .names) ≡ drop (length held) (p .columns .names)
+
+-- ---- too little room
 
 -- a Relation that the former layout takes is refused with 4 where the names of the relations that would then be held are longer than the names that
 -- are lent, or than 129,024 bytes
