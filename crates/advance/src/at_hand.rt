@@ -17,7 +17,7 @@ use worker::{DataEvent, Event, Offer, Queue, Run, State, Stepped, Verdict, Waite
 const FIRST_NEGATIVE: usize = FIRST_NEGATIVE_32 as usize;
 
 // The payload's length, 0 where no message is at hand; the server's end; the position that it reaches; its event.
-#[derive(Drop)]
+#[derive(Clone, Copy)]
 pub struct AtHand {
     pub len: usize,
     pub wal_end: Lsn,

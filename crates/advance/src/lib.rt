@@ -1,3 +1,4 @@
+#![tactic(auto)]
 // Up to four steps in one call, with the same input: until one of them has something to tell.
 mod at_hand;
 

@@ -1,9 +1,10 @@
+#![tactic(auto)]
 // A column of a relation in one word of 64 bits: key flag, type, length and place of its name. Document 02, wish 12.
 ghost use Rattle.std.specs.Prelude.{◌≡◌, ◌≤◌};
 ghost use Rattle.column_word.specs.Word.{word_of, column_in, key_bit};
 
 // What is held of a column beside the bytes of its name.
-#[derive(Drop)]
+#[derive(Clone, Copy)]
 pub struct Column {
     pub key: bool,
     pub type_oid: u32,

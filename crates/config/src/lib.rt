@@ -1,3 +1,4 @@
+#![tactic(auto)]
 // What of the Rust's configuration is bytes: the value of an option that lists names.
 ghost use Rattle.std.specs.Prelude.{◌≡◌, ◌+◌, ◌≤◌, length};
 ghost use Rattle.wire.specs.Bytes.{placed};

@@ -1,1 +1,2 @@
+#![tactic(auto)]
 // Definitions alone: all messages at hand, handed on in one call.

@@ -1,3 +1,4 @@
+#![tactic(auto)]
 // The refusals 1 to 25, the Rust's kind of error for each, and the count of lent names that refusal 25 limits. A crate whose own refusals have
 // further numbers declares an enum of its own, and offers a number and a kind for each of its cases as `Refusal` does here.
 ghost use Rattle.std.specs.Prelude.{◌≡◌, eqb};
@@ -5,7 +6,7 @@ ghost use Rattle.error.specs.Inputs.{total};
 ghost use Rattle.error.specs.Writer.{counted, count_of};
 ghost use Rattle.error.specs.Refusal.{number_of, kind_of, kind_at, kind_number, io, protocol, server, too_large};
 
-#[derive(Drop)]
+#[derive(Clone, Copy)]
 pub enum Refusal {
     IntervalTooLong, // an interval above its limit
     RunEnded, // the run has ended
@@ -35,7 +36,7 @@ pub enum Refusal {
 }
 
 // The kinds of the Rust's PgWireError that refusals have, its ParseLsnError, and Usage, which only the caller's own inputs bring about.
-#[derive(Drop)]
+#[derive(Clone, Copy)]
 pub enum Kind {
     Usage,
     Io,
@@ -49,14 +50,14 @@ pub enum Kind {
 pub const INPUT_LIMIT: usize = 1048576;
 
 // What a writer answers: how many bytes it wrote, or why it wrote none.
-#[derive(Drop)]
+#[derive(Clone, Copy)]
 pub enum Written {
     Wrote(usize),
     Refused(Refusal),
 }
 
 // The length of a text that is to be written, or that it is more than the room.
-#[derive(Drop)]
+#[derive(Clone, Copy)]
 pub enum Counted {
     Fits(usize),
     Over,

@@ -31,7 +31,7 @@ pub fn auth_words(request: AuthRequest) -> [u64; layout::AUTH_WORDS]
 }
 
 // A refusal's number, 0 for none, and the words of a column.
-#[derive(Drop)]
+#[derive(Clone, Copy)]
 pub struct ColumnReply {
     pub refusal: u64,
     pub words: [u64; layout::COLUMN_WORDS],

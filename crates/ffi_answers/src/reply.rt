@@ -10,14 +10,14 @@ use lossy::Lossy;
 use lsn::Parsed;
 use query::data_row::DataRow;
 
-#[derive(Drop)]
+#[derive(Clone, Copy)]
 pub struct Reply {
     pub refusal: u64,
     pub value: u64,
 }
 
 // A refusal's number, 0 for none, how many bytes of a text were written, and its marks.
-#[derive(Drop)]
+#[derive(Clone, Copy)]
 pub struct Shown {
     pub refusal: u64,
     pub written: u64,

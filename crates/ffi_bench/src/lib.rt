@@ -1,3 +1,4 @@
+#![tactic(auto)]
 // Functions for the benchmark to link: one read by a fresh reader, a CopyData, a boundary, a lossy text and a well-formed beginning as they are
 // found and on the plain path, a lossy text by the table throughout, a generated stream, and a relation cache in both layouts.
 mod caches;

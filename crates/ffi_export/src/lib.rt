@@ -1,3 +1,4 @@
+#![tactic(auto)]
 // Functions for a host in Rust or C: a run is 64 lent words, bytes are lent slices. No words are refused: any are the words of some run.
 // SCOPE 9. Each function converts words, calls one function of a crate below, and converts what that answers.
 // Beside a run's words at exit a contract has the run that they stand for, so that calls over words are calls over runs.

@@ -1,3 +1,4 @@
+#![tactic(auto)]
 // Reads messages from pieces of input: a tag byte, a length that counts itself, a payload.
 pub mod front;
 pub mod tag;
@@ -19,7 +20,7 @@ const FIRST_NEGATIVE: usize = wire::field::FIRST_NEGATIVE_32 as usize;
 
 // What a reader holds of a message: its header bytes, how many bytes came, header and payload together, the payload's length once the header
 // is there, and whether a message over the limit was met.
-#[derive(Drop)]
+#[derive(Clone, Copy)]
 pub struct MessageReader {
     pub header: [u8; 5],
     pub filled: usize,
@@ -27,14 +28,14 @@ pub struct MessageReader {
     pub refused: bool,
 }
 
-#[derive(Drop)]
+#[derive(Clone, Copy)]
 pub enum Answer {
     More,
     Whole(u8, usize),
     Refused(Refusal),
 }
 
-#[derive(Drop)]
+#[derive(Clone, Copy)]
 pub struct ReadStep {
     pub answer: Answer,
     pub reader: MessageReader,

@@ -1,3 +1,4 @@
+#![tactic(auto)]
 // Writers of the messages that a client sends.
 ghost use Rattle.std.specs.Prelude.{◌≡◌, ◌+◌, ◌≤◌, length};
 ghost use Rattle.wire.specs.Bytes.{placed};

@@ -1,3 +1,4 @@
+#![tactic(auto)]
 // Opening hours: whether a venue's hall is open at a moment, and when that next changes.
 pub mod layout;
 pub mod words;
@@ -26,14 +27,14 @@ const MOST_MOMENT: u64 = 4611686018427387904;
 const PAST: u64 = 4838400000000000000;
 
 // For each weekday, Monday first, the opening and the closing minute of its window; minutes that are added to UTC.
-#[derive(Drop)]
+#[derive(Clone, Copy)]
 pub struct Hours {
     pub opens: [u64; 7],
     pub closes: [u64; 7],
     pub offset: i64,
 }
 
-#[derive(Drop)]
+#[derive(Clone, Copy)]
 pub enum Refusal {
     InvalidWindow, // a window opens after it closes, or a minute is above 1,440
     OffsetOutOfRange, // the offset is outside -840 to 840
@@ -41,14 +42,14 @@ pub enum Refusal {
 }
 
 // When the hall's state next changes: at a moment, in microseconds from 2000-01-01 UTC, or never.
-#[derive(Drop)]
+#[derive(Clone, Copy)]
 pub enum Change {
     At(i64),
     Never,
 }
 
 // Whether the hall is open and when that next changes, or why the question is refused.
-#[derive(Drop)]
+#[derive(Clone, Copy)]
 pub enum Answer {
     Told(bool, Change),
     Refused(Refusal),

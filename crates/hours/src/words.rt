@@ -9,7 +9,7 @@ use wire::field::of_i64;
 use wire::word::flag;
 
 // A refusal's number, 0 for none, and the words of an answer, all 0 where it is refused.
-#[derive(Drop)]
+#[derive(Clone, Copy)]
 pub struct AnswerReply {
     pub refusal: u64,
     pub words: [u64; layout::HOURS_WORDS],

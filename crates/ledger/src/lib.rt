@@ -1,3 +1,4 @@
+#![tactic(auto)]
 // What may be reported of each file: a ledger is told the events that a run hands on and what is done, and answers the position before the first entry
 // that is not done. It is a value; its ring of entries is lent, three words an entry, in memory of any length.
 ghost use Rattle.std.specs.Prelude.{◌≡◌, ◌<◌};
@@ -24,7 +25,7 @@ pub const MESSAGE: u64 = 4;
 pub const ALL_FILES: u64 = 15;
 
 // What a ledger holds beside its ring.
-#[derive(Drop)]
+#[derive(Clone, Copy)]
 pub struct Ledger {
     pub start: u64,
     pub seen: u64, // the largest end of an entry, or wal_end of a keepalive outside a transaction, in this stream
@@ -41,7 +42,7 @@ pub struct Ledger {
 }
 
 // An entry: its end, the stable position before it, the files that it touches.
-#[derive(Drop)]
+#[derive(Clone, Copy)]
 pub struct Entry {
     pub end: u64,
     pub before: u64,
@@ -49,7 +50,7 @@ pub struct Entry {
 }
 
 // Why a call is refused.
-#[derive(Drop)]
+#[derive(Clone, Copy)]
 pub enum LedgerRefusal {
     EndNotAbove, // an entry's end is not above what was told before it
     AboveHandedOn, // what is done lies above every entry told
@@ -57,14 +58,14 @@ pub enum LedgerRefusal {
 }
 
 // The ledger after a call, and the refusal's number, 0 for none.
-#[derive(Drop)]
+#[derive(Clone, Copy)]
 pub struct Answer {
     pub ledger: Ledger,
     pub refusal: u64,
 }
 
 // A file's position, and the refusal's number, 0 for none.
-#[derive(Drop)]
+#[derive(Clone, Copy)]
 pub struct Position {
     pub position: u64,
     pub refusal: u64,

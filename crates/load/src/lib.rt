@@ -1,3 +1,4 @@
+#![tactic(auto)]
 // A bench load: a server's stream of so many messages from a seed, and what each of them is. Document 02, wish 13.
 mod draw;
 pub mod layout;
@@ -13,7 +14,7 @@ use error::Counted;
 
 // What a message says: a keepalive's end and whether it asks for a reply; of XLogData start and end, and of its data the values of a Begin or
 // a Commit, or how many letters follow an `I`. Times and flags are 0.
-#[derive(Drop)]
+#[derive(Clone, Copy)]
 pub enum Message {
     KeepAlive {
         end: u64,
@@ -39,20 +40,20 @@ pub enum Message {
 }
 
 // A message, and the state from which the next one is drawn.
-#[derive(Drop)]
+#[derive(Clone, Copy)]
 pub struct Made {
     pub message: Message,
     pub state: u64,
 }
 
-#[derive(Drop)]
+#[derive(Clone, Copy)]
 pub enum Refusal {
     Writer(error::Refusal), // a writer's own: the stream is longer than the output
     SeedZero, // from 0 only 0 is drawn
 }
 
 // How many bytes were written, or why none were.
-#[derive(Drop)]
+#[derive(Clone, Copy)]
 pub enum Loaded {
     Wrote(usize),
     Refused(Refusal),

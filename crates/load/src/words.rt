@@ -7,7 +7,7 @@ use crate::{Loaded, Message, layout};
 use wire::word::flag;
 
 // A refusal's number, 0 for none, and how many bytes were written.
-#[derive(Drop)]
+#[derive(Clone, Copy)]
 pub struct LoadedReply {
     pub refusal: u64,
     pub written: u64,

@@ -1,3 +1,4 @@
+#![tactic(auto)]
 // Lossy text: what String::from_utf8_lossy makes of a byte string.
 mod blocks;
 pub mod by_table;
@@ -19,21 +20,21 @@ use error::{Counted, INPUT_LIMIT, Refusal};
 use wire::store::{NOWHERE, least};
 
 // What the lossy writer answers: how many bytes it wrote and how many marks it put in, or why it wrote none.
-#[derive(Drop)]
+#[derive(Clone, Copy)]
 pub enum Lossy {
     Wrote { bytes: usize, marks: usize },
     Refused(Refusal),
 }
 
 // How many bytes and marks a text has that is to be written, or that it is longer than the room.
-#[derive(Drop)]
+#[derive(Clone, Copy)]
 pub enum Measured {
     Fits { bytes: usize, marks: usize },
     Over,
 }
 
 // Where the well-formed parts that begin at a place end, and how long the ill-formed part is that stands there: 0 at the end of the text.
-#[derive(Drop)]
+#[derive(Clone, Copy)]
 struct Stretch {
     end: usize,
     ill: usize,

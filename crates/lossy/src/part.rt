@@ -4,14 +4,14 @@ ghost use Rattle.utf8.specs.WellFormed.{table, row_of, matched};
 ghost use Rattle.lossy.specs.Code.{behind_first, trail, first_in, PartAt};
 
 // How many bytes a part has, and whether they are a well-formed sequence.
-#[derive(Drop)]
+#[derive(Clone, Copy)]
 pub(crate) struct Part {
     pub len: usize,
     pub well: bool,
 }
 
 // What may follow a first byte: how many bytes are due, and the range of the next of them; those after it are 80 to BF.
-#[derive(Drop)]
+#[derive(Clone, Copy)]
 pub(crate) struct Lead {
     pub begins: bool,
     pub due: usize,

@@ -2,7 +2,7 @@
 ghost use Rattle.std.specs.Prelude.{◌≡◌};
 ghost use Rattle.lsn.specs.Hex.{digit_of, digit_is, hex_part, part_of};
 
-#[derive(Drop)]
+#[derive(Clone, Copy)]
 pub(crate) enum HexPart {
     Value(u64),
     Invalid,

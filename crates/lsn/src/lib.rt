@@ -1,3 +1,4 @@
+#![tactic(auto)]
 // Log positions.
 mod hex;
 
@@ -15,10 +16,10 @@ use wire::store::NOWHERE;
 const HALF: u64 = 4294967296;
 
 // A position in the server's log.
-#[derive(Drop)]
+#[derive(Clone, Copy)]
 pub struct Lsn(pub u64);
 
-#[derive(Drop)]
+#[derive(Clone, Copy)]
 pub enum Parsed {
     Position(Lsn),
     Refused(Refusal),

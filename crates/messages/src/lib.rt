@@ -1,3 +1,4 @@
+#![tactic(auto)]
 // Server messages outside the copy stream: the fields of an error, its text, authentication requests.
 ghost use Rattle.std.specs.Prelude.{◌≡◌, ◌+◌, length};
 ghost use Rattle.wire.specs.Find.{index_of, found_of};
@@ -18,7 +19,7 @@ use wire::find::Found;
 const LETTERS: [u8; 15] = *b"SCMDHPWstcdnFLR";
 
 // A field of an error: a part of the payload, where it is given.
-#[derive(Drop)]
+#[derive(Clone, Copy)]
 pub struct Field {
     pub given: bool,
     pub from: usize,
@@ -26,13 +27,13 @@ pub struct Field {
 }
 
 // The fifteen fields, in the order of their letters.
-#[derive(Drop)]
+#[derive(Clone, Copy)]
 pub struct ErrorFields {
     pub fields: [Field; 15],
 }
 
 // What an authentication request asks: its code, and a part of the payload.
-#[derive(Drop)]
+#[derive(Clone, Copy)]
 pub enum AuthRequest {
     Request { code: i32, from: usize, len: usize },
     Refused(Refusal),

@@ -1,3 +1,4 @@
+#![tactic(auto)]
 // Counters of a run.
 ghost use Rattle.std.specs.Prelude.{◌≡◌};
 ghost use Rattle.metrics.specs.Metrics.{no_counts, with_event, with_status, with_reply, with_stall, with_stall_end, with_end};
@@ -6,7 +7,7 @@ use lsn::Lsn;
 
 // The Rust's names: events handed on, statuses sent, those in reply to a keepalive, stalls begun, microseconds of stalls that ended, the position
 // last confirmed, the server's end last told.
-#[derive(Drop)]
+#[derive(Clone, Copy)]
 pub struct Metrics {
     pub events_forwarded: u64,
     pub feedback_sent: u64,

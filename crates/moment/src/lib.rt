@@ -1,3 +1,4 @@
+#![tactic(auto)]
 // Moments of a clock, in nanoseconds. A type of its own, so that no moment is compared with a log position.
 ghost use Rattle.std.specs.Prelude.{◌≡◌};
 ghost use Rattle.moment.specs.Moment.{is_before, in_range, since_of};
@@ -5,7 +6,7 @@ ghost use Rattle.moment.specs.Moment.{is_before, in_range, since_of};
 // The last moment.
 pub const LAST: u64 = 9223372036854775807;
 
-#[derive(Drop)]
+#[derive(Clone, Copy)]
 pub struct Moment(pub u64);
 
 impl Moment {

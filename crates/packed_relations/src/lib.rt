@@ -1,3 +1,4 @@
+#![tactic(auto)]
 // A relation cache with each column in one word: key flag, type, length and place of its name. Document 02, wish 12.
 // The memory is lent: how many relations are held, their identifiers, their column counts, a word of each column, and the names. Column c of the
 // relation in slot r has number 32 r + c. The names lie without gaps, in the order of these numbers, in a slice of any length.

@@ -100,7 +100,7 @@ fn store_words(
 }
 
 // Whether there is room for the names of a slot, and where they begin.
-#[derive(Drop)]
+#[derive(Clone, Copy)]
 struct Room {
     given: bool,
     place: usize,

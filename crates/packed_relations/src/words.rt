@@ -11,7 +11,7 @@ use rows::words::{RowReply, no_head, row_reply};
 use wire::word::flag;
 
 // Whether a relation is held, 1 or 0, and how many columns it has.
-#[derive(Drop)]
+#[derive(Clone, Copy)]
 pub struct CountReply {
     pub held: u64,
     pub columns: u64,

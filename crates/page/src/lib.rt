@@ -1,3 +1,4 @@
+#![tactic(auto)]
 // The service page of a run: six lines of 32 characters and a newline.
 ghost use Rattle.std.specs.Prelude.{◌≡◌, ◌≤◌, length};
 ghost use Rattle.wire.specs.Bytes.{placed};
@@ -18,7 +19,7 @@ pub const PAGE: usize = 198;
 
 // What the page shows: the position that a status would confirm now, whether there was a status and what the last one confirmed, the server's end,
 // events handed on, stalls begun, and the state's row in the step table, counted from 0.
-#[derive(Drop)]
+#[derive(Clone, Copy)]
 pub struct Page {
     pub position: Lsn,
     pub sent: bool,

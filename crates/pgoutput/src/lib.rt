@@ -1,3 +1,4 @@
+#![tactic(auto)]
 // The boundaries in the data of an XLogData.
 ghost use Rattle.std.specs.Prelude.{◌≡◌};
 ghost use Rattle.pgoutput.specs.Boundary.{boundary_of, said_by, begin_at, commit_at, message_at};
@@ -8,7 +9,7 @@ use wire::field::{FIRST_NEGATIVE_32, I64Field, U8Field, U32Field, U64Field};
 use wire::find::Found;
 
 // Prefix and content are parts of the data.
-#[derive(Drop)]
+#[derive(Clone, Copy)]
 pub enum Boundary {
     Begin {
         final_lsn: Lsn,

@@ -1,3 +1,4 @@
+#![tactic(auto)]
 // Reads stored positions from standard input, one a line, and prints of each Display's spelling, or the refusal's number, a space and the line.
 mod stored;
 
@@ -43,7 +44,7 @@ fn piece(t: Told, bytes: &[u8], line: &mut [u8], out: &mut [u8]) -> Told {
 }
 
 // What stands after a piece, and whether there may be another.
-#[derive(Drop)]
+#[derive(Clone, Copy)]
 struct After {
     turn: Told,
     go: bool,

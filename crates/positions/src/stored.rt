@@ -7,14 +7,14 @@ use lsn::{Lsn, Parsed};
 use wire::store::least;
 
 // How many bytes of the line so far are held, and whether it has more, of which all were printed as they came.
-#[derive(Drop)]
+#[derive(Clone, Copy)]
 pub(crate) struct Held {
     pub n: usize,
     pub long: bool,
 }
 
 // What is held after a byte, and the place after all that is to be printed.
-#[derive(Drop)]
+#[derive(Clone, Copy)]
 pub(crate) struct Told {
     pub held: Held,
     pub at: usize,

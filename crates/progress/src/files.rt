@@ -11,7 +11,7 @@ use lsn::Lsn;
 use moment::Moment;
 
 // The files are numbered from 0 to 3.
-#[derive(Drop)]
+#[derive(Clone, Copy)]
 pub struct Files {
     pub zero: Lsn,
     pub one: Lsn,
@@ -20,7 +20,7 @@ pub struct Files {
 }
 
 // A pending moment of 0 stands for none.
-#[derive(Drop)]
+#[derive(Clone, Copy)]
 pub struct Progress {
     pub files: Files,
     pub signalled: bool,
@@ -29,20 +29,20 @@ pub struct Progress {
 }
 
 // Why a report is refused.
-#[derive(Drop)]
+#[derive(Clone, Copy)]
 pub enum FileRefusal {
     NoSuchFile, // the file's number is above 3
 }
 
 // Whether a report was accepted, or why it was not.
-#[derive(Drop)]
+#[derive(Clone, Copy)]
 pub enum FileVerdict {
     Accepted,
     Refused(FileRefusal),
 }
 
 // The progress after a report.
-#[derive(Drop)]
+#[derive(Clone, Copy)]
 pub struct Filed {
     pub progress: Progress,
     pub verdict: FileVerdict,

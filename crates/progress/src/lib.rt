@@ -1,3 +1,4 @@
+#![tactic(auto)]
 // The position that a status would confirm, and what is known of reports that were not yet confirmed. Module `files` has the four files of a run,
 // over this cell.
 pub mod files;
@@ -9,7 +10,7 @@ use lsn::Lsn;
 use moment::Moment;
 
 // A pending moment of 0 stands for none.
-#[derive(Drop)]
+#[derive(Clone, Copy)]
 pub struct ProgressCell {
     pub applied: Lsn,
     pub signalled: bool,
@@ -18,21 +19,21 @@ pub struct ProgressCell {
 }
 
 // The cell after a raise, and whether the signal is new.
-#[derive(Drop)]
+#[derive(Clone, Copy)]
 pub struct Raised {
     pub cell: ProgressCell,
     pub wake: bool,
 }
 
 // The cell with its signal cleared, and its position.
-#[derive(Drop)]
+#[derive(Clone, Copy)]
 pub struct Looked {
     pub cell: ProgressCell,
     pub applied: Lsn,
 }
 
 // The cell after a status, and the moment that was pending.
-#[derive(Drop)]
+#[derive(Clone, Copy)]
 pub struct Reported {
     pub cell: ProgressCell,
     pub since: Moment,

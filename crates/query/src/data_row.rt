@@ -8,21 +8,21 @@ use crate::Column;
 use error::Refusal;
 use wire::field::{FIRST_NEGATIVE_16, FIRST_NEGATIVE_32, U16Field, U32Field};
 
-#[derive(Drop)]
+#[derive(Clone, Copy)]
 pub enum DataRow {
     Columns(usize),
     Refused(Refusal),
 }
 
 // A column, and the place after it.
-#[derive(Drop)]
+#[derive(Clone, Copy)]
 enum Next {
     At(Column, usize),
     Cut,
 }
 
 // How many columns a DataRow has, and one of them.
-#[derive(Drop)]
+#[derive(Clone, Copy)]
 enum Walked {
     DataRow(usize, Column),
     Malformed,

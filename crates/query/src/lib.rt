@@ -1,3 +1,4 @@
+#![tactic(auto)]
 // DataRow, and the answers to a simple query.
 pub mod data_row;
 pub mod simple;
@@ -6,7 +7,7 @@ use error::Refusal;
 
 // A column of a DataRow: a value is a part of the payload, and a malformed row is refused. (It stands here, since one module cannot have a
 // `Column` and a `column`.)
-#[derive(Drop)]
+#[derive(Clone, Copy)]
 pub enum Column {
     Null,
     Part(usize, usize),

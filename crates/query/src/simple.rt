@@ -9,14 +9,14 @@ use crate::data_row::DataRow;
 use error::Refusal;
 
 // Whether an ErrorResponse came, how many of its bytes stand in the buffer, and how many it had.
-#[derive(Drop)]
+#[derive(Clone, Copy)]
 pub struct SimpleQuery {
     pub failed: bool,
     pub kept: usize,
     pub len: usize,
 }
 
-#[derive(Drop)]
+#[derive(Clone, Copy)]
 pub enum Answer {
     More,
     DataRow(usize),
@@ -27,7 +27,7 @@ pub enum Answer {
 }
 
 // What a message answers, and the query after it.
-#[derive(Drop)]
+#[derive(Clone, Copy)]
 pub struct Step {
     pub query: SimpleQuery,
     pub answer: Answer,

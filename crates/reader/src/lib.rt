@@ -1,3 +1,4 @@
+#![tactic(auto)]
 // A reader over lent data, in place of the Rust's `&mut &[u8]`: the data and a place in them. It is made at a place, moved by `skip`, and reads what
 // stands there; what it reads is read by functions on the data and a place.
 ghost use Rattle.std.specs.Prelude.{◌≡◌, ◌-◌, drop, length};
@@ -9,7 +10,7 @@ ghost use Rattle.reader.specs.Skip.{skipped};
 use wire::field::{I64Field, U8Field, U32Field, U64Field};
 use wire::find::Found;
 
-#[derive(Drop)]
+#[derive(Clone, Copy)]
 pub struct Reader<'a> {
     pub bytes: &'a [u8],
     pub place: usize,

@@ -1,3 +1,4 @@
+#![tactic(auto)]
 // A relation cache: what the Relation messages of a stream said of their columns, and rows matched with it. SCOPE 17.
 // specs/ say it by its meaning and for one layout of a lent memory: how many relations are held, their identifiers, their column counts; and for each
 // column its type, its flags, its name's length and its name. Column c of the relation in slot r has number 32 r + c, and its name stands from byte
@@ -24,7 +25,7 @@ pub const COLUMNS: usize = 32;
 pub const NAME: usize = 63;
 
 // Why a message is refused that is well-formed: 28 to 30, and 4.
-#[derive(Drop)]
+#[derive(Clone, Copy)]
 pub enum Refusal {
     CacheFull, // 64 other relations are held
     TooLarge, // a relation has more than 32 columns or a name of more than 63 bytes
@@ -33,14 +34,14 @@ pub enum Refusal {
 }
 
 // What a message is answered with: what its data say, which may be refused with 26 or 27, or a refusal of the cache.
-#[derive(Drop)]
+#[derive(Clone, Copy)]
 pub enum Answer {
     Read(Row),
     Refused(Refusal),
 }
 
 // A Relation's identifier, how many columns it has, and where the first description stands.
-#[derive(Drop)]
+#[derive(Clone, Copy)]
 pub enum Related {
     Of {
         id: u32,
@@ -51,21 +52,21 @@ pub enum Related {
 }
 
 // Whether the cache takes a message.
-#[derive(Drop)]
+#[derive(Clone, Copy)]
 pub enum Verdict {
     Accepted,
     Refused(Refusal),
 }
 
 // How many columns a relation has, if it is held.
-#[derive(Drop)]
+#[derive(Clone, Copy)]
 pub enum Count {
     Columns(usize),
     NotHeld,
 }
 
 // A column of a held relation: where its name stands among the lent names, whether it is of the key, its type.
-#[derive(Drop)]
+#[derive(Clone, Copy)]
 pub enum Column {
     Of { name: Part, key: bool, oid: u32 },
     Absent,

@@ -1,3 +1,4 @@
+#![tactic(auto)]
 // CopyData of the replication stream.
 ghost use Rattle.std.specs.Prelude.{◌≡◌};
 ghost use Rattle.replication.specs.CopyData.{copy_data_of, said_by, xlog_of, keep_alive_of, is_xlog_data, is_keep_alive, asks_reply};
@@ -7,7 +8,7 @@ use lsn::Lsn;
 use wire::field::{I64Field, U8Field, U64Field};
 
 // The data are a part of the payload.
-#[derive(Drop)]
+#[derive(Clone, Copy)]
 pub enum CopyData {
     XLogData {
         wal_start: Lsn,

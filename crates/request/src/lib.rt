@@ -1,3 +1,4 @@
+#![tactic(auto)]
 // The query of start_replication, written straight into the output: its length is known before.
 ghost use Rattle.std.specs.Prelude.{◌≡◌, ◌+◌, ◌≤◌, ◌<◌, ◌^◌, length};
 ghost use Rattle.wire.specs.Bytes.{placed};

@@ -1,3 +1,4 @@
+#![tactic(auto)]
 // The messages of pgoutput that carry rows: Relation, Type, Origin, Insert, Update, Delete and Truncate of protocol version 1. Data are judged to the
 // row's end and answered by its head; columns, descriptions and identifiers are then read one by one, each at the place that the last one answered.
 pub mod items;
@@ -14,35 +15,35 @@ ghost use Rattle.rows.specs.Rows.{boundary_letter, row_said};
 use error::Kind;
 
 // Why data are refused, 26 and 27.
-#[derive(Drop)]
+#[derive(Clone, Copy)]
 pub enum Refusal {
     FieldCut, // a field is cut short, or a count or length is negative
     UnknownLetter, // a letter stands where the document does not list it
 }
 
 // A part of the data.
-#[derive(Drop)]
+#[derive(Clone, Copy)]
 pub struct Part {
     pub from: usize,
     pub len: usize,
 }
 
 // How many columns there are, and where the first one stands.
-#[derive(Drop)]
+#[derive(Clone, Copy)]
 pub struct Tuple {
     pub columns: usize,
     pub from: usize,
 }
 
 // Which columns of the old row are sent: the key's, or all of them.
-#[derive(Drop)]
+#[derive(Clone, Copy)]
 pub enum Which {
     Key,
     Old,
 }
 
 // A row's head: its numbers, its names as parts, and where its columns, descriptions or identifiers begin.
-#[derive(Drop)]
+#[derive(Clone, Copy)]
 pub enum Row {
     Relation {
         id: u32,
@@ -90,7 +91,7 @@ pub enum Row {
 }
 
 // A column of a tuple, and the place of the next one.
-#[derive(Drop)]
+#[derive(Clone, Copy)]
 pub enum Column {
     Null(usize),
     Unchanged(usize),
@@ -100,7 +101,7 @@ pub enum Column {
 }
 
 // A column of a relation, and the place of the next one.
-#[derive(Drop)]
+#[derive(Clone, Copy)]
 pub enum Description {
     Of {
         flags: u8,
@@ -113,28 +114,28 @@ pub enum Description {
 }
 
 // A relation of a Truncate, and the place of the next one.
-#[derive(Drop)]
+#[derive(Clone, Copy)]
 pub enum Identifier {
     Of(u32, usize),
     Refused(Refusal),
 }
 
 // A name, and the place after its zero byte.
-#[derive(Drop)]
+#[derive(Clone, Copy)]
 enum Name {
     At(Part, usize),
     Cut,
 }
 
 // A value, and the place after it.
-#[derive(Drop)]
+#[derive(Clone, Copy)]
 enum Bytes {
     At(Part, usize),
     Cut,
 }
 
 // What is repeated in a message.
-#[derive(Drop)]
+#[derive(Clone, Copy)]
 enum Item {
     Column,
     Description,
@@ -142,14 +143,14 @@ enum Item {
 }
 
 // The place after fields.
-#[derive(Drop)]
+#[derive(Clone, Copy)]
 enum End {
     At(usize),
     Refused(Refusal),
 }
 
 // How many there are and where the first one stands, and the place after the last.
-#[derive(Drop)]
+#[derive(Clone, Copy)]
 enum Counted {
     Of(Tuple, usize),
     Refused(Refusal),

@@ -11,28 +11,28 @@ use crate::{Column, Description, Identifier, Part, Row, Tuple, Which, layout};
 use wire::field::of_i64;
 
 // A refusal's number, 0 for none, and the words of a head.
-#[derive(Drop)]
+#[derive(Clone, Copy)]
 pub struct RowReply {
     pub refusal: u64,
     pub words: [u64; layout::ROW_WORDS],
 }
 
 // The place of the next column of a tuple, 0 where it is refused, and the words of this one.
-#[derive(Drop)]
+#[derive(Clone, Copy)]
 pub struct ColumnReply {
     pub next: u64,
     pub words: [u64; layout::TUPLE_WORDS],
 }
 
 // The place after a description of a column, 0 where there is none, and its words.
-#[derive(Drop)]
+#[derive(Clone, Copy)]
 pub struct DescriptionReply {
     pub next: u64,
     pub words: [u64; layout::DESCRIPTION_WORDS],
 }
 
 // The place after a relation's identifier in a Truncate, 0 where there is none, and its words.
-#[derive(Drop)]
+#[derive(Clone, Copy)]
 pub struct IdentifierReply {
     pub next: u64,
     pub words: [u64; layout::IDENTIFIER_WORDS],

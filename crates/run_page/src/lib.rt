@@ -1,3 +1,4 @@
+#![tactic(auto)]
 // The service page of a run.
 ghost use Rattle.std.specs.Prelude.{◌≡◌};
 ghost use Rattle.error.specs.Writer.{writing, outcome};

@@ -1,3 +1,4 @@
+#![tactic(auto)]
 // When to call a step again, for an event loop.
 ghost use Rattle.std.specs.Prelude.{◌≡◌, min, get_or};
 ghost use Rattle.schedule.specs.NextStep.{next_by, due_of, by_clock, is_whole, opening_next, reading_next, waiting_next, offering_next, next_step_of};
@@ -13,7 +14,7 @@ const BEYOND: u64 = moment::LAST + 1;
 // When a step moves next while nothing new comes: no byte, no end of the input, no stop, no change of the queue, no report.
 // From: no step moves before this moment, and every step from it on does; it may lie at or before the last accepted moment.
 // OnInput: no step moves until something comes. Never: the run has ended.
-#[derive(Drop)]
+#[derive(Clone, Copy)]
 pub enum NextStep {
     AtOnce,
     From(Moment),

@@ -5,7 +5,7 @@ use rows::Row;
 use test_lines::fields;
 
 // What a message is told as: the relation of its row, nothing, or a refusal's number.
-#[derive(Drop)]
+#[derive(Clone, Copy)]
 enum Told {
     Of(u32),
     Nothing,

@@ -1,3 +1,4 @@
+#![tactic(auto)]
 // Reads records from standard input to its end and prints the line of each: rows, and what follows from them.
 mod cache;
 mod row;
@@ -28,7 +29,7 @@ fn line_buffer() -> [u8; 1048576]
 
 // What a record begins with: its kind, how long its output is, the byte that fills it, and how long its input is. No kind of this program has
 // an output.
-#[derive(Drop)]
+#[derive(Clone, Copy)]
 struct Head {
     kind: u8,
     room: usize,

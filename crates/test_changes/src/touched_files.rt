@@ -7,7 +7,7 @@ use wire::store::least;
 const PIECE: usize = 65536;
 
 // What stands at a place of the input.
-#[derive(Drop)]
+#[derive(Clone, Copy)]
 enum Shown {
     Begin,
     Data(usize, usize),
@@ -16,7 +16,7 @@ enum Shown {
 }
 
 // An event as a host hands it on: its kind, and the place and the length of its data in the input.
-#[derive(Drop)]
+#[derive(Clone, Copy)]
 struct Lent {
     kind: u64,
     from: usize,
@@ -24,7 +24,7 @@ struct Lent {
 }
 
 // Where a line goes on, and the bits.
-#[derive(Drop)]
+#[derive(Clone, Copy)]
 struct Turn {
     at: usize,
     bits: u64,

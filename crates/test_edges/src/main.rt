@@ -1,3 +1,4 @@
+#![tactic(auto)]
 // Answers that no record of `test_leaves` and no script of `test_replay` can show: the kinds of refusals, columns that a row does not have, errors that a short
 // buffer cuts, and a reader whose buffer is short for one read. A line is a letter and four numbers.
 mod folds;

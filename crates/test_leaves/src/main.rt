@@ -1,3 +1,4 @@
+#![tactic(auto)]
 // Reads records from standard input to its end and prints the line of each.
 mod boundaries;
 mod calendar;
@@ -24,7 +25,7 @@ fn line_buffer() -> [u8; 524288]
 }
 
 // What a record begins with: its kind, how long its output is, the byte that fills it, and how long its input is.
-#[derive(Drop)]
+#[derive(Clone, Copy)]
 struct Head {
     kind: u8,
     room: usize,

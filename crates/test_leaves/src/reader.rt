@@ -9,7 +9,7 @@ use wire::store::least;
 
 // The reader, how many bytes were taken, what is left of the piece that is offered, where the line goes on, whether reading does, and whether a
 // refusal ended it.
-#[derive(Drop)]
+#[derive(Clone, Copy)]
 struct Feed {
     reader: MessageReader,
     at: usize,

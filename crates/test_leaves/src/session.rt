@@ -8,7 +8,7 @@ use query::simple::{Answer, SimpleQuery, Step};
 use wire::store::least;
 
 // Where the line goes on, and whether the query does.
-#[derive(Drop)]
+#[derive(Clone, Copy)]
 struct Line {
     at: usize,
     go: bool,
@@ -18,7 +18,7 @@ struct Line {
 const OUTSIDE: u8 = 255;
 
 // What a read answered: a whole message, or the refusal, 0 where the bytes end before.
-#[derive(Drop)]
+#[derive(Clone, Copy)]
 struct Heard {
     whole: bool,
     tag: u8,
@@ -27,7 +27,7 @@ struct Heard {
 }
 
 // The reader, the query, how many bytes were taken, and the line.
-#[derive(Drop)]
+#[derive(Clone, Copy)]
 struct Session {
     reader: MessageReader,
     query: SimpleQuery,

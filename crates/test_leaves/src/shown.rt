@@ -2,7 +2,7 @@
 use lsn::Lsn;
 
 // One field of a line.
-#[derive(Drop)]
+#[derive(Clone, Copy)]
 pub(crate) enum Item {
     Empty,
     Null,
@@ -15,7 +15,7 @@ pub(crate) enum Item {
 }
 
 // The refusal, a letter or 0 for none, and up to four fields.
-#[derive(Drop)]
+#[derive(Clone, Copy)]
 pub(crate) struct Items {
     pub(crate) refusal: u8,
     pub(crate) letter: u8,

@@ -10,7 +10,7 @@ use lsn::Lsn;
 use test_lines::fields;
 
 // What a writer answered, or that the record is malformed.
-#[derive(Drop)]
+#[derive(Clone, Copy)]
 pub(crate) struct Answer {
     pub(crate) good: bool,
     pub(crate) refusal: u8,

@@ -46,8 +46,8 @@ bytes_texts [] = (32 ∷ 45 ∷ []) ∷ []
 bytes_texts (b ∷ s) = field (hex_bytes (b ∷ s))
 
 -- whether a part lies within a slice
-abbrev pub is_within_windows : List ℕ → ℕ → ℕ → Bool
-is_within_windows s from len = leb (from + len) (length s)
+abbrev pub is_within : List ℕ → ℕ → ℕ → Bool
+is_within s from len = leb (from + len) (length s)
 
 -- ` outside`
 abbrev pub outside_texts : List (List ℕ)
@@ -55,7 +55,7 @@ outside_texts = (32 ∷ 111 ∷ 117 ∷ 116 ∷ 115 ∷ 105 ∷ 100 ∷ 101 ∷ 
 
 -- the bytes that a part names, or that it does not lie within the slice
 unfoldable pub part_texts : List ℕ → ℕ → ℕ → List (List ℕ)
-part_texts s from len = pick (is_within_windows s from len) (bytes_texts (at s from len)) outside_texts
+part_texts s from len = pick (is_within s from len) (bytes_texts (at s from len)) outside_texts
 
 abbrev pub position_texts : ℕ → List (List ℕ)
 position_texts p = field (display_of p)

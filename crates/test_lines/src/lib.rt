@@ -1,10 +1,11 @@
+#![tactic(auto)]
 // The fields of a program's line, each placed after the last, and what programs do with buffers.
 pub mod fields;
 pub mod names;
 
 ghost use Rattle.std.specs.Prelude.{◌≡◌, false, ◌-◌, ◌<◌, length, replicate};
 ghost use Rattle.wire.specs.Bytes.{pick};
-ghost use Rattle.test_lines.specs.Line.{sum_next, sum_of, after_of, pieces, number_texts, signed_texts, flag_texts, is_within_windows, outside_texts, part_texts};
+ghost use Rattle.test_lines.specs.Line.{sum_next, sum_of, after_of, pieces, number_texts, signed_texts, flag_texts, is_within, outside_texts, part_texts};
 ghost use Rattle.test_lines.specs.Line.{bytes_texts, position_texts, dated_texts, spanned_texts, flagged_texts, end_texts};
 
 use lsn::Lsn;
@@ -92,7 +93,7 @@ pub fn flag(line: &mut [u8], at: usize, on: bool) -> usize
 
 // Whether a part lies within a slice.
 pub fn within(s: &[u8], from: usize, len: usize) -> bool
-    ensures { result ≡ is_within_windows s.now from len }
+    ensures { result ≡ is_within s.now from len }
 {
     if s.len() < from {
         return false;

@@ -5,7 +5,7 @@ ghost use Rattle.test_lines.specs.Fields.{name_at};
 use crate::fields;
 use wire::store::least;
 
-#[derive(Drop)]
+#[derive(Clone, Copy)]
 pub struct Name {
     pub from: usize,
     pub to: usize,

@@ -13,7 +13,7 @@ use Rattle.text.specs.Numeral.{decimal_text, signed_text, hex_bytes}
 use Rattle.lossy.specs.Lossy.{lossy_of}
 use Rattle.lsn.specs.declared.Lsn.{Lsn}
 use Rattle.lsn.specs.Position.{display_of}
-use Rattle.test_lines.specs.Line.{field, bytes_texts, is_within_windows, outside_texts, part_texts, spanned_texts, flagged_texts}
+use Rattle.test_lines.specs.Line.{field, bytes_texts, is_within, outside_texts, part_texts, spanned_texts, flagged_texts}
 use Rattle.test_lines.proofs.Laws.{part_none, part_some}
 use Rattle.test_playing.specs.Spelling.{part_by, prefix_by, length_texts, lossy_length, fitting}
 use Rattle.test_playing.specs.EventLines.{joined, then, outside, PartText, PrefixText, digit, EventLines}

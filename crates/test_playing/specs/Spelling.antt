@@ -6,7 +6,7 @@ use Rattle.wire.specs.Bytes.{pick, at}
 use Rattle.error.specs.Writer.{counted}
 use Rattle.lossy.specs.Lossy.{lossy_of}
 use Rattle.lsn.specs.declared.Lsn.{Lsn}
-use Rattle.test_lines.specs.Line.{number_texts, flag_texts, is_within_windows, outside_texts, part_texts, position_texts, dated_texts, spanned_texts, flagged_texts, end_texts}
+use Rattle.test_lines.specs.Line.{number_texts, flag_texts, is_within, outside_texts, part_texts, position_texts, dated_texts, spanned_texts, flagged_texts, end_texts}
 use Rattle.worker.specs.declared.Event.{Event}
 use Rattle.worker.specs.declared.Event.TheVariants.{Nothing, KeepAlive, Begin, Commit, Message, XLogData, StoppedAt}
 
@@ -16,7 +16,7 @@ stopped_texts p = (83 ∷ []) ∷ position_texts p.0
 
 -- a part of the payload: its length, or its bytes
 abbrev pub length_texts : List ℕ → ℕ → ℕ → ℕ → List (List ℕ)
-length_texts payload from len n = pick (is_within_windows payload from len) (number_texts n) outside_texts
+length_texts payload from len n = pick (is_within payload from len) (number_texts n) outside_texts
 
 abbrev pub part_by : Bool → List ℕ → ℕ → ℕ → List (List ℕ)
 part_by brief payload from len = pick brief (length_texts payload from len len) (part_texts payload from len)
@@ -29,7 +29,7 @@ fitting none = 0
 -- the length of a part's lossy text, as far as 64 bits have it; 0 for a part that lies outside
 unfoldable pub lossy_length : List ℕ → ℕ → ℕ → ℕ
 lossy_length payload from len =
-    pick (is_within_windows payload from len) (fitting (counted 18446744073709551615 (length (lossy_of (at payload from len))))) 0
+    pick (is_within payload from len) (fitting (counted 18446744073709551615 (length (lossy_of (at payload from len))))) 0
 
 -- a prefix: the length of its text, or its bytes
 abbrev pub prefix_by : Bool → List ℕ → ℕ → ℕ → List (List ℕ)

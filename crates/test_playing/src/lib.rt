@@ -1,3 +1,4 @@
+#![tactic(auto)]
 // Server bytes played through a run that is already open, and the events that it hands on: what the programs `events` and `test_streams` do.
 pub mod spelling;
 
@@ -29,7 +30,7 @@ fn settings() -> Settings
 }
 
 // The run, the unread part of the buffer, whether the input has ended, and whether the run goes on.
-#[derive(Drop)]
+#[derive(Clone, Copy)]
 struct Playing {
     run: Run,
     from: usize,

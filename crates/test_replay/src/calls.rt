@@ -7,7 +7,7 @@ use wire::store::least;
 use worker::{Input, Queue, Reporting, Run, Stepped};
 
 // The run, whether it was opened, how many server bytes were taken, and whether the script is well formed so far.
-#[derive(Drop)]
+#[derive(Clone, Copy)]
 pub(crate) struct Play {
     pub(crate) run: Run,
     pub(crate) opened: bool,
@@ -17,7 +17,7 @@ pub(crate) struct Play {
 
 // A call as a script has it: its letter, or 0 where it is malformed; of a step the input, how many bytes are unread, and how long its output is and
 // what fills it; of a report the file and the position; of a page how long its output is and what fills it.
-#[derive(Drop)]
+#[derive(Clone, Copy)]
 struct Call {
     letter: u8,
     moment: u64,

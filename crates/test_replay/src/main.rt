@@ -1,3 +1,4 @@
+#![tactic(auto)]
 // Plays scripts of calls from standard input, one after another to its end, and prints what every call answered.
 mod calls;
 mod names;

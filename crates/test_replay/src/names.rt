@@ -6,7 +6,7 @@ use wire::store::least;
 use worker::Opened;
 
 // How much of the buffer is filled, how many bytes the names have so far, how many publications there are, and whether all is well formed.
-#[derive(Drop)]
+#[derive(Clone, Copy)]
 pub(crate) struct Names {
     pub(crate) filled: usize,
     pub(crate) used: usize,

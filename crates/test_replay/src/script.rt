@@ -5,7 +5,7 @@ use test_lines::fields;
 use worker::Settings;
 
 // A script's buffers, how many calls it has, and whether it is well formed up to these.
-#[derive(Drop)]
+#[derive(Clone, Copy)]
 pub(crate) struct Tail {
     pub(crate) good: bool,
     pub(crate) payload: usize,
@@ -17,7 +17,7 @@ pub(crate) struct Tail {
 }
 
 // Whether the input ended before it, how its run begins, how long its slot is, how many publications follow it, and the rest.
-#[derive(Drop)]
+#[derive(Clone, Copy)]
 pub(crate) struct Script {
     pub(crate) over: bool,
     pub(crate) already_open: bool,

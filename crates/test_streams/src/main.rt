@@ -1,3 +1,4 @@
+#![tactic(auto)]
 // Plays the recorded streams of a server, each as the program `events` would.
 
 // The stream's name, then its events.

@@ -1,3 +1,4 @@
+#![tactic(auto)]
 // Openings and writers whose lent inputs have about 1,048,576 bytes together: above it 25, which comes before 4 and leaves the output as it was; at
 // it 4 where the output is short, and the whole text where it is not. SCOPE 3.5; 01, "Where each call turns back".
 mod opens;

@@ -1,3 +1,4 @@
+#![tactic(auto)]
 // Numbers and bytes as texts.
 ghost use Rattle.std.specs.Prelude.{◌≡◌, ◌∷◌, ◌+◌, ◌*◌, ◌≤◌, ◌<◌, ◌^◌, length};
 ghost use Rattle.wire.specs.Bytes.{put, placed};

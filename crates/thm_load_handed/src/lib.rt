@@ -1,1 +1,2 @@
+#![tactic(auto)]
 // No code: theorems on what a run hands on of a generated stream. See specs/.

@@ -1,1 +1,2 @@
+#![tactic(auto)]
 // Definitions and theorems alone: what follows the server's CopyDone.

@@ -1,1 +1,2 @@
+#![tactic(auto)]
 // Definitions and theorems alone: what two streams that differ in unpublished texts leave equal.

@@ -1,3 +1,4 @@
+#![tactic(auto)]
 // Which files a transaction touched: one bit for each of four, cleared by Begin, set by every row and Truncate whose relation has a file in a list.
 pub mod words;
 
@@ -15,7 +16,7 @@ use wire::store::least;
 pub const ENTRIES: usize = 64;
 
 // For each file whether it was touched.
-#[derive(Drop)]
+#[derive(Clone, Copy)]
 pub struct Files {
     pub zero: bool,
     pub one: bool,
@@ -24,7 +25,7 @@ pub struct Files {
 }
 
 // What an event tells of files: that a transaction begins; that there are data, which may be a row; or nothing.
-#[derive(Drop)]
+#[derive(Clone, Copy)]
 pub enum Tells {
     Begin,
     Data,
@@ -32,14 +33,14 @@ pub enum Tells {
 }
 
 // The files after an event, or why the list is refused, which leaves them as they were.
-#[derive(Drop)]
+#[derive(Clone, Copy)]
 pub enum Answer {
     Left(Files),
     Refused(FileRefusal),
 }
 
 // The file of an identifier.
-#[derive(Drop)]
+#[derive(Clone, Copy)]
 enum Filed {
     In(u64),
     Unlisted,

@@ -11,7 +11,7 @@ const BEGIN: u64 = 2;
 const XLOG_DATA: u64 = 5;
 
 // The refusal's number, 0 for none, and the files after the call.
-#[derive(Drop)]
+#[derive(Clone, Copy)]
 pub struct Reply {
     pub refusal: u64,
     pub bits: u64,

@@ -1,3 +1,4 @@
+#![tactic(auto)]
 // The automaton of well-formed UTF-8, as a constant table of eight states by 256 byte values.
 ghost use Rattle.std.specs.Prelude.{◌≡◌};
 ghost use Rattle.utf8.specs.Automaton.{entries, looked};

@@ -1,3 +1,4 @@
+#![tactic(auto)]
 // Prints the states of the crate `utf8` after each byte, computed from the Unicode Standard's Table 3-7 "Well-Formed UTF-8 Byte Sequences": the entry
 // of a state and a byte is the one at 256 times the state and the byte.
 ghost use Rattle.std.specs.Prelude.{◌≤◌};

@@ -21,49 +21,49 @@ pub const FIRST_NEGATIVE_16: u16 = HALF_16 as u16;
 
 pub const FIRST_NEGATIVE_32: u32 = HALF_32 as u32;
 
-#[derive(Drop)]
+#[derive(Clone, Copy)]
 pub enum U8Field {
     Value(u8),
     Cut,
 }
 
-#[derive(Drop)]
+#[derive(Clone, Copy)]
 pub enum U16Field {
     Value(u16),
     Cut,
 }
 
-#[derive(Drop)]
+#[derive(Clone, Copy)]
 pub enum U32Field {
     Value(u32),
     Cut,
 }
 
-#[derive(Drop)]
+#[derive(Clone, Copy)]
 pub enum U64Field {
     Value(u64),
     Cut,
 }
 
-#[derive(Drop)]
+#[derive(Clone, Copy)]
 pub enum I8Field {
     Value(i8),
     Cut,
 }
 
-#[derive(Drop)]
+#[derive(Clone, Copy)]
 pub enum I16Field {
     Value(i16),
     Cut,
 }
 
-#[derive(Drop)]
+#[derive(Clone, Copy)]
 pub enum I32Field {
     Value(i32),
     Cut,
 }
 
-#[derive(Drop)]
+#[derive(Clone, Copy)]
 pub enum I64Field {
     Value(i64),
     Cut,

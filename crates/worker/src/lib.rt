@@ -1,3 +1,4 @@
+#![tactic(auto)]
 // A run: what it holds, what a step is given, what it answers. The rules are in specs/.
 mod changes;
 mod deliver;
@@ -18,7 +19,7 @@ use moment::Moment;
 use progress::files::{FileVerdict, Progress};
 
 // The settings of a run; intervals in nanoseconds.
-#[derive(Drop)]
+#[derive(Clone, Copy)]
 pub struct Settings {
     pub status_interval: u64,
     pub idle_wakeup_interval: u64,
@@ -29,7 +30,7 @@ pub struct Settings {
     pub binary: bool,
 }
 
-#[derive(Drop)]
+#[derive(Clone, Copy)]
 pub enum State {
     Opening,
     Turn,
@@ -42,7 +43,7 @@ pub enum State {
 }
 
 // The queue to the consumer, as a step finds it.
-#[derive(Drop)]
+#[derive(Clone, Copy)]
 pub enum Queue {
     Free,
     Full,
@@ -50,7 +51,7 @@ pub enum Queue {
 }
 
 // Parts begin at a place of the payload buffer.
-#[derive(Drop)]
+#[derive(Clone, Copy)]
 pub enum Event {
     Nothing,
     KeepAlive {
@@ -89,14 +90,14 @@ pub enum Event {
 }
 
 // What the data of an XLogData give: an event and the position that it reaches, or why they are refused.
-#[derive(Drop)]
+#[derive(Clone, Copy)]
 pub enum DataEvent {
     Offered(Event, Lsn),
     Refused(Refusal),
 }
 
 // What a step is given beside the lent bytes.
-#[derive(Drop)]
+#[derive(Clone, Copy)]
 pub struct Input {
     pub moment: Moment,
     pub client_time: i64,
@@ -106,7 +107,7 @@ pub struct Input {
 }
 
 // Moments: of the last accepted step, of the wait's beginning, of the stall's.
-#[derive(Drop)]
+#[derive(Clone, Copy)]
 pub struct Clock {
     pub last: Moment,
     pub wait_began: Moment,
@@ -114,7 +115,7 @@ pub struct Clock {
 }
 
 // The last status: whether there was one, the position it confirmed, its moment.
-#[derive(Drop)]
+#[derive(Clone, Copy)]
 pub struct LastStatus {
     pub sent: bool,
     pub position: Lsn,
@@ -122,7 +123,7 @@ pub struct LastStatus {
 }
 
 // The last whole message: its tag, its payload's length, and whether it was read in a wait.
-#[derive(Drop)]
+#[derive(Clone, Copy)]
 pub struct Whole {
     pub tag: u8,
     pub len: usize,
@@ -130,7 +131,7 @@ pub struct Whole {
 }
 
 // The event that is offered, whether its stall has begun, and whether StoppedAt follows it.
-#[derive(Drop)]
+#[derive(Clone, Copy)]
 pub struct Offer {
     pub event: Event,
     pub stalled: bool,
@@ -138,7 +139,7 @@ pub struct Offer {
     pub reached: Lsn,
 }
 
-#[derive(Drop)]
+#[derive(Clone, Copy)]
 pub struct Run {
     pub settings: Settings,
     pub state: State,
@@ -156,21 +157,21 @@ pub struct Run {
 }
 
 // Whether a call was accepted, or why it was not.
-#[derive(Drop)]
+#[derive(Clone, Copy)]
 pub enum Verdict {
     Accepted,
     Refused(Refusal),
 }
 
 // How long a confirmed position had waited, in nanoseconds, where that is told.
-#[derive(Drop)]
+#[derive(Clone, Copy)]
 pub enum Waited {
     Untold,
     Nanos(u64),
 }
 
 // What a step answers.
-#[derive(Drop)]
+#[derive(Clone, Copy)]
 pub struct Stepped {
     pub run: Run,
     pub verdict: Verdict,
@@ -181,27 +182,27 @@ pub struct Stepped {
 }
 
 // What opening answers; the run counts only where the query was written.
-#[derive(Drop)]
+#[derive(Clone, Copy)]
 pub struct Opened {
     pub run: Run,
     pub written: Written,
 }
 
-#[derive(Drop)]
+#[derive(Clone, Copy)]
 pub struct AlreadyOpen {
     pub run: Run,
     pub verdict: Verdict,
 }
 
 // What a report answers; a refused one leaves the run as it was.
-#[derive(Drop)]
+#[derive(Clone, Copy)]
 pub struct Reporting {
     pub run: Run,
     pub verdict: FileVerdict,
 }
 
 // The ErrorResponse that ended a run with 19: its payload's length at the payload buffer's front.
-#[derive(Drop)]
+#[derive(Clone, Copy)]
 pub enum ErrorPart {
     Absent,
     Front(usize),

@@ -1,0 +1,5 @@
+use Rattle.std.proofs.Common.{rules}
+use Rattle.advance.proofs.at_hand.hands_on.Goals as goal
+
+pub returns : goal.returns
+returns c = λ p o. rw c.handed.ensures

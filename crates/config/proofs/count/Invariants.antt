@@ -1,0 +1,18 @@
+-- The names counted and those to come are as long as the value.
+use Rattle.config.specs.OptionValue.{doubled, option_value}
+use Rattle.error.specs.Inputs.{name_at}
+use Rattle.config.specs.Code.{listed}
+use Rattle.error.proofs.Laws.{fits, over, counted_fits, counted_over}
+use Rattle.config.proofs.Laws.{listed_start, listed_length, listed_end}
+use Prim.Native.Nat.{◌≤◌, ◌+◌, ◌-◌}
+use mathlib.Core.Path.{◌≡◌, sym, ap, ◌∙◌}
+use native.Mathlib.Omega.{arith}
+use lib.ListN.{length}
+use borrow.Author.Rules.{rules}
+use Rattle.config.proofs.count.Given as goal
+
+abbrev pub invariant-loop-i : goal.invariant-loop-i
+invariant-loop-i l = (l.i ≤ length l.names) × (l.need ≤ l.room) × (l.need + length (listed l.i l.names) ≡ length (option_value l.names))
+
+abbrev pub decreases-loop-i : goal.decreases-loop-i
+decreases-loop-i l = length l.names - l.i

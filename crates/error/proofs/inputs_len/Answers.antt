@@ -1,0 +1,30 @@
+-- The names counted and those to come have all bytes together.
+use Rattle.error.specs.Inputs.{total}
+use Rattle.error.proofs.Laws.{fits, over, total_next, total_end}
+use Prim.Native.Nat.{◌≤◌, ◌+◌, ◌-◌}
+use mathlib.Core.Path.{◌≡◌}
+use native.Mathlib.Omega.{arith}
+use lib.ListN.{length, drop}
+use borrow.Author.Rules.{rules}
+use Rattle.error.proofs.inputs_len.Goals as goal
+
+pub loop-i-init : goal.loop-i-init
+loop-i-init c = (omega arith, omega arith, omega arith)
+
+pub returns-then-room-sum : goal.returns-then-room-sum
+returns-then-room-sum c =
+    let a = c.args in
+    let t = total_next a.names.now c.loop-i.i (omega arith) in
+    over a.room (total a.names.now) (omega arith)
+
+pub loop-i-preserved : goal.loop-i-preserved
+loop-i-preserved c =
+    let a = c.args in
+    let t = total_next a.names.now c.loop-i.i (omega arith) in
+    (omega arith, omega arith, omega arith)
+
+pub returns : goal.returns
+returns c =
+    let a = c.args in
+    let t = total_end a.names.now c.loop-i.i (omega arith) in
+    fits a.room (total a.names.now) c.loop-i.sum (omega arith) (omega arith)

@@ -1,0 +1,15 @@
+-- The names counted and those to come have all bytes together.
+use Rattle.error.specs.Inputs.{total}
+use Rattle.error.proofs.Laws.{fits, over, total_next, total_end}
+use Prim.Native.Nat.{◌≤◌, ◌+◌, ◌-◌}
+use mathlib.Core.Path.{◌≡◌}
+use native.Mathlib.Omega.{arith}
+use lib.ListN.{length, drop}
+use borrow.Author.Rules.{rules}
+use Rattle.error.proofs.inputs_len.Given as goal
+
+abbrev pub invariant-loop-i : goal.invariant-loop-i
+invariant-loop-i l = (l.i ≤ length l.names) × (l.sum ≤ l.room) × (l.sum + total (drop l.i l.names) ≡ total l.names)
+
+abbrev pub decreases-loop-i : goal.decreases-loop-i
+decreases-loop-i l = length l.names - l.i

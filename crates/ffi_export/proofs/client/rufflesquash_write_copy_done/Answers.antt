@@ -1,0 +1,6 @@
+use Rattle.ffi_export.proofs.Laws.{replied}
+use borrow.Author.Rules.{rules}
+use Rattle.ffi_export.proofs.client.rufflesquash_write_copy_done.Goals as goal
+
+pub returns : goal.returns
+returns c = replied c.written_reply-reply.ensures c.write_copy_done.ensures

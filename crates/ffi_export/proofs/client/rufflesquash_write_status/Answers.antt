@@ -1,0 +1,12 @@
+use mir.Syntax.{w64}
+use mir.ValLaws.{to_z-of_z}
+use Rattle.ffi_export.proofs.Laws.{replied}
+use borrow.Author.Rules.{rules}
+use Rattle.ffi_export.proofs.client.rufflesquash_write_status.Goals as goal
+
+pub returns : goal.returns
+returns c =
+    let at-write = c.before.before.before in
+    let start = at-write.before.before.before in
+    let back = to_z-of_z w64 start.args.client-time start.ranges.client-time in
+    replied c.written_reply-answer.ensures (rw back at at-write.write-status-update.ensures)

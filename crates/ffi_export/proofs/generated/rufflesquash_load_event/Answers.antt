@@ -1,0 +1,6 @@
+use mathlib.Core.Path.{◌∙◌, ap}
+use borrow.Author.Rules.{rules}
+use Rattle.ffi_export.proofs.generated.rufflesquash_load_event.Goals as goal
+
+pub returns : goal.returns
+returns c = rw (c.event_words.ensures, c.message_from-made.ensures)

@@ -1,0 +1,6 @@
+use Rattle.ffi_export.proofs.Laws.{shown}
+use borrow.Author.Rules.{rules}
+use Rattle.ffi_export.proofs.rufflesquash_lossy.Goals as goal
+
+pub returns : goal.returns
+returns c = shown c.lossy_reply-reply.ensures c.write_lossy.ensures

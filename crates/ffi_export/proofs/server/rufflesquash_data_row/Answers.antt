@@ -1,0 +1,6 @@
+use mathlib.Core.Path.{◌∙◌}
+use borrow.Author.Rules.{rules}
+use Rattle.ffi_export.proofs.server.rufflesquash_data_row.Goals as goal
+
+pub returns : goal.returns
+returns c = c.data_row_reply-reply.ensures ∙ c.parse_data_row.ensures

@@ -1,0 +1,18 @@
+-- The texts written and those to come, each with its zero byte, are all texts.
+use Rattle.frontend.proofs.Laws.{strings_next, strings_end}
+use Rattle.wire.specs.Bytes.{be_bytes}
+use Rattle.wire.proofs.Pieces.{Filling, filling_start, filling_next, filling_end}
+use Rattle.error.specs.Inputs.{name_at}
+use Rattle.frontend.specs.Code.{strings}
+use Prim.Native.Nat.{◌≤◌, ◌-◌}
+use mathlib.Core.Path.{refl}
+use native.Mathlib.Omega.{arith}
+use lib.ListN.{length, drop}
+use borrow.Author.Rules.{rules}
+use Rattle.frontend.proofs.place_strings.Given as goal
+
+abbrev pub invariant-loop-i : goal.invariant-loop-i
+invariant-loop-i l = (l.i ≤ length l.texts) × Filling l.initial.out l.at (strings l.texts) l.out l.to (strings (drop l.i l.texts))
+
+abbrev pub decreases-loop-i : goal.decreases-loop-i
+decreases-loop-i l = length l.texts - l.i

@@ -1,0 +1,13 @@
+-- Every entry passed is undone for no file.
+use mathlib.Core.Path.{◌≡◌, refl, sym, ◌∙◌}
+use native.Mathlib.Omega.{arith}
+use Rattle.ledger.specs.Ledger.{settled_from}
+use Rattle.ledger.proofs.RingLaws.{settled_here, settled_next, settled_none, settled_ends}
+use borrow.Author.Rules.{rules}
+use Rattle.ledger.proofs.Ledger.settled.Given as goal
+
+abbrev pub invariant-loop-count : goal.invariant-loop-count
+invariant-loop-count l = settled_from l.ring l.self l.front l.count ≡ settled_from l.ring l.self l.self.front l.self.count
+
+abbrev pub decreases-loop-count : goal.decreases-loop-count
+decreases-loop-count l = l.count

@@ -1,0 +1,36 @@
+-- What was measured and what is to come is the whole stream.
+use Prim.Native.Nat.{ℕ, suc, ◌+◌, ◌-◌, ◌≤◌, ◌<◌}
+use mathlib.Core.Path.{◌≡◌, refl, sym, ap, ◌∙◌}
+use native.Mathlib.Omega.{arith}
+use lib.ListN.{length, length-append}
+use borrow.Author.Rules.{rules}
+use borrow.Author.Tests.{le-leb, lt-leb}
+use Rattle.error.specs.Writer.{counted}
+use Rattle.load.specs.Load.{stream_of, made_of, bytes_of, messages_of, all_bytes}
+use Rattle.load.proofs.Laws.{stream_left, stream_none}
+use Rattle.load.proofs.measure.Goals as goal
+
+pub loop-left-init : goal.loop-left-init
+loop-left-init c = (omega arith, omega arith)
+
+pub returns-then-room-used : goal.returns-then-room-used
+unfolding counted
+returns-then-room-used c =
+    let e = stream_left c.loop-left.left c.loop-left.state (omega arith) in
+    let n = rw c.message_from-m.ensures at c.message_len-n.ensures in
+    let a = c.args in
+    let over : a.room < length (stream_of a.messages a.seed) = omega (arith, e, n, c.loop-left.invariant.0) in
+    simp (lt-leb _ _ over)
+
+pub loop-left-preserved : goal.loop-left-preserved
+loop-left-preserved c =
+    let e = stream_left c.loop-left.left c.loop-left.state (omega arith) in
+    let n = rw c.message_from-m.ensures at c.message_len-n.ensures in
+    (rw c.message_from-m.ensures (omega (arith, e, n, c.loop-left.invariant.0)), omega arith)
+
+pub returns : goal.returns
+unfolding counted
+returns c =
+    let none = stream_none c.loop-left.left c.loop-left.state (omega arith) in
+    let all : c.loop-left.used ≡ length (stream_of c.args.messages c.args.seed) = omega (arith, ap length none, c.loop-left.invariant.0) in
+    rw (← all) (simp (le-leb _ _ c.loop-left.invariant.1))

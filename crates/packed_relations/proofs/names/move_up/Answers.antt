@@ -1,0 +1,30 @@
+-- With k bytes to go, those behind them stand there.
+use mathlib.Core.Path.{◌≡◌, refl, sym, ◌∙◌}
+use Prim.Native.Nat.{suc, ◌+◌, ◌-◌, ◌≤◌, ◌<◌}
+use native.Mathlib.Omega.{arith}
+use lib.ListN.{length, length-set}
+use Rattle.wire.specs.Bytes.{at, put}
+use Rattle.packed_relations.proofs.Moved.{up_start, up_done, up_step}
+use borrow.Author.Rules.{rules}
+use Rattle.packed_relations.proofs.names.move_up.Goals as goal
+
+pub loop-k-init : goal.loop-k-init
+loop-k-init c =
+    let a = c.args in
+    (omega arith, up_start a.names.now a.from a.to a.n, refl)
+
+pub loop-k-preserved : goal.loop-k-preserved
+loop-k-preserved c =
+    let a = c.args in (
+      omega arith,
+      up_step a.names.now a.from a.to c.loop-k.k a.n (omega arith) c.loop-k.invariant.0 c.requires.0 c.requires.1 c.loop-k.invariant.1,
+      simp length-set c.loop-k.invariant.2,
+    )
+
+pub shape_of-names : goal.shape_of-names
+shape_of-names c = c.loop-k.invariant.2
+
+pub returns : goal.returns
+returns c =
+    let a = c.args in
+    up_done a.names.now a.from a.to c.loop-k.k a.n (omega arith) c.loop-k.invariant.1

@@ -1,0 +1,22 @@
+-- The lengths passed, and those to go.
+use mathlib.Core.Path.{◌≡◌, refl, sym, ap, ◌∙◌}
+use mathlib.Core.Bool.{true}
+use mathlib.Core.List.{◌∷◌}
+use Prim.Native.Nat.{ℕ, ◌+◌, ◌*◌, ◌≤◌, ◌-◌, ◌<◌}
+use native.Mathlib.Omega.{arith}
+use lib.ListN.{length}
+use Rattle.relations.specs.Cache.{names_fit}
+use Rattle.relations.specs.Memory.{described_from}
+use Rattle.relations.proofs.Leaves.{given, described_next, described_stop, described_end, name_short}
+use Rattle.packed_relations.specs.Packed.{new_lens}
+use Rattle.packed_relations.proofs.Leaves.{new_turn, new_none}
+use borrow.Author.Rules.{rules}
+use Rattle.packed_relations.proofs.names.new_lens.Given as goal
+
+abbrev pub invariant-loop-k : goal.invariant-loop-k
+invariant-loop-k l =
+    (l.k ≤ l.n) × (names_fit (described_from l.bytes (l.n - l.k) l.at) ≡ true) × (new_lens (described_from l.bytes l.n l.from) ≡ l.sum + new_lens (described_from l.bytes (l.n - l.k) l.at))
+    × (l.sum ≤ 63 * l.k)
+
+abbrev pub decreases-loop-k : goal.decreases-loop-k
+decreases-loop-k l = l.n - l.k

@@ -1,0 +1,17 @@
+-- The lengths passed, and those to go.
+use mathlib.Core.Path.{◌≡◌, refl, sym, ap, ◌∙◌}
+use Prim.Native.Nat.{ℕ, ◌+◌, ◌*◌, ◌-◌, ◌≤◌, ◌<◌, min}
+use native.Mathlib.Omega.{arith}
+use lib.ListN.{get_or}
+use Rattle.relations.specs.Memory.{count_at}
+use Rattle.packed_relations.specs.Packed.{lens_from, slot_lens}
+use Rattle.packed_relations.proofs.Leaves.{slots_turn, slots_done}
+use borrow.Author.Rules.{rules}
+use Rattle.packed_relations.proofs.names.slot_lens.Given as goal
+
+abbrev pub invariant-loop-k : goal.invariant-loop-k
+invariant-loop-k l =
+    (l.k ≤ l.n) × (slot_lens l.counts l.words l.first l.n ≡ l.sum + slot_lens l.counts l.words (l.first + l.k) (l.n - l.k)) × (l.sum ≤ 2016 * l.k)
+
+abbrev pub decreases-loop-k : goal.decreases-loop-k
+decreases-loop-k l = l.n - l.k

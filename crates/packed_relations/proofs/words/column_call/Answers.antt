@@ -1,0 +1,7 @@
+use mathlib.Core.Path.{ap, ◌∙◌}
+use Rattle.packed_relations.specs.Words.{column_words}
+use borrow.Author.Rules.{rules}
+use Rattle.packed_relations.proofs.words.column_call.Goals as goal
+
+pub returns : goal.returns
+returns c = c.column_words.ensures ∙ ap column_words c.held_column-told.ensures

@@ -1,0 +1,6 @@
+-- The smallest of the four, with the rest as it is.
+use borrow.Author.Rules.{rules}
+use Rattle.progress.proofs.files.Progress.cell.Goals as goal
+
+pub returns : goal.returns
+returns c = rw c.position-applied.ensures

@@ -1,0 +1,16 @@
+-- The columns passed and those that follow, from the place reached, make the columns of the whole walk.
+use mathlib.Core.Option.{some, none}
+use Rattle.query.specs.DataRow.{column_at, columns_from}
+use Rattle.query.specs.Code.{picked_of}
+use Rattle.query.proofs.Laws.{walked, walk_start, walk_turn, walk_cut, walk_end}
+use Prim.Native.Nat.{◌≤◌, ◌-◌}
+use mathlib.Core.Path.{◌≡◌, sym, ◌∙◌}
+use native.Mathlib.Omega.{arith}
+use borrow.Author.Rules.{rules}
+use Rattle.query.proofs.data_row.walk.Given as goal
+
+abbrev pub invariant-loop-k : goal.invariant-loop-k
+invariant-loop-k l = (l.k ≤ l.n) × (walked l.k l.i l.c (columns_from (l.n - l.k) l.payload l.at) ≡ picked_of (columns_from l.n l.payload 2) l.i)
+
+abbrev pub decreases-loop-k : goal.decreases-loop-k
+decreases-loop-k l = l.n - l.k

@@ -1,0 +1,9 @@
+-- A value in binary format, or the refusal.
+use borrow.Author.Rules.{rules}
+use Rattle.rows.proofs.items.binary_of.Goals as goal
+
+pub returns-in-At : goal.returns-in-At
+returns-in-At c = rw c.in-At.is
+
+pub returns-in-Cut : goal.returns-in-Cut
+returns-in-Cut c = rw c.in-Cut.is

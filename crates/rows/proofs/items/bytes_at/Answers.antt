@@ -1,0 +1,48 @@
+-- A length that is not negative, and so many bytes.
+use mathlib.Core.Option.{some}
+use mathlib.Core.Path.{◌≡◌, sym}
+use Prim.Native.Nat.{◌+◌, ◌≤◌}
+use lib.ListN.{length}
+use Rattle.wire.specs.Field.{field_at, u32_of}
+use Rattle.wire.proofs.FieldLaws.{told as said, field_within}
+use Rattle.rows.proofs.Steps.{value_cut, value_over, value_fits}
+use native.Mathlib.Omega.{arith}
+use borrow.Author.Rules.{rules}
+use Rattle.rows.proofs.items.bytes_at.Goals as goal
+use Rattle.rows.proofs.items.bytes_at.Lts as places
+use Rattle.rows.proofs.items.bytes_at.Reads.{Pre, Post}
+
+abbrev start : (places.After-known_told Pre Post) → places.Start Pre Post
+start c = c.before.before.before.before.before
+
+length_read : (c : places.After-known_told Pre Post) → let a = (start c).args in field_at 4 a.bytes.now a.at ≡ some c.in-Value.len
+length_read c = said u32_of c.read_u32.ensures c.in-Value.is
+
+within : (c : places.After-known_told Pre Post) → let a = (start c).args in a.at + 4 ≤ length a.bytes.now
+within c = field_within 4 _ _ _ (length_read c)
+
+pub returns-in_default : goal.returns-in_default
+returns-in_default c =
+    let a = c.args in
+    sym (value_cut a.bytes.now a.at (said u32_of c.read_u32.ensures c.in_default.is))
+
+pub overflow_add-from : goal.overflow_add-from
+overflow_add-from c = omega (arith, within c)
+
+pub overflow_sub-bytes : goal.overflow_sub-bytes
+overflow_sub-bytes c = omega (arith, within c)
+
+pub returns-then-least-n : goal.returns-then-least-n
+returns-then-least-n c =
+    let k = c.before.before in
+    let a = (start k).args in
+    sym (value_over a.bytes.now a.at k.in-Value.len _ (length_read k) c.least.ensures c.if-least-n.true)
+
+pub overflow_add-result : goal.overflow_add-result
+overflow_add-result c = omega (arith, within c.before.before, c.least.ensures, c.if-least-n.false)
+
+pub returns : goal.returns
+returns c =
+    let k = c.before.before in
+    let a = (start k).args in
+    sym (value_fits a.bytes.now a.at k.in-Value.len _ (length_read k) c.least.ensures c.if-least-n.false)

@@ -1,0 +1,29 @@
+-- The relation and the new tuple.
+use mathlib.Core.Option.{some}
+use mathlib.Core.Path.{◌≡◌}
+use Rattle.wire.proofs.FieldLaws.{told as said}
+use Rattle.wire.specs.Field.{field_at, u32_of}
+use Rattle.rows.specs.Rows.{new_layout, insert_of}
+use Rattle.rows.specs.Head.{head_of}
+use Rattle.rows.proofs.Heads.{first_cut, insert_whole}
+use borrow.Author.Rules.{rules}
+use Rattle.rows.proofs.messages.insert_at.Goals as goal
+use Rattle.rows.proofs.messages.insert_at.Lts as places
+use Rattle.rows.proofs.messages.insert_at.Reads.{Pre, Post}
+
+abbrev start : (places.After-known_told Pre Post) → places.Start Pre Post
+start c = c.before.before.before.before.before
+
+relation_read : (c : places.After-known_told Pre Post) → field_at 4 (start c).args.bytes.now 1 ≡ some c.in-Value.relation
+relation_read c = said u32_of c.read_u32.ensures c.in-Value.is
+
+pub returns-in_default : goal.returns-in_default
+returns-in_default c =
+    let a = c.args in
+    first_cut a.bytes.now 4 new_layout (λ v. head_of (insert_of v)) (said u32_of c.read_u32.ensures c.in_default.is)
+
+pub returns : goal.returns
+returns c =
+    let k = c.before.before in
+    let a = (start k).args in
+    insert_whole a.bytes.now _ (relation_read k) c.new_at.ensures c.inserted.ensures

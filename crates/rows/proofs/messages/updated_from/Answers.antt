@@ -1,0 +1,16 @@
+-- The old tuple, then the new one after it.
+use Rattle.rows.proofs.Heads.{old_refused, from_whole}
+use borrow.Author.Rules.{rules}
+use Rattle.rows.proofs.messages.updated_from.Goals as goal
+
+pub returns-in-Of : goal.returns-in-Of
+returns-in-Of c =
+    let at-counted-at = c.before.before.before.before.before in
+    let a = c.args in
+    from_whole a.bytes.now a.relation a.which (rw c.in-Of.is at
+    at-counted-at.counted-at.ensures) c.new_at.ensures c.updated_to.ensures
+
+pub returns-in-Refused : goal.returns-in-Refused
+returns-in-Refused c =
+    let a = c.args in
+    old_refused a.bytes.now a.relation a.which _ (rw c.in-Refused.is at c.counted_at.ensures)

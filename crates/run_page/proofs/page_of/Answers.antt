@@ -1,0 +1,6 @@
+use borrow.Author.Rules.{rules}
+use Rattle.run_page.proofs.page_of.Goals as goal
+
+pub returns : goal.returns
+returns c =
+    rw (c.state_number.ensures, c.position-position.ensures)

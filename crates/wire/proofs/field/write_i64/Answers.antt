@@ -1,0 +1,8 @@
+use mir.Syntax.{w64}
+use mir.ValLaws.{to_z-of_z}
+use borrow.Author.Rules.{rules}
+use Rattle.wire.proofs.field.write_i64.Goals as goal
+
+pub returns : goal.returns
+returns c =
+    rw (c.of_signed.ensures, to_z-of_z w64 c.args.v c.ranges.v) at c.write_be.ensures

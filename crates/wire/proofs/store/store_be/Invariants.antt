@@ -1,0 +1,15 @@
+-- With i bytes to go, the i lowest bytes of x written over dst give what is asked.
+use mathlib.Core.Path.{◌≡◌, refl, sym, ◌∙◌}
+use Prim.Native.Nat.{◌≤◌}
+use native.Mathlib.Omega.{arith}
+use lib.ListN.{length, length-set}
+use Rattle.wire.specs.Bytes.{be_bytes, put}
+use Rattle.wire.proofs.Laws.{put_turn, put_none}
+use borrow.Author.Rules.{rules}
+use Rattle.wire.proofs.store.store_be.Given as goal
+
+abbrev pub invariant-loop-i : goal.invariant-loop-i
+invariant-loop-i l = (l.i ≤ l.n) × (put l.dst l.to (be_bytes l.i l.x) ≡ put l.initial.dst l.to (be_bytes l.n l.v)) × (length l.dst ≡ length l.initial.dst)
+
+abbrev pub decreases-loop-i : goal.decreases-loop-i
+decreases-loop-i l = l.i

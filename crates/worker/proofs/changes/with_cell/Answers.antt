@@ -1,0 +1,5 @@
+use Rattle.std.proofs.Common.{rules}
+use Rattle.worker.proofs.changes.with_cell.Goals as goal
+
+pub returns : goal.returns
+returns c = rw (c.with_progress.ensures, c.with_cell-after.ensures)

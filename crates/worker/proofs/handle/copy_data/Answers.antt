@@ -1,0 +1,25 @@
+-- The server's time is a signed field: it is read back as it was since it fits.
+use Rattle.std.proofs.Common.{◌∙◌, w64, rules}
+use mir.ValLaws.{to_z-of_z}
+use Rattle.worker.specs.Answer.{lent}
+use Rattle.worker.proofs.handle.copy_data.Goals as goal
+
+pub returns-in-KeepAlive : goal.returns-in-KeepAlive
+returns-in-KeepAlive c = λ u.
+    let at-with-wal-end = c.before.before.before.before in
+    c.keep_alive.ensures u _ ∙ rw (
+      at-with-wal-end.with-wal-end.ensures,
+      at-with-wal-end.before.before.said.given.1,
+      to_z-of_z w64 at-with-wal-end.before.before.said.given.0.1.0 (record { sfits = at-with-wal-end.before.known-told.given.1.0.1 }),
+    )
+
+pub returns-in-XLogData : goal.returns-in-XLogData
+returns-in-XLogData c = λ u.
+    c.xlog_data.ensures u _ ∙ rw (
+      c.with_wal_end-next-in-XLogData.ensures,
+      c.in-XLogData.is,
+      to_z-of_z w64 c.in-XLogData.server_time (record { sfits = c.known_told-in-XLogData-1.given.1.1.0.1 }),
+    )
+
+pub returns-in-Refused : goal.returns-in-Refused
+returns-in-Refused c = λ u. rw c.in-Refused.is (c.ended.ensures (lent u _ _))

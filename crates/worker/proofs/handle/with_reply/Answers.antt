@@ -1,0 +1,5 @@
+use Rattle.std.proofs.Common.{rules}
+use Rattle.worker.proofs.handle.with_reply.Goals as goal
+
+pub returns : goal.returns
+returns c = rw (c.with_metrics.ensures, c.record_keepalive_reply-replied.ensures)

@@ -1,0 +1,31 @@
+use Rattle.std.proofs.Common.{◌∙◌, rules}
+use Rattle.worker.proofs.receive.opening_whole.Goals as goal
+
+pub returns-then-is_copy_both_response : goal.returns-then-is_copy_both_response
+returns-then-is_copy_both_response c = λ l. rw (
+  ← c.is_copy_both_response.ensures,
+  c.if-is_copy_both_response.true,
+  ← c.with_state.ensures,
+) (c.moved.ensures l)
+
+pub returns-then-is_error : goal.returns-then-is_error
+returns-then-is_error c = λ l.
+    let at-if2 = c.before.before in
+    let at-if1 = at-if2.before.before in
+    c.ended.ensures l ∙ rw (
+      c.with_whole.ensures,
+      ← at-if1.before.is-copy-both-response.ensures,
+      at-if1.if1.false,
+      ← at-if2.before.is-error.ensures,
+      at-if2.if2.true,
+    )
+
+pub returns : goal.returns
+returns c = λ l.
+    let at-if1 = c.before.before.before in
+    rw (
+      ← at-if1.before.is-copy-both-response.ensures,
+      at-if1.if1.false,
+      ← c.is_error.ensures,
+      c.if-is_error.false,
+    ) (c.moved-2.ensures l)

@@ -1,0 +1,5 @@
+use Rattle.std.proofs.Common.{rules}
+use Rattle.worker.proofs.session.position.Goals as goal
+
+pub returns : goal.returns
+returns c = c.position.ensures

@@ -1,0 +1,15 @@
+-- The client's time is a signed field: it is read back as it was since it fits.
+use Rattle.std.proofs.Common.{w64, rules}
+use mir.ValLaws.{to_z-of_z}
+use Rattle.worker.proofs.Laws.{status_written}
+use Rattle.worker.specs.Step.{feedback_of}
+use Rattle.worker.proofs.status.send_feedback.Goals as goal
+
+pub returns : goal.returns
+unfolding feedback_of
+returns c = λ u p.
+    let at-write-status-update = c.before.before.before.before.before in
+    let start = at-write-status-update.before.before.before.before.before in
+    let back = to_z-of_z w64 start.args.input.client_time (record { sfits = at-write-status-update.before.struct_told.given.1.0.1 }) in
+    let w = rw back at at-write-status-update.write-status-update.ensures in
+    rw (c.with_state-next.ensures, c.confirmed.ensures, c.waited_by-waited.ensures, status_written _ _ _ _ _ _ start.requires w, ← at-write-status-update.before.before.before.position.ensures)

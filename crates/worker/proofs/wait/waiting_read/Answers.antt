@@ -1,0 +1,15 @@
+use Rattle.std.proofs.Common.{◌∙◌, rules}
+use Rattle.worker.proofs.Laws.{having_same}
+use Rattle.worker.proofs.wait.waiting_read.Goals as goal
+
+pub returns : goal.returns
+returns c =
+    let at-with-reader = c.before.before.before.before.before in
+    let at_read = at-with-reader.before.before.before.before in
+    let start = at_read.before.before.before.before.before.before in
+    let a = start.args in
+    rw (← at_read.read.ensures, ← at-with-reader.with-reader.ensures)
+    (c.having.ensures _ a.payload.now _ ∙ having_same _ _ (c.waiting_by-stepped.ensures a.unread.now a.payload.now))
+
+pub shape_of-payload : goal.shape_of-payload
+shape_of-payload c = c.read-x.auto.1.1.1.1.0
