@@ -13,23 +13,24 @@ use Rattle.lsn.specs.Position.{position_of, joined}
 use Rattle.lsn.proofs.Spelled.{part_below}
 use borrow.Author.Rules.{rules}
 use Rattle.lsn.proofs.Lsn.parse.Goals as goal
+use Rattle.lsn.proofs.Lsn.parse.Tie.{the-claims}
 use Rattle.lsn.proofs.Lsn.parse.Lts as places
 use Rattle.lsn.proofs.Lsn.parse.Reads.{Pre, Post}
 
-abbrev start : (places.After-i Pre Post) → places.Start Pre Post
+abbrev start : (places.After-i the-claims Pre Post) → places.Start the-claims Pre Post
 start c = c.before.before.before.before
 
-slash-found : (c : places.After-i Pre Post) → index_of 47 (start c).args.s.now ≡ some c.in-At.i
+slash-found : (c : places.After-i the-claims Pre Post) → index_of 47 (start c).args.s.now ≡ some c.in-At.i
 slash-found c = told found_of c.find.ensures c.in-At.is
 
-slash_below : (c : places.After-i Pre Post) → c.in-At.i < length (start c).args.s.now
+slash_below : (c : places.After-i the-claims Pre Post) → c.in-At.i < length (start c).args.s.now
 slash_below c = found_below 47 _ _ (slash-found c)
 
 -- after the slash
-abbrev slash : (places.After-hi Pre Post) → places.After-i Pre Post
+abbrev slash : (places.After-hi the-claims Pre Post) → places.After-i the-claims Pre Post
 slash c = c.before.before.before.before.before
 
-high_read : (c : places.After-hi Pre Post) → hex_part (take (slash c).in-At.i (start (slash c)).args.s.now) ≡ some c.in-Value.hi
+high_read : (c : places.After-hi the-claims Pre Post) → hex_part (take (slash c).in-At.i (start (slash c)).args.s.now) ≡ some c.in-Value.hi
 high_read c = told part_of c.part.ensures c.in-Value.is
 
 pub returns-in_default : goal.returns-in_default
@@ -37,7 +38,7 @@ unfolding position_of
 returns-in_default c = simp (told found_of c.find.ensures c.in_default.is)
 
 pub slice_bounds-part-end : goal.slice_bounds-part-end
-slice_bounds-part-end c = simp length-take (omega (arith, slash_below c.before.before))
+slice_bounds-part-end c = simp length-take (omega (arith, slash_below c.before))
 
 pub returns-in_default-part : goal.returns-in_default-part
 unfolding position_of
@@ -63,10 +64,10 @@ returns-in_default-part-2 c =
     simp (slash-found (slash h), high_read h, low)
 
 -- both halves stay below 2^32
-high_below : (c : places.After-hi Pre Post) → c.in-Value.hi < 2 ^ 32
+high_below : (c : places.After-hi the-claims Pre Post) → c.in-Value.hi < 2 ^ 32
 high_below c = part_below _ _ (high_read c)
 
-low_below : (c : places.After-lo Pre Post) → c.in-Value-part.lo < 2 ^ 32
+low_below : (c : places.After-lo the-claims Pre Post) → c.in-Value-part.lo < 2 ^ 32
 low_below c = part_below _ _ (told part_of c.part-2.ensures c.in-Value-part.is)
 
 pub overflow_mul-result : goal.overflow_mul-result
