@@ -11,8 +11,7 @@ returns-then-letter-eq119 c = by_w _ _ c.if-payload-eq0.false c.if-letter-eq119.
 
 pub returns-then-letter-eq107 : goal.returns-then-letter-eq107
 returns-then-letter-eq107 c =
-    let at-if1 = c.before.before.before.before.before in
-    by_k _ _ at-if1.if1.false c.if-letter-eq119.false c.if-letter-eq107.true c.keep_alive.ensures
+    by_k _ _ c.if-payload-eq0.false c.if-letter-eq119.false c.if-letter-eq107.true c.keep_alive.ensures
 
 pub returns : goal.returns
 returns c = by_other _ c.if-payload-eq0.false c.if-letter-eq119.false c.if-letter-eq107.false
