@@ -1,6 +1,5 @@
 -- By the letter: what the body says is what the payload says.
 use Rattle.replication.proofs.Laws.{empty, by_w, by_k, by_other}
-use borrow.Author.Rules.{rules}
 use Rattle.replication.proofs.parse_copy_data.Goals as goal
 
 pub returns-then-payload-eq0 : goal.returns-then-payload-eq0

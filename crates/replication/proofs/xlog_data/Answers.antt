@@ -9,7 +9,6 @@ use mathlib.Core.Path.{sym, ap, ◌∙◌}
 use Prim.Native.Nat.{◌≤◌}
 use lib.ListN.{length}
 use native.Mathlib.Omega.{arith}
-use borrow.Author.Rules.{rules}
 use Rattle.replication.proofs.xlog_data.Goals as goal
 
 pub returns-in_default : goal.returns-in_default
