@@ -2,6 +2,7 @@
 // The fields of a program's line, each placed after the last, and what programs do with buffers.
 pub mod fields;
 pub mod names;
+pub mod streams;
 
 ghost use Rattle.std.specs.Prelude.{◌≡◌, false, ◌-◌, ◌<◌, length, replicate};
 ghost use Rattle.wire.specs.Bytes.{pick};
@@ -9,6 +10,7 @@ ghost use Rattle.test_lines.specs.Line.{sum_next, sum_of, after_of, pieces, numb
 ghost use Rattle.test_lines.specs.Line.{bytes_texts, position_texts, dated_texts, spanned_texts, flagged_texts, end_texts};
 
 use lsn::Lsn;
+use std::io::Stdout;
 
 // The sum of a buffer.
 pub fn sum(s: &[u8]) -> u64
@@ -179,11 +181,11 @@ pub fn end(line: &mut [u8], at: usize) -> usize
 }
 
 // Prints the first n bytes of a line, and says whether all were written. Nothing is printed, and the answer is false, where the line is shorter.
-pub fn print(line: &[u8], n: usize) -> bool
+pub fn print(output: Stdout, line: &[u8], n: usize) -> bool
     ensures { length line.now < n → result ≡ false }
 {
     if line.len() < n {
         return false;
     }
-    io::write_all(1, &line[0..n])
+    streams::write_all(output, &line[0..n])
 }

@@ -3,6 +3,8 @@
 // of a state and a byte is the one at 256 times the state and the byte.
 ghost use Rattle.std.specs.Prelude.{◌≤◌};
 
+use std::io;
+
 // The ranges of each row's bytes, four for a row; a range from 0 to 0 stands for none.
 const LOW: [u8; 36] = [
     0x00, 0, 0, 0, 0xC2, 0x80, 0, 0, 0xE0, 0xA0, 0x80, 0, 0xE1, 0x80, 0x80, 0, 0xED, 0x80, 0x80, 0,
@@ -120,11 +122,12 @@ fn gap(k: usize) -> u8 {
     if k % 32 == 31 { b'\n' } else { b' ' }
 }
 
-fn main() {
+fn main(rt: HostRuntime) -> io::Result<()> {
     let mut k: usize = 0;
     while k < 2048 {
         let piece = [b'0' + entry(k / 256, (k % 256) as u8), b',', gap(k)];
-        io::write_all(1, &piece);
+        rt.write_all(&piece)?;
         k += 1;
     }
+    Ok(())
 }
