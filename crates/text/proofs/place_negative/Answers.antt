@@ -23,7 +23,7 @@ pub spell-requires : goal.spell-requires
 spell-requires c = (omega arith, (omega arith, (omega arith, (c.places-n.ensures, simp length-set (omega arith)))))
 
 pub shape_of-out : goal.shape_of-out
-shape_of-out c = c.spell.auto.0 ∙ simp length-set
+shape_of-out c = c.spell.auto.out ∙ simp length-set
 
 pub returns : goal.returns
 returns c =
