@@ -160,7 +160,7 @@ def turn_body(fn, place, text, aliases, said):
 
     out = []
     pos = 0
-    let = re.compile(rf"let ([A-Za-z_][\w']*) = ((?:[A-Za-z_][\w'₀-₉-]*|\([A-Za-z_][\w'-]* [A-Za-z_][\w'-]*\))(?:\.before)*) in\s*")
+    let = re.compile(rf"let ([A-Za-z_][\w'-]*) = ((?:[A-Za-z_][\w'₀-₉-]*|\([A-Za-z_][\w'-]* [A-Za-z_][\w'-]*\))(?:\.before)*) in\s*")
     # place aliases, in order
     while True:
         m = let.search(text, pos)
@@ -202,7 +202,7 @@ def turn_body(fn, place, text, aliases, said):
 
     text = PATH.sub(one, text)
     # a variable that is a call: what its &mut arguments hold afterwards goes by the argument's name
-    for m in list(re.finditer(r"let ([A-Za-z_][\w']*) = [\w']+\.([^\s.]+) in", text)):
+    for m in list(re.finditer(r"let ([A-Za-z_][\w'-]*) = [\w'-]+\.([^\s.]+) in", text)):
         for at in fn.order:
             p = fn.places[at]
             if p["step"][1] == m[2] and p["called"] in fn.params:

@@ -1,19 +1,15 @@
 -- An option value read back: a doubled quote never closes the literal, and the commas part the names.
-use mathlib.Core.Path.{◌≡◌, refl, sym, ap, ◌∙◌}
-use mathlib.Core.Bool.{true, false}
+use mathlib.Core.Path.{◌≡◌, refl, ap, ◌∙◌}
 use mathlib.Core.List.{List, [], ◌∷◌, ◌++◌, map, append_assoc, append-nil}
-use mathlib.Core.Option.{Option, some, none}
+use mathlib.Core.Option.{some, none}
 use Prim.Native.Nat.{ℕ}
-use Prim.Native.Char.{code}
 use native.Mathlib.Omega.{arith}
 use lib.Dec.{eqb}
-use borrow.Author.Tests.{eq-eqb, ne_eqb, eqb-true, eqb-false}
+use borrow.Author.Tests.{ne_eqb, eqb-true, eqb-false}
 use denote.Ref.{Bor}
-use Rattle.wire.specs.Bytes.{pick}
 use Rattle.wire.proofs.Laws.{by_test}
-use Rattle.config.specs.OptionValue.{quoted, doubled, following, option_value}
-use Rattle.text.specs.Ascii.{on_first}
-use Rattle.config.specs.ReadBack.{with_byte, unquoted, names_of, with_commas, NoQuote, NoComma, NoCommas, ValueReadBack, NamesReadBack}
+use Rattle.config.specs.OptionValue.{doubled, following, option_value}
+use Rattle.config.specs.ReadBack.{unquoted, names_of, with_commas, NoQuote, NoComma, ValueReadBack, NamesReadBack}
 
 -- ---- the literal
 

@@ -1,6 +1,5 @@
 -- The laws of the option value, byte by byte.
-use mathlib.Core.Path.{◌≡◌, refl, ap, ◌∙◌}
-use mathlib.Core.Bool.{true, false}
+use mathlib.Core.Path.{◌≡◌, refl}
 use mathlib.Core.List.{List, [], ◌∷◌, ◌++◌, append-nil}
 use Prim.Native.Nat.{ℕ, ◌≤◌}
 use native.Mathlib.Omega.{arith}
@@ -11,7 +10,7 @@ use denote.Ref.{Bor}
 use Rattle.wire.proofs.Laws.{by_test}
 use Rattle.config.specs.OptionValue.{doubled, following, option_value}
 use Rattle.text.specs.Ascii.{on_first}
-use Rattle.config.specs.ReadBack.{names_of, NoComma}
+use Rattle.config.specs.ReadBack.{names_of}
 use Rattle.config.specs.ValueLaws.{NoQuotes, ValueLaws}
 use Rattle.config.proofs.ReadBack.{name_last}
 

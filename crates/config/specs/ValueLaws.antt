@@ -2,7 +2,7 @@
 -- 2.7; PostgreSQL documentation, "String Constants" and "Logical Streaming Replication Parameters" (publication_names).
 use Rattle.std.specs.Prelude.{◌≡◌, List, [], ◌∷◌, ◌++◌, ℕ}
 use Prim.Native.Char.{code}
-use Rattle.std.specs.Borrow.{MutBor}
+use Rattle.std.specs.Borrow.{Bor}
 use Rattle.config.specs.OptionValue.{doubled, option_value}
 use Rattle.config.specs.ReadBack.{NoComma, names_of, with_commas}
 
@@ -17,8 +17,8 @@ pub record ValueLaws : Type 0 where
   pub quote : (s t : List ℕ) → doubled (s ++ (code "'" ∷ t)) ≡ doubled s ++ (code "'" ∷ code "'" ∷ doubled t)
   -- nothing for no name, the name alone for one, and a comma between two
   pub none_given : option_value [] ≡ []
-  pub one_name : (n : MutBor (List ℕ)) → option_value (n ∷ []) ≡ doubled n.now
-  pub more_names : (n m : MutBor (List ℕ)) (ns : List (MutBor (List ℕ))) → option_value (n ∷ m ∷ ns) ≡ doubled n.now ++ (code "," ∷ option_value (m ∷ ns))
+  pub one_name : (n : Bor (List ℕ)) → option_value (n ∷ []) ≡ doubled n.now
+  pub more_names : (n m : Bor (List ℕ)) (ns : List (Bor (List ℕ))) → option_value (n ∷ m ∷ ns) ≡ doubled n.now ++ (code "," ∷ option_value (m ∷ ns))
   -- a text without commas is read as one name; each comma parts it, one in a name too; and no names are read as one empty name
   pub one_read : (s : List ℕ) → NoComma s → names_of s ≡ s ∷ []
   pub comma_parts : (s t : List ℕ) → names_of (s ++ (code "," ∷ t)) ≡ names_of s ++ names_of t

@@ -1,13 +1,13 @@
 -- The laws of lent inputs, of rooms and of answers.
-use mathlib.Core.Path.{◌≡◌, refl, sym, ap, ◌∙◌}
-use mathlib.Core.List.{List, [], ◌∷◌, ◌++◌}
-use Prim.Native.Nat.{ℕ, ◌+◌, ◌≤◌, ◌<◌}
+use mathlib.Core.Path.{◌≡◌, refl, ap}
+use mathlib.Core.List.{List, [], ◌∷◌}
+use Prim.Native.Nat.{ℕ}
 use native.Mathlib.Omega.{arith}
 use lib.ListN.{length, length-append, get_or-eq_default}
 use lib.Seq.{get_or-append_seam}
 use borrow.Author.Tests.{le-leb, lt-leb}
 use denote.Ref.{Bor}
-use Rattle.error.specs.Inputs.{total, no_name, name_at}
+use Rattle.error.specs.Inputs.{total, no_name}
 use Rattle.error.specs.Writer.{counted}
 use Rattle.error.specs.AnswerLaws.{bytes_of_names, InputLaws, RoomLaws, ValueLaws}
 use Rattle.error.proofs.Cases.{count_laws}

@@ -1,6 +1,6 @@
 -- What holds of every read: a buffer shorter than the limit, and the payload of a whole message.
-use mathlib.Core.Path.{◌≡◌, sym}
-use mathlib.Core.Bool.{Bool, true, false}
+use mathlib.Core.Path.{◌≡◌}
+use mathlib.Core.Bool.{Bool, false}
 use mathlib.Core.List.{List}
 use Prim.Native.Nat.{ℕ, ◌+◌, ◌-◌, ◌≤◌, min}
 use native.Mathlib.Omega.{arith}
@@ -8,12 +8,12 @@ use native.Mathlib.Nat.{min-le_right}
 use lib.ListN.{length, drop, take}
 use lib.Dec.{leb, ltb, eqb}
 use borrow.Author.Tests.{lt-ltb}
-use Rattle.wire.specs.Bytes.{pick, put}
+use Rattle.wire.specs.Bytes.{put}
 use Rattle.wire.specs.Int.{is_negative}
 use Rattle.wire.proofs.Laws.{by_test, impossible}
 use Rattle.frames.specs.Message.{length_field}
 use Rattle.framing.specs.declared.MessageReader.{MessageReader}
-use Rattle.framing.specs.Read.{Said, whole, limit_of, at_byte, Result, after_taking, unfinished, payload_of, judged_of, header_of, read_of}
+use Rattle.framing.specs.Read.{whole, limit_of, at_byte, Result, unfinished, payload_of, judged_of, header_of, read_of}
 use Rattle.framing.specs.Cases.{ShortBufferIsRefused, WholeIsWithin}
 use Rattle.framing.proofs.Laws.{pick_both}
 

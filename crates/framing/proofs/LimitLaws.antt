@@ -1,10 +1,10 @@
 -- The limit by its test; and that no other way through a read answers 3.
-use mathlib.Core.Path.{◌≡◌, refl, ap}
+use mathlib.Core.Path.{◌≡◌, refl}
 use mathlib.Core.Bool.{Bool, true, false}
 use mathlib.Core.List.{List}
-use Prim.Native.Nat.{ℕ, ◌+◌, ◌-◌, ◌≤◌, ◌<◌, min}
+use Prim.Native.Nat.{ℕ, ◌+◌, ◌-◌, ◌≤◌, min}
 use native.Mathlib.Omega.{arith}
-use lib.ListN.{length, get_or, take, drop}
+use lib.ListN.{length, take, drop}
 use lib.Dec.{ltb, leb, eqb}
 use borrow.Author.Tests.{lt-ltb, le-ltb}
 use Rattle.wire.specs.Bytes.{pick, put}
@@ -12,7 +12,7 @@ use Rattle.wire.specs.Int.{is_negative}
 use Rattle.wire.proofs.Laws.{by_test}
 use Rattle.frames.specs.Message.{length_field}
 use Rattle.framing.specs.declared.MessageReader.{MessageReader}
-use Rattle.framing.specs.Read.{Said, more, whole, refused, limit_of, fresh, shut, at_byte, Result, after_taking, unfinished, payload_of}
+use Rattle.framing.specs.Read.{Said, more, whole, refused, limit_of, at_byte, Result, unfinished, payload_of}
 use Rattle.framing.specs.Read.{judged_of, header_of, read_of}
 use Rattle.framing.specs.LimitLaws.{LimitLaws}
 

@@ -3,7 +3,7 @@ use mathlib.Core.Path.{◌≡◌, refl}
 use Prim.Native.Nat.{ℕ}
 use Rattle.framing.specs.declared.Answer.{Answer}
 use Rattle.framing.specs.declared.Answer.TheVariants.{More, Whole, Refused}
-use Rattle.framing.specs.Read.{Said, more, whole, refused, said_by}
+use Rattle.framing.specs.Read.{whole, said_by}
 use Rattle.framing.specs.Said.{AnswerSaid}
 
 only_whole : (a : Answer) (tag n : ℕ) → said_by a ≡ whole tag n → a ≡ Whole tag n

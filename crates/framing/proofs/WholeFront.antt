@@ -13,7 +13,7 @@ use Rattle.wire.specs.Int.{half}
 use Rattle.wire.proofs.Laws.{by_test, impossible, put_none, part_of_front}
 use Rattle.frames.specs.Message.{Front, in_header, in_payload, bad_length, too_large, length_field, front_of}
 use Rattle.frames.specs.Message.{whole as whole_at}
-use Rattle.frames.specs.Cut.{Cut, cut_of, header, over}
+use Rattle.frames.specs.Cut.{Cut, cut_of}
 use Rattle.frames.proofs.Front.{Shows, complete, shows, length_field_append}
 use Rattle.frames.proofs.Laws.{cut_in_header, cut_in_payload, cut_too_large, cut_bad_length, cut_nothing}
 use Rattle.framing.specs.declared.MessageReader.{MessageReader}

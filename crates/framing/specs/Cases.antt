@@ -2,7 +2,7 @@
 use Rattle.std.specs.Prelude.{◌≡◌, refl, Bool, true, false, List, [], ◌∷◌, ℕ, ◌≤◌, ◌<◌, length}
 use Rattle.wire.specs.Bytes.{be, be_from, put}
 use Rattle.framing.specs.declared.MessageReader.{MessageReader}
-use Rattle.framing.specs.Read.{Said, more, whole, refused, limit_of, fresh, shut, Result, payload_of, judged_of, header_of, read_of}
+use Rattle.framing.specs.Read.{more, whole, refused, limit_of, fresh, shut, Result, payload_of, judged_of, header_of, read_of}
 
 -- a read with a buffer shorter than the limit is refused with 3, and the reader forgets nothing: header bytes, filled mark and length are as
 -- they were, no byte is taken, and the buffer is untouched

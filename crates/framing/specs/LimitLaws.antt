@@ -4,7 +4,7 @@ use Rattle.error.specs.declared.Refusal.{Refusal}
 use Rattle.error.specs.Refusal.{number_of}
 use Rattle.framing.specs.declared.MessageReader.{MessageReader}
 use Rattle.framing.specs.declared.Answer.TheVariants.{More, Whole, Refused}
-use Rattle.framing.specs.Read.{Said, more, whole, refused, said_by, limit_of, read_of}
+use Rattle.framing.specs.Read.{more, whole, refused, said_by, limit_of, read_of}
 
 pub record LimitLaws : Type 0 where
   -- every setting up to 1 GiB is the limit, and above that 1 GiB is

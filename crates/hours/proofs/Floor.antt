@@ -1,13 +1,12 @@
 -- Moments and offsets as numbers that are not negative: sums, remainders and the order.
-use mathlib.Core.Path.{◌≡◌, refl, sym, ap, ◌∙◌}
-use mathlib.Core.Bool.{Bool, true, false}
-use Prim.Native.Nat.{ℕ, zero, suc, ◌+◌, ◌*◌, ◌-◌, ◌/◌, ◌%◌, ◌^◌, ◌≤◌, ◌<◌}
+use mathlib.Core.Path.{◌≡◌, refl, ap}
+use mathlib.Core.Bool.{true}
+use Prim.Native.Nat.{ℕ, zero, suc, ◌+◌, ◌*◌, ◌-◌, ◌%◌, ◌^◌, ◌≤◌, ◌<◌}
 use native.Mathlib.Omega.{arith}
-use lib.IntN.{ℤ, pos, negsuc, neg_ℤ, ◌+ℤ◌, ◌*ℤ◌, +ℤ_assoc}
-use lib.Signed.{mag, lt_z, le_z, ◌<ℤ◌}
+use lib.IntN.{ℤ, pos, negsuc, ◌+ℤ◌, ◌*ℤ◌, +ℤ_assoc}
+use lib.Signed.{mag, lt_z}
 use lib.Dec.{T, ltb, leb, ltb→lt, lt→ltb}
 use borrow.Author.Tests.{lt-ltb, le-ltb, ltb-true, ltb-false, leb-true}
-use Rattle.wire.specs.Bytes.{pick}
 use Rattle.wire.proofs.Laws.{by_test, impossible}
 use Rattle.hours.specs.Calendar.{minute, week, floor_mod, since_monday, is_within_windows}
 use Rattle.hours.specs.Code.{counted}

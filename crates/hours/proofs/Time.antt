@@ -3,21 +3,20 @@
 use mathlib.Core.Path.{◌≡◌, refl, sym, ap, ◌∙◌}
 use mathlib.Core.Bool.{Bool, true, false, not}
 use mathlib.Core.Option.{Option, some, none}
-use Prim.Native.Nat.{ℕ, zero, suc, ◌+◌, ◌*◌, ◌-◌, ◌/◌, ◌%◌, ◌≤◌, ◌<◌}
+use Prim.Native.Nat.{ℕ, ◌+◌, ◌*◌, ◌-◌, ◌/◌, ◌%◌, ◌≤◌, ◌<◌}
 use native.Mathlib.Omega.{arith}
-use lib.IntN.{ℤ, pos, negsuc, ◌+ℤ◌, +ℤ_idr}
-use lib.Signed.{◌<ℤ◌}
+use lib.IntN.{ℤ, pos, ◌+ℤ◌}
 use lib.Dec.{ltb}
 use borrow.Author.Tests.{ltb-true, ltb-false}
 use Rattle.wire.specs.Bytes.{pick}
-use Rattle.wire.proofs.Laws.{by_test, impossible}
+use Rattle.wire.proofs.Laws.{by_test}
 use Rattle.hours.specs.declared.Hours.{Hours}
 use Rattle.hours.specs.Calendar.{minute, week, since_monday, open_at, is_open, is_within_windows, are_windows}
 use Rattle.hours.specs.Answer.{change_from, next_of, hours_of}
 use Rattle.hours.specs.Code.{counted, moment_after}
-use Rattle.hours.specs.Time.{ChangesAt, NextIs, AnswersAreRight}
-use Rattle.hours.proofs.Floor.{Ahead, ahead, since_now, since_counted, After, after, later, shorter}
-use Rattle.hours.proofs.Laws.{Same, same_always, different, Found, found_is, none_is}
+use Rattle.hours.specs.Time.{NextIs, AnswersAreRight}
+use Rattle.hours.proofs.Floor.{Ahead, ahead, since_now, since_counted, after, later, shorter}
+use Rattle.hours.proofs.Laws.{Same, same_always, different, found_is, none_is}
 
 module _ (h : Hours) (t : ℤ) (in_range_lem : is_within_windows 4611686018427387904 t ≡ true) (a : Ahead h.offset) where
   -- the microseconds from a Monday long ago to the moment, on the venue's clock

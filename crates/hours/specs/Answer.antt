@@ -1,6 +1,6 @@
 -- What a question about opening hours is answered: refusals, and the first change as a search through the minutes of a week. What the answer says
 -- about time is stated in Time.antt. 02, wish 11.
-use Rattle.std.specs.Prelude.{ℕ, zero, suc, ◌+◌, ◌*◌, ◌-◌, ◌/◌, ◌%◌, Bool, true, false, ℤ, pos, ◌+ℤ◌}
+use Rattle.std.specs.Prelude.{ℕ, zero, suc, ◌+◌, ◌/◌, ◌%◌, Bool, false, ℤ}
 use Rattle.std.proofs.Math.Option.{Option, some, none}
 use Rattle.wire.specs.Bytes.{pick}
 use Rattle.error.specs.Refusal.{usage}

@@ -1,8 +1,8 @@
 -- Days whose weekday is known, windows at their edges, and questions at the ends of every range. 02, wish 11.
-use Rattle.std.specs.Prelude.{◌≡◌, refl, Bool, true, false, List, [], ◌∷◌, ℕ, ◌+◌, ◌*◌, ℤ, pos, negsuc}
-use Rattle.std.proofs.Math.Option.{Option, some, none}
+use Rattle.std.specs.Prelude.{◌≡◌, refl, true, false, [], ◌∷◌, ℕ, ◌+◌, ◌*◌, ℤ, pos, negsuc}
+use Rattle.std.proofs.Math.Option.{some, none}
 use Rattle.hours.specs.declared.Hours.{Hours}
-use Rattle.hours.specs.Calendar.{hours, minute, floor_mod, since_monday, open_at, is_open, are_windows}
+use Rattle.hours.specs.Calendar.{hours, minute, since_monday, open_at, is_open, are_windows}
 use Rattle.hours.specs.Answer.{change_from, next_of, hours_of}
 
 -- microseconds of days

@@ -1,5 +1,5 @@
 -- What an answer says about time, whatever the search is. 02, wish 11.
-use Rattle.std.specs.Prelude.{◌≡◌, Bool, not, ℕ, ℤ, ◌<ℤ◌}
+use Rattle.std.specs.Prelude.{◌≡◌, Bool, not, ℤ, ◌<ℤ◌}
 use Rattle.std.proofs.Math.Option.{Option, some, none}
 use Rattle.hours.specs.declared.Hours.{Hours}
 use Rattle.hours.specs.Calendar.{is_open}

@@ -3,21 +3,21 @@ use mathlib.Core.Path.{◌≡◌, refl, sym, ap, ◌∙◌}
 use mathlib.Core.Bool.{Bool, true, false}
 use mathlib.Core.List.{List, [], ◌∷◌}
 use mathlib.Core.Option.{Option, some, none}
-use Prim.Native.Nat.{ℕ, zero, suc, ◌+◌, ◌≤◌, ◌<◌, max}
-use native.Mathlib.Nat.{not-suc-le-zero, le_of_suc-le-suc}
+use Prim.Native.Nat.{ℕ, zero, suc, ◌≤◌, ◌<◌, max}
+use native.Mathlib.Nat.{not-suc-le-zero}
 use native.Mathlib.Omega.{arith}
 use lib.ListN.{length, take, drop, get_or, length-drop, drop_of_length-le}
 use lib.Seq.{length-take-le}
-use lib.Dec.{eqb, eqb-suc-suc}
+use lib.Dec.{eqb}
 use borrow.Author.Tests.{eq-eqb, ne_eqb, eqb-true, eqb-false}
 use Rattle.wire.specs.Bytes.{pick}
 use Rattle.wire.proofs.Laws.{by_test}
 use Rattle.utf8.specs.WellFormed.{Range, table, within, row_of, matched}
-use Rattle.utf8.specs.Automaton.{begun, after, after_all}
+use Rattle.utf8.specs.Automaton.{after, after_all}
 use Rattle.lossy.specs.Lossy.{Part, well, ill, part_by, bytes_of, parts_of}
 use Rattle.lossy.specs.Automaton.{left_of, due_behind, AutomatonSays}
 use Rattle.lossy.proofs.Table.{Own, own, matched_fits}
-use Rattle.lossy.proofs.Laws.{part_some, fewer, parts_next}
+use Rattle.lossy.proofs.Laws.{parts_next}
 
 -- ---- the automaton over bytes
 

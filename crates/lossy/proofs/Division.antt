@@ -1,19 +1,19 @@
 -- The parts that are found are the only division of a text by the Unicode Standard.
 use mathlib.Core.Path.{◌≡◌, refl, sym, ap, ◌∙◌}
 use mathlib.Core.Bool.{Bool, true, false}
-use mathlib.Core.List.{List, [], ◌∷◌, ◌++◌, map, append_assoc, append-nil}
-use mathlib.Core.Logic.{◌⊎◌, inl, inr, ⊎_elim}
-use Prim.Native.Nat.{ℕ, zero, suc, ◌+◌, ◌≤◌, ◌<◌}
+use mathlib.Core.List.{List, [], ◌∷◌, ◌++◌, map}
+use mathlib.Core.Logic.{inl, inr, ⊎_elim}
+use Prim.Native.Nat.{ℕ, ◌+◌, ◌≤◌, ◌<◌}
 use native.Mathlib.Nat.{not-suc-le-zero}
 use native.Mathlib.Omega.{arith}
-use lib.ListN.{length, take, drop, length-append}
+use lib.ListN.{length, take, length-append}
 use lib.Seq.{take-append_seam, take-append-add}
 use lib.Dec.{leb, ltb}
-use borrow.Author.Tests.{le-leb, leb-true, ltb-true, ltb-false}
+use borrow.Author.Tests.{leb-true, ltb-true, ltb-false}
 use Rattle.wire.specs.Bytes.{pick}
 use Rattle.wire.proofs.Laws.{by_test, impossible}
 use Rattle.utf8.specs.WellFormed.{Range, table, within, row_of}
-use Rattle.lossy.specs.Lossy.{Part, well, ill, bytes_of, parts_of, shown_all, lossy_of}
+use Rattle.lossy.specs.Lossy.{Part, well, ill, parts_of, shown_all, lossy_of}
 use Rattle.lossy.specs.Marks.{marks_all, marks_of}
 use Rattle.lossy.specs.Stretch.{stretch_all, stretch_of}
 use Rattle.lossy.specs.Parts.{Matches, Begins, AnyRow, Sequence, Beginning, Maximal, bytes_of_all, Right}

@@ -1,17 +1,17 @@
 -- The encoding of scalar values and Table 3-7, both ways.
 use mathlib.Core.Path.{◌≡◌, refl, sym, ap, ◌∙◌}
 use mathlib.Core.Bool.{Bool, true, false}
-use mathlib.Core.List.{List, [], ◌∷◌, ◌++◌, map}
-use mathlib.Core.Logic.{◌⊎◌, inl, inr, ⊎_elim}
-use Prim.Native.Nat.{ℕ, ◌+◌, ◌*◌, ◌-◌, ◌/◌, ◌%◌, ◌≤◌, ◌<◌}
+use mathlib.Core.List.{List, [], ◌∷◌, map}
+use mathlib.Core.Logic.{inl, inr, ⊎_elim}
+use Prim.Native.Nat.{ℕ, ◌+◌, ◌*◌, ◌-◌, ◌/◌, ◌≤◌, ◌<◌}
 use native.Mathlib.Nat.{mod-lt}
 use native.Mathlib.Omega.{arith}
 use lib.Dec.{ltb, leb, lit<}
-use borrow.Author.Tests.{le-leb, lt-ltb, le-ltb, leb-true, leb-false, ltb-true, ltb-false}
+use borrow.Author.Tests.{le-leb, lt-ltb, le-ltb, leb-true, ltb-true, ltb-false}
 use Rattle.wire.specs.Bytes.{pick}
 use Rattle.wire.proofs.Laws.{by_test, impossible}
 use Rattle.utf8.specs.WellFormed.{Range, table, within}
-use Rattle.lossy.specs.Parts.{Matches, AnyRow, Sequence, AllSequences, concat}
+use Rattle.lossy.specs.Parts.{Matches, Sequence, AllSequences}
 use Rattle.lossy.specs.Encoding.{Scalar, trailing, utf8, AllScalars, ScalarIsSequence, SequenceIsScalar, EncodedIsUnchanged}
 use Rattle.lossy.proofs.Parts.{well_formed_is_unchanged}
 

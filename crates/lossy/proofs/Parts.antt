@@ -1,20 +1,20 @@
 -- The parts that are found are those of the Unicode Standard.
-use mathlib.Core.Path.{◌≡◌, refl, sym, ap, subst⁻¹, ◌∙◌}
+use mathlib.Core.Path.{◌≡◌, refl, ap, subst⁻¹, ◌∙◌}
 use mathlib.Core.Bool.{Bool, true, false}
 use mathlib.Core.List.{List, [], ◌∷◌, ◌++◌, append-nil}
-use mathlib.Core.Logic.{◌⊎◌, inl, inr}
-use Prim.Native.Nat.{ℕ, zero, suc, ◌+◌, ◌-◌, ◌≤◌, ◌<◌, min, max}
+use mathlib.Core.Logic.{inl, inr}
+use Prim.Native.Nat.{ℕ, zero, suc, ◌≤◌, ◌<◌, max}
 use native.Mathlib.Nat.{not-suc-le-zero}
 use native.Mathlib.Omega.{arith}
-use lib.ListN.{length, take, drop, length-take, length-drop, length-append, take-append-drop}
+use lib.ListN.{length, take, drop, length-drop, take-append-drop}
 use lib.Seq.{take_all, drop-length, take_at, drop-append_seam, length-take-le}
 use lib.Dec.{leb, ltb, eqb}
 use borrow.Author.Tests.{leb-true, leb-false, ltb-true, lt-leb, eqb-true, eqb-false, eq-eqb}
 use Rattle.wire.specs.Bytes.{pick}
 use Rattle.wire.proofs.Laws.{by_test, impossible}
 use Rattle.utf8.specs.WellFormed.{Range, table, within, begins, row_of, matched}
-use Rattle.lossy.specs.Lossy.{Part, well, ill, part_by, bytes_of, parts_of, lossy_of, shown}
-use Rattle.lossy.specs.Parts.{Matches, Begins, AnyRow, Sequence, Beginning, Maximal, bytes_of_all, Right, PartsAreRight, AllSequences, concat, WellFormedIsUnchanged}
+use Rattle.lossy.specs.Lossy.{Part, well, ill, part_by, bytes_of, parts_of}
+use Rattle.lossy.specs.Parts.{Matches, Begins, AnyRow, Sequence, Beginning, Maximal, bytes_of_all, Right, PartsAreRight, concat, WellFormedIsUnchanged}
 use Rattle.lossy.proofs.Table.{own, matched_fits}
 use Rattle.lossy.proofs.Laws.{part_size, part_some, lossy_none, lossy_next}
 

@@ -11,8 +11,8 @@ use Rattle.utf8.specs.WellFormed.{table, row_of}
 use Rattle.lossy.specs.Lossy.{Part, well, ill, part_by, parts_of, bytes_of, shown, lossy_of}
 use Rattle.lossy.specs.Marks.{marks_in, marks_of, UnmarkedIsUnchanged}
 use Rattle.lossy.specs.Parts.{Sequence, AllSequences, concat, Right}
-use Rattle.lossy.specs.Stretch.{stretch_of, IsWellFormed, Longest, StretchIsLongest, StretchIsCopied, MarkFollows}
-use Rattle.lossy.specs.Code.{PartAt, StretchAt}
+use Rattle.lossy.specs.Stretch.{stretch_of, IsWellFormed, StretchIsLongest, StretchIsCopied, MarkFollows}
+use Rattle.lossy.specs.Code.{StretchAt}
 use Rattle.lossy.specs.declared.Stretch.{Stretch}
 use Rattle.lossy.proofs.Laws.{part_size, part_some, fewer, parts_next, lossy_none, lossy_next, lossy_end, marks_next, marks_end, stretch_none, stretch_part, stretch_next}
 use Rattle.lossy.proofs.Turns.{lossy_turn, marks_turn}

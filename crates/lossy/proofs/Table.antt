@@ -12,7 +12,7 @@ use lib.Dec.{leb, eqb, eqb-suc-suc}
 use borrow.Author.Tests.{le-leb, lt-leb}
 use Rattle.wire.specs.Bytes.{pick}
 use Rattle.utf8.specs.WellFormed.{Range, within, table, row_of, matched}
-use Rattle.lossy.specs.Lossy.{well, ill, part_by}
+use Rattle.lossy.specs.Lossy.{ill, part_by}
 use Rattle.lossy.specs.Code.{behind_first, first_in, part_found, PartAt}
 
 -- ---- the row of a byte

@@ -9,9 +9,9 @@ use native.Mathlib.Omega.{arith}
 use lib.ListN.{length, drop, get_or}
 use lib.Seq.{drop-drop, drop-cons}
 use lib.Dec.{eqb, ltb}
-use borrow.Author.Tests.{ltb-true, ltb-false, lt-ltb, le-ltb, eqb-true, eq-eqb, ne_eqb}
+use borrow.Author.Tests.{ltb-true, ltb-false, lt-ltb, le-ltb, eqb-true, eq-eqb}
 use Rattle.wire.specs.Bytes.{pick}
-use Rattle.wire.proofs.Laws.{by_test, impossible}
+use Rattle.wire.proofs.Laws.{by_test}
 use Rattle.lossy.specs.Division.{Character, row_1, row_2, row_3, row_4, row_5, row_6, row_7, row_8, row_9}
 use Rattle.lossy.specs.Stretch.{stretch_of}
 use Rattle.lossy.specs.Blocks.{trails, PassedTo}

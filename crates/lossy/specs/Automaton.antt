@@ -1,7 +1,7 @@
 -- The automaton and the parts of a text say the same, after any number of bytes. SCOPE 2.6; 02, wish 8.
-use Rattle.std.specs.Prelude.{◌≡◌, refl, List, [], ◌∷◌, ℕ, ◌≤◌, length, take, drop, get_or}
+use Rattle.std.specs.Prelude.{◌≡◌, refl, List, [], ◌∷◌, ℕ, length, take, drop, get_or}
 use Rattle.std.proofs.Math.Option.{Option, some, none}
-use Rattle.utf8.specs.WellFormed.{Range, table, row_of, matched}
+use Rattle.utf8.specs.WellFormed.{Range, table, row_of}
 use Rattle.utf8.specs.Automaton.{after_all}
 use Rattle.lossy.specs.Lossy.{Part, well, ill, parts_of}
 

@@ -1,5 +1,5 @@
 -- The UTF-8 encoding of Unicode scalar values: the Unicode Standard, section 3.9, definitions D76 and D92 and Table 3-6. SCOPE 2.6.
-use Rattle.std.specs.Prelude.{◌≡◌, List, [], ◌∷◌, ◌++◌, map, ◌⊎◌, ℕ, ◌+◌, ◌/◌, ◌%◌, ◌≤◌, ◌<◌, ltb}
+use Rattle.std.specs.Prelude.{◌≡◌, List, [], ◌∷◌, map, ◌⊎◌, ℕ, ◌+◌, ◌/◌, ◌%◌, ◌≤◌, ◌<◌, ltb}
 use Rattle.wire.specs.Bytes.{pick}
 use Rattle.lossy.specs.Lossy.{lossy_of}
 use Rattle.lossy.specs.Parts.{Sequence, concat}

@@ -5,7 +5,7 @@ use Rattle.std.proofs.Math.Option.{Option, some, none}
 use Rattle.wire.specs.Bytes.{pick}
 use Rattle.error.specs.Refusal.{number_of}
 use Rattle.utf8.specs.WellFormed.{table, row_of, matched}
-use Rattle.lossy.specs.Lossy.{Part, well, ill, parts_of, shown_all, lossy_of}
+use Rattle.lossy.specs.Lossy.{Part, well, ill, parts_of, lossy_of}
 use Rattle.lossy.specs.declared.Lossy.{Lossy}
 use Rattle.lossy.specs.declared.Lossy.TheVariants.{Wrote, Refused}
 use Rattle.lossy.specs.declared.Measured.{Measured}

@@ -7,7 +7,7 @@ use native.Mathlib.Omega.{arith}
 use lib.ListN.{length}
 use lib.Dec.{eqb}
 use borrow.Author.Tests.{eq-eqb, ne_eqb}
-use Rattle.wire.specs.Bytes.{pick, at}
+use Rattle.wire.specs.Bytes.{pick}
 use Rattle.query.specs.DataRow.{column_at, columns_from, also, nth, count_of, column_of, column_outcome}
 use Rattle.error.specs.Refusal.{number_of}
 use Rattle.error.specs.declared.Refusal.{Refusal}

@@ -9,14 +9,14 @@ use native.Mathlib.Omega.{arith}
 use lib.ListN.{length, take, drop, length-take, drop_of_length-le}
 use lib.Seq.{take_at, drop_at, drop-drop, length-take-le}
 use lib.Dec.{leb}
-use borrow.Author.Tests.{leb-true, leb-false, eqb-true, eqb-false}
+use borrow.Author.Tests.{leb-true, leb-false, eqb-true}
 use Rattle.wire.specs.Bytes.{put, copied}
 use Rattle.wire.proofs.Laws.{by_test, length_put}
 use Rattle.frames.specs.Tag.{is_data_row, is_error, is_ready_for_query}
-use Rattle.query.specs.DataRow.{columns_of, nth, column_outcome}
-use Rattle.query.specs.Query.{Ending, Answer, answer_from, answer_of, only, data_row_then, ending_by}
+use Rattle.query.specs.DataRow.{columns_of, nth}
+use Rattle.query.specs.Query.{Answer, answer_from, answer_of, only, data_row_then, ending_by}
 use Rattle.query.specs.Fold.{fresh, message_of, data_row_answer, end_answer}
-use Rattle.query.specs.Played.{asked, answered, Played, played_by, play_from, play_of, fitting, Holds, Ends, PlayAnswers, longest, BufferIsLeft, GoesOn, NoError, LastErrorWins, NoErrorIsReady}
+use Rattle.query.specs.Played.{asked, answered, Played, played_by, play_from, play_of, Holds, Ends, PlayAnswers, longest, BufferIsLeft, GoesOn, NoError, LastErrorWins, NoErrorIsReady}
 use Rattle.query.specs.declared.Column.{Column}
 use Rattle.query.specs.declared.simple.SimpleQuery.{SimpleQuery}
 

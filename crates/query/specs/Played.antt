@@ -1,5 +1,5 @@
 -- The messages of a query played one by one, a call for each, and that this gives what `answer_of` says of the whole list. SCOPE 3.11.
-use Rattle.std.specs.Prelude.{ℕ, zero, suc, ◌+◌, ◌≤◌, min, max, true, ◌≡◌, List, [], ◌∷◌, ◌++◌, map, length, take, drop}
+use Rattle.std.specs.Prelude.{ℕ, zero, suc, ◌+◌, min, max, true, ◌≡◌, List, [], ◌∷◌, ◌++◌, map, length, take, drop}
 use Prim.Native.Char.{code}
 use Rattle.std.proofs.Math.Option.{Option, some, none}
 use Rattle.wire.specs.Bytes.{pick}

@@ -1,5 +1,5 @@
 -- Where a reader stands after it was moved: SCOPE 12; 01, "Rust forms and their Rattle forms".
-use Rattle.std.specs.Prelude.{◌≡◌, List, [], ◌∷◌, ℕ, ◌+◌, ◌-◌, ◌≤◌, min, length, drop}
+use Rattle.std.specs.Prelude.{◌≡◌, List, [], ◌∷◌, ℕ, ◌+◌, ◌-◌, ◌≤◌, min, length}
 
 -- the place n bytes after place i of the data, or their end where fewer are left
 unfoldable pub skipped : List ℕ → ℕ → ℕ → ℕ

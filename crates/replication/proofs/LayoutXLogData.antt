@@ -11,7 +11,7 @@ use lib.Signed.{mag}
 use lib.Dec.{ltb}
 use lib.Pow.{are_bytes}
 use borrow.Author.Tests.{le-ltb, ltb-false}
-use Rattle.wire.specs.Bytes.{at, be_bytes}
+use Rattle.wire.specs.Bytes.{be_bytes}
 use Rattle.wire.specs.Int.{int_bytes}
 use Rattle.wire.proofs.Laws.{length_be_bytes, by_test, impossible}
 use Rattle.wire.proofs.FieldLaws.{part_read, int_part_read, int_part_there, part_there, part_bytes, first_byte}

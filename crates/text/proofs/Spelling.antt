@@ -4,20 +4,19 @@ use mathlib.Core.Bool.{Bool, true, false}
 use mathlib.Core.List.{List, [], ◌∷◌, ◌++◌}
 use Prim.Native.Nat.{ℕ, zero, suc, ◌+◌, ◌*◌, ◌-◌, ◌/◌, ◌%◌, ◌^◌, ◌≤◌, ◌<◌}
 use Prim.Native.Char.{code}
-use native.Mathlib.Nat.{pow-suc, pow-zero, mod-lt, div-add-mod', not-suc-le-zero, le_of_suc-le-suc, mul-le-mul_right, add-mul, mul_assoc, mul_comm}
+use native.Mathlib.Nat.{pow-suc, pow-zero, mod-lt, div-add-mod', not-suc-le-zero, mul-le-mul_right, add-mul, mul_assoc}
 use native.Mathlib.Nat.{pow-le-pow_right, le-div_iff_mul-le, div-eq_of_lt-le}
 use native.Mathlib.Numerals.{add-one}
 use native.Mathlib.Omega.{arith}
 use lib.ListN.{length, get_or, length-append}
-use lib.IntN.{ℤ, pos, negsuc}
 use lib.Dec.{ltb, eqb}
 use lib.Pow.{are_bytes}
-use borrow.Author.Tests.{lt-ltb, le-ltb, ltb-true, ltb-false, eqb-true}
+use borrow.Author.Tests.{lt-ltb, ltb-true, ltb-false, eqb-true}
 use Rattle.wire.specs.Bytes.{pick}
 use Rattle.wire.proofs.Laws.{by_test, impossible}
 use Rattle.wire.proofs.FieldLaws.{first_byte}
-use Rattle.text.specs.Numeral.{glyph_of, numeral, hex_text, decimal_text, signed_text, lower_of, hex_bytes}
-use Rattle.text.specs.Spelling.{upper_digits, lower_digits, Value, Unpadded, SpelledTo, SignedSpelled, BytesSpelled, SpellingLaws}
+use Rattle.text.specs.Numeral.{glyph_of, numeral, decimal_text, lower_of, hex_bytes}
+use Rattle.text.specs.Spelling.{upper_digits, lower_digits, Value, Unpadded, SpelledTo, BytesSpelled, SpellingLaws}
 use Rattle.text.proofs.Laws.{shorter}
 
 -- ---- digits, by trying each value

@@ -22,8 +22,7 @@ overflow_add-second c =
 
 pub shape_of-payload : goal.shape_of-payload
 shape_of-payload c =
-    let at-payload = c.before.before.before.before.before.before.before.before.before.before.before.before.before.before.before.before in
-    omega (arith, c.payload-2-1.given, at-payload.payload.given)
+    omega (arith, c.payload-2-1.given, c.payload-1.given)
 
 pub shape_of-out : goal.shape_of-out
 shape_of-out c =

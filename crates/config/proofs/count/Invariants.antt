@@ -1,14 +1,9 @@
 -- The names counted and those to come are as long as the value.
-use Rattle.config.specs.OptionValue.{doubled, option_value}
-use Rattle.error.specs.Inputs.{name_at}
+use Rattle.config.specs.OptionValue.{option_value}
 use Rattle.config.specs.Code.{listed}
-use Rattle.error.proofs.Laws.{fits, over, counted_fits, counted_over}
-use Rattle.config.proofs.Laws.{listed_start, listed_length, listed_end}
 use Prim.Native.Nat.{◌≤◌, ◌+◌, ◌-◌}
-use mathlib.Core.Path.{◌≡◌, sym, ap, ◌∙◌}
-use native.Mathlib.Omega.{arith}
+use mathlib.Core.Path.{◌≡◌}
 use lib.ListN.{length}
-use borrow.Author.Rules.{rules}
 use Rattle.config.proofs.count.Given as goal
 
 abbrev pub invariant-loop-i : goal.invariant-loop-i

@@ -2,11 +2,9 @@
 use Rattle.config.specs.OptionValue.{doubled}
 use Rattle.error.proofs.Laws.{fits, over}
 use Rattle.config.proofs.Laws.{doubled_length, doubled_end}
-use Prim.Native.Nat.{◌≤◌, ◌+◌, ◌-◌}
-use mathlib.Core.Path.{◌≡◌, ap}
+use mathlib.Core.Path.{ap}
 use native.Mathlib.Omega.{arith}
-use lib.ListN.{length, drop}
-use borrow.Author.Rules.{rules}
+use lib.ListN.{length}
 use Rattle.config.proofs.count_name.Goals as goal
 
 pub loop-i-init : goal.loop-i-init

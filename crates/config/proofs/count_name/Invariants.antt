@@ -1,12 +1,8 @@
 -- The bytes counted and those to come are as long as the name with its quotes doubled.
 use Rattle.config.specs.OptionValue.{doubled}
-use Rattle.error.proofs.Laws.{fits, over}
-use Rattle.config.proofs.Laws.{doubled_length, doubled_end}
 use Prim.Native.Nat.{◌≤◌, ◌+◌, ◌-◌}
-use mathlib.Core.Path.{◌≡◌, ap}
-use native.Mathlib.Omega.{arith}
+use mathlib.Core.Path.{◌≡◌}
 use lib.ListN.{length, drop}
-use borrow.Author.Rules.{rules}
 use Rattle.config.proofs.count_name.Given as goal
 
 abbrev pub invariant-loop-i : goal.invariant-loop-i

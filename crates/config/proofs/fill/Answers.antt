@@ -1,14 +1,11 @@
 -- The names written and those to come are the value.
-use Rattle.config.specs.OptionValue.{doubled, option_value}
-use Rattle.config.specs.Code.{comma_at, listed}
+use Rattle.config.specs.OptionValue.{doubled}
+use Rattle.config.specs.Code.{comma_at}
 use Rattle.config.proofs.Laws.{listed_start, listed_next, listed_end}
-use Rattle.wire.proofs.Pieces.{Filling, filling_start, filling_room, filling_next, filling_end}
+use Rattle.wire.proofs.Pieces.{filling_start, filling_room, filling_next, filling_end}
 use Rattle.error.specs.Inputs.{name_at}
-use Prim.Native.Nat.{◌≤◌, ◌-◌}
 use mathlib.Core.Path.{sym}
 use native.Mathlib.Omega.{arith}
-use lib.ListN.{length}
-use borrow.Author.Rules.{rules}
 use Rattle.config.proofs.fill.Goals as goal
 
 pub loop-i-init : goal.loop-i-init
@@ -25,10 +22,9 @@ fill_name-to-requires c =
 
 pub loop-i-preserved : goal.loop-i-preserved
 loop-i-preserved c =
-    let at-put-comma = c.before.before.before.before.before.before.before in
     let f = rw (listed_next c.args.names.now c.loop-i.i (omega arith)) at c.loop-i.invariant.1 in
-    let with-comma = filling_next c.requires (comma_at c.loop-i.i) f at-put-comma.put-comma.ensures in
-    (omega arith, filling_next c.requires _ with-comma c.fill_name-to.ensures)
+    let g = filling_next c.requires (comma_at c.loop-i.i) f c.put_comma-from.ensures in
+    (omega arith, filling_next c.requires _ g c.fill_name-to.ensures)
 
 pub shape_of-out : goal.shape_of-out
 shape_of-out c = c.loop-i.invariant.1.same

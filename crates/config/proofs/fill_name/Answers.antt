@@ -1,12 +1,10 @@
 -- The bytes written and those to come are the name with its quotes doubled.
-use Rattle.config.specs.OptionValue.{quoted, doubled}
+use Rattle.config.specs.OptionValue.{quoted}
 use Rattle.config.proofs.Laws.{doubled_next, doubled_end}
-use Rattle.wire.proofs.Pieces.{Filling, filling_start, filling_room, filling_next, filling_end}
-use Prim.Native.Nat.{◌≤◌, ◌-◌}
+use Rattle.wire.proofs.Pieces.{filling_start, filling_room, filling_next, filling_end}
 use mathlib.Core.Path.{refl}
 use native.Mathlib.Omega.{arith}
-use lib.ListN.{length, drop, get_or}
-use borrow.Author.Rules.{rules}
+use lib.ListN.{get_or}
 use Rattle.config.proofs.fill_name.Goals as goal
 
 pub loop-i-init : goal.loop-i-init

@@ -1,12 +1,8 @@
 -- The bytes written and those to come are the name with its quotes doubled.
-use Rattle.config.specs.OptionValue.{quoted, doubled}
-use Rattle.config.proofs.Laws.{doubled_next, doubled_end}
-use Rattle.wire.proofs.Pieces.{Filling, filling_start, filling_room, filling_next, filling_end}
+use Rattle.config.specs.OptionValue.{doubled}
+use Rattle.wire.proofs.Pieces.{Filling}
 use Prim.Native.Nat.{◌≤◌, ◌-◌}
-use mathlib.Core.Path.{refl}
-use native.Mathlib.Omega.{arith}
-use lib.ListN.{length, drop, get_or}
-use borrow.Author.Rules.{rules}
+use lib.ListN.{length, drop}
 use Rattle.config.proofs.fill_name.Given as goal
 
 abbrev pub invariant-loop-i : goal.invariant-loop-i

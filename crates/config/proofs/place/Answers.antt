@@ -1,9 +1,7 @@
 -- Where the value is counted into what is left of the output, it is filled in there.
 use Rattle.wire.proofs.Laws.{unplaced}
 use Rattle.error.proofs.Laws.{counted_fits, counted_over}
-use mathlib.Core.Path.{sym, ◌∙◌}
 use native.Mathlib.Omega.{arith}
-use borrow.Author.Rules.{rules}
 use Rattle.config.proofs.place.Goals as goal
 
 pub returns-then-out-to : goal.returns-then-out-to

@@ -6,7 +6,6 @@ use mathlib.Core.Path.{refl, ap}
 use mathlib.Core.List.{[], ◌∷◌}
 use native.Mathlib.Omega.{arith}
 use lib.ListN.{length, length-set}
-use borrow.Author.Rules.{rules}
 use Rattle.config.proofs.put_byte.Goals as goal
 
 pub bounds-out-at : goal.bounds-out-at

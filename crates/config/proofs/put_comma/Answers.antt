@@ -7,7 +7,6 @@ use mathlib.Core.Path.{refl, ap}
 use mathlib.Core.List.{[], ◌∷◌}
 use native.Mathlib.Omega.{arith}
 use lib.ListN.{length}
-use borrow.Author.Rules.{rules}
 use Rattle.config.proofs.put_comma.Goals as goal
 
 pub returns-then-i-eq0 : goal.returns-then-i-eq0

@@ -1,11 +1,8 @@
 -- The names counted and those to come have all bytes together.
 use Rattle.error.specs.Inputs.{total}
-use Rattle.error.proofs.Laws.{fits, over, total_next, total_end}
 use Prim.Native.Nat.{◌≤◌, ◌+◌, ◌-◌}
 use mathlib.Core.Path.{◌≡◌}
-use native.Mathlib.Omega.{arith}
 use lib.ListN.{length, drop}
-use borrow.Author.Rules.{rules}
 use Rattle.error.proofs.inputs_len.Given as goal
 
 abbrev pub invariant-loop-i : goal.invariant-loop-i

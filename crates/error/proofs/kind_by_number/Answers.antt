@@ -1,8 +1,6 @@
 -- Past the table there is no kind.
 use mathlib.Core.Path.{sym}
 use lib.ListN.{get_or-eq_default}
-use native.Mathlib.Omega.{arith}
-use borrow.Author.Rules.{rules}
 use Rattle.error.specs.Refusal.{kinds}
 use Rattle.error.proofs.kind_by_number.Goals as goal
 

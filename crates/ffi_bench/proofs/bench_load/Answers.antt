@@ -14,8 +14,7 @@ refused x e q = rw (← e, q)
 
 pub returns-in-Wrote : goal.returns-in-Wrote
 returns-in-Wrote c =
-    let at-write-load = c.before.before.before.before.before in
-    wrote _ at-write-load.write-load.ensures c.in-Wrote.is
+    wrote _ c.write_load.ensures c.in-Wrote.is
 
 pub returns-in-Refused : goal.returns-in-Refused
 returns-in-Refused c = refused _ c.write_load.ensures c.in-Refused.is

@@ -10,13 +10,12 @@ returns-in-Commit c = rw (c.plus64-in-Commit.ensures, c.in-Commit.is)
 
 pub returns-in-Message : goal.returns-in-Message
 returns-in-Message c =
-    let at-b3 = c.before.before.before.before.before in
     rw (
       c.plus64-in-Message-3.ensures,
       c.plus64-in-Message-2.ensures,
       c.bit64.ensures,
       c.plus64-in-Message.ensures,
-      at-b3.b3.given.1,
+      c.in-Message.is,
     )
 
 pub returns-in-Refused : goal.returns-in-Refused

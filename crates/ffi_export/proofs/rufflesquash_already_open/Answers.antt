@@ -4,8 +4,7 @@ use Rattle.ffi_export.proofs.rufflesquash_already_open.Goals as goal
 
 pub returns-then-refusal-eq0 : goal.returns-then-refusal-eq0
 returns-then-refusal-eq0 c =
-    let at-if1 = c.before.before in
-    already at-if1.before.before.already-open.result (already_by at-if1.before.before.before.settings-of.ensures _ at-if1.before.before.already-open.ensures) at-if1.before.verdict-word.ensures _ at-if1.if1.true c.words_of.ensures
+    already c.already_open-o.result (already_by c.settings_of-s.ensures _ c.already_open-o.ensures) c.verdict_word-refusal.ensures _ c.if-refusal-eq0.true c.words_of.ensures
 
 pub returns-else-refusal-eq0 : goal.returns-else-refusal-eq0
 returns-else-refusal-eq0 c = not_already c.already_open-o.result (already_by c.settings_of-s.ensures _ c.already_open-o.ensures) c.verdict_word-refusal.ensures c.if-refusal-eq0.false

@@ -4,8 +4,6 @@ use Rattle.ffi_export.proofs.rufflesquash_report_each.Goals as goal
 
 pub returns : goal.returns
 returns c =
-    let at-fourth = c.before.before.before in
-    let at_second = at-fourth.before.before in
-    all_reported at_second.before.report.result at_second.report2.result at-fourth.before.report3.result at-fourth.report4.result _ _ _ _ _
-    at_second.before.before.run_of.ensures at_second.before.report.ensures at_second.report2.ensures at-fourth.before.report3.ensures
-    at-fourth.report4.ensures c.words_of.ensures c.position-position.ensures
+    all_reported c.report-zero.result c.report-one.result c.report-two.result c.report-three.result _ _ _ _ _
+    c.run_of-before.ensures c.report-zero.ensures c.report-one.ensures c.report-two.ensures
+    c.report-three.ensures c.words_of.ensures c.position-position.ensures

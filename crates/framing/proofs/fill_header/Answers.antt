@@ -6,7 +6,6 @@ use Prim.Native.Nat.{◌≤◌, ◌-◌}
 use mathlib.Core.Path.{◌≡◌, ap}
 use native.Mathlib.Omega.{arith}
 use lib.ListN.{length, take, drop, length-take, length-drop}
-use borrow.Author.Rules.{rules}
 use Rattle.framing.proofs.fill_header.Goals as goal
 
 pub slice_bounds-head_with-end : goal.slice_bounds-head_with-end
@@ -21,16 +20,15 @@ returns-then-filled-k-lt5 c =
 
 pub overflow_add-result : goal.overflow_add-result
 overflow_add-result c =
-    let s = k.before.before.before in
-    let a = s.args in
+    let a = c.args in
     let n = c.least-k.result in
     let v = take (length a.unread.now - n) (drop n a.unread.now) in
     let e : c.judge-s.result.taken ≤ length v = rw (ap (λ (x : Result). x.2) c.judge-s.ensures) (judged_taken a.limit _ v a.payload.now) in
     let m = min-le_right (5 - a.r.filled) (length a.unread.now) in
     let l : length v ≡ length a.unread.now - n = simp (length-take, length-drop) (omega arith) in
-    omega (arith, e, s.well_formed)
+    omega (arith, e)
 
 pub returns : goal.returns
 returns c =
-    let a = k.before.before.before.args in
+    let a = c.args in
     header_whole _ _ _ _ _ c.least-k.result _ c.least-k.ensures c.head_with-h.ensures (length a.unread.now - c.least-k.result) _ (omega arith) c.judge-s.ensures c.if-filled-k-lt5.false

@@ -4,7 +4,6 @@ use Rattle.framing.proofs.Laws.{copied_all}
 use Prim.Native.Nat.{◌-◌}
 use native.Mathlib.Omega.{arith}
 use lib.ListN.{length-take, length-drop}
-use borrow.Author.Rules.{rules}
 use Rattle.framing.proofs.head_with.Goals as goal
 
 pub returns : goal.returns

@@ -1,6 +1,5 @@
 -- The length is judged in this order: negative, below 4, over the limit.
 use Rattle.framing.proofs.Laws.{length_negative, length_short, length_over, length_good}
-use borrow.Author.Rules.{rules}
 use Rattle.framing.proofs.judge.Goals as goal
 
 pub returns-then-n-ge-FIRST_NEGATIVE : goal.returns-then-n-ge-FIRST_NEGATIVE

@@ -3,7 +3,6 @@ use Rattle.wire.proofs.FieldLaws.{told, field_whole}
 use Rattle.wire.specs.Field.{u32_of}
 use Rattle.wire.proofs.Laws.{impossible}
 use native.Mathlib.Omega.{arith}
-use borrow.Author.Rules.{rules}
 use Rattle.framing.proofs.length_of.Goals as goal
 
 pub returns-in-Value : goal.returns-in-Value

@@ -1,11 +1,8 @@
 -- The windows of the days passed are right.
 use mathlib.Core.Path.{◌≡◌, refl, sym}
-use mathlib.Core.Bool.{true}
-use Prim.Native.Nat.{◌+◌, ◌-◌, ◌≤◌}
 use native.Mathlib.Omega.{arith}
 use Rattle.hours.specs.Calendar.{are_windows}
 use Rattle.hours.proofs.Laws.{window_late, window_long, window_right, windows_next, windows_wrong}
-use borrow.Author.Rules.{rules}
 use Rattle.hours.proofs.are_windows.Goals as goal
 
 pub loop-day-init : goal.loop-day-init

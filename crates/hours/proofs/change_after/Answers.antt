@@ -2,13 +2,12 @@
 use mathlib.Core.Path.{◌≡◌}
 use Prim.Native.Nat.{ℕ, ◌*◌, ◌-◌, ◌^◌, ◌<◌}
 use native.Mathlib.Omega.{arith}
-use lib.IntN.{ℤ, pos, ◌+ℤ◌}
+use lib.IntN.{pos, ◌+ℤ◌}
 use mir.Syntax.{w64}
 use mir.Val.{SFits, to_z, of_z}
 use mir.ValLaws.{to_z-of_z, to_z_pos}
 use borrow.Author.Tests.{ne_eqb}
 use Rattle.hours.proofs.Floor.{sum_fits}
-use borrow.Author.Rules.{rules}
 use Rattle.hours.proofs.change_after.Goals as goal
 use Rattle.hours.proofs.change_after.Lts as places
 use Rattle.hours.proofs.change_after.Reads.{Pre, Post}

@@ -1,11 +1,10 @@
 -- By the sign.
 use mathlib.Core.Path.{sym, ap}
-use Prim.Native.Nat.{ℕ, ◌^◌, ◌≤◌}
+use Prim.Native.Nat.{◌^◌, ◌≤◌}
 use native.Mathlib.Omega.{arith}
 use Rattle.wire.proofs.Signed.{NotNegative, not_negative, Negative, negative}
 use Rattle.hours.specs.Code.{counted}
 use Rattle.hours.proofs.Floor.{within_pos, within_neg}
-use borrow.Author.Rules.{rules}
 use Rattle.hours.proofs.count.Goals as goal
 use Rattle.hours.proofs.count.Lts as places
 use Rattle.hours.proofs.count.Reads.{Pre, Post}

@@ -5,7 +5,6 @@ use native.Mathlib.Omega.{arith}
 use Rattle.wire.proofs.Signed.{NotNegative, not_negative, Negative, negative}
 use Rattle.hours.specs.Calendar.{is_within_windows}
 use Rattle.hours.proofs.Floor.{within_from_zero, within_below_zero}
-use borrow.Author.Rules.{rules}
 use Rattle.hours.proofs.is_within.Goals as goal
 use Rattle.hours.proofs.is_within.Lts as places
 use Rattle.hours.proofs.is_within.Reads.{Pre, Post}

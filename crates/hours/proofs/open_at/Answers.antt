@@ -1,6 +1,5 @@
 use borrow.Author.Tests.{lt-leb, le-leb}
 use Rattle.hours.specs.Calendar.{open_at}
-use borrow.Author.Rules.{rules}
 use Rattle.hours.proofs.open_at.Goals as goal
 
 pub returns-then-m-opens : goal.returns-then-m-opens

@@ -7,17 +7,16 @@ use mir.Syntax.{w64}
 use mir.ValLaws.{to_z-of_z}
 use Rattle.hours.specs.Code.{counted}
 use Rattle.hours.proofs.Floor.{counted_most, since_now}
-use borrow.Author.Rules.{rules}
-
 -- what the calls answer, of the numbers that they are given
 use Rattle.hours.proofs.since_monday.Goals as goal
 use Rattle.hours.proofs.since_monday.Lts as places
 use Rattle.hours.proofs.since_monday.Reads.{Pre, Post}
+use Rattle.hours.proofs.since_monday.Tie.{the-claims}
 
-count : (c : places.After-to_saturday Pre Post) → c.count.result ≡ counted c.args.moment
+count : (c : places.After-to_saturday the-claims Pre Post) → c.count.result ≡ counted c.args.moment
 count c = rw (to_z-of_z w64 c.args.moment c.ranges.moment) at c.count.ensures
 
-saturday : (c : places.After-to_saturday Pre Post) → (c.args.offset +ℤ pos 7200 ≡ pos c.to_saturday.result) × (c.to_saturday.result ≤ 8040)
+saturday : (c : places.After-to_saturday the-claims Pre Post) → (c.args.offset +ℤ pos 7200 ≡ pos c.to_saturday.result) × (c.to_saturday.result ≤ 8040)
 saturday c = rw (to_z-of_z w64 c.args.offset c.ranges.offset) at c.to_saturday.ensures
 
 pub count-requires : goal.count-requires

@@ -1,13 +1,11 @@
 -- The sum is not negative.
-use mathlib.Core.Path.{◌≡◌, ◌∙◌}
-use Prim.Native.Nat.{ℕ}
+use mathlib.Core.Path.{◌≡◌}
 use native.Mathlib.Omega.{arith}
 use lib.IntN.{pos, ◌+ℤ◌}
 use mir.Syntax.{w64}
 use mir.Val.{to_z, of_z}
 use mir.ValLaws.{to_z-of_z, to_z_pos}
 use Rattle.hours.proofs.Floor.{Ahead, ahead}
-use borrow.Author.Rules.{rules}
 use Rattle.hours.proofs.to_saturday.Goals as goal
 use Rattle.hours.proofs.to_saturday.Lts as places
 use Rattle.hours.proofs.to_saturday.Reads.{Pre, Post}

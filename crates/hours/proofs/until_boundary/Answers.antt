@@ -1,6 +1,5 @@
 use borrow.Author.Tests.{lt-ltb, le-ltb}
 use Rattle.hours.specs.Code.{until_boundary}
-use borrow.Author.Rules.{rules}
 use Rattle.hours.proofs.until_boundary.Goals as goal
 
 pub returns-then-minute-opens : goal.returns-then-minute-opens

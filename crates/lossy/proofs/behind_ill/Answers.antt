@@ -1,7 +1,6 @@
 -- An ill-formed part that soon follows ends the stretch; else blocks find it.
 use Rattle.lossy.proofs.Turns.{walked_ends, stretch_behind}
 use native.Mathlib.Omega.{arith}
-use borrow.Author.Rules.{rules}
 use Rattle.lossy.proofs.behind_ill.Goals as goal
 
 pub returns-then-t-ne0 : goal.returns-then-t-ne0

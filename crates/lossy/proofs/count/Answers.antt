@@ -2,7 +2,6 @@
 use Rattle.error.proofs.Laws.{fits, over}
 use Rattle.lossy.proofs.Laws.{measured_fits, measured_over}
 use mathlib.Core.Path.{sym}
-use borrow.Author.Rules.{rules}
 use Rattle.lossy.proofs.count.Goals as goal
 
 pub returns-in-Fits : goal.returns-in-Fits

@@ -1,16 +1,15 @@
 -- What is left of the lossy text, put where the loop stands, gives what is asked, a stretch and the mark after it at a time.
 use Rattle.wire.proofs.Laws.{put_none}
-use Rattle.wire.proofs.Pieces.{Filling, filling_start}
+use Rattle.wire.proofs.Pieces.{filling_start}
 use Rattle.lossy.specs.Lossy.{lossy_of}
 use Rattle.lossy.proofs.Laws.{lossy_end}
 use Rattle.lossy.proofs.Stretches.{stretch_within, behind_within}
 use Rattle.lossy.proofs.Written.{stretch_written, mark_written, all_written}
-use Prim.Native.Nat.{◌≤◌, ◌+◌, ◌-◌}
+use Prim.Native.Nat.{◌≤◌}
 use mathlib.Core.Path.{◌≡◌, refl, sym, ◌∙◌}
 use mathlib.Core.List.{[]}
 use native.Mathlib.Omega.{arith}
 use lib.ListN.{length, drop}
-use borrow.Author.Rules.{rules}
 use Rattle.lossy.proofs.fill.Goals as goal
 
 pub loop-i-init : goal.loop-i-init
@@ -21,11 +20,10 @@ slice_bounds-place-count c =
     let w = c.stretch_from-t in
     (stretch_within c.args.text.now c.loop-i.i w.result (omega arith) w.ensures).0
 
-part_place_end : tie.Need-slice-bounds-place-end invariant-loop decreases-loop
-part_place_end c =
-    let w = c.before.stretch-from in
-    let l = c.before.before.before in
-    (stretch_within l.before.before.before.args.text.now l.loop.i w.result (omega arith) w.ensures).1
+pub slice_bounds-place-end : goal.slice_bounds-place-end
+slice_bounds-place-end c =
+    let w = c.stretch_from-t in
+    (stretch_within c.args.text.now c.loop-i.i w.result (omega arith) w.ensures).1
 
 pub shape_of-out-then-t-eq0 : goal.shape_of-out-then-t-eq0
 shape_of-out-then-t-eq0 c =

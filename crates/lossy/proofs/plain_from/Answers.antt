@@ -2,12 +2,11 @@
 use Rattle.lossy.specs.Stretch.{stretch_of}
 use Rattle.lossy.proofs.Laws.{stretch_none}
 use Rattle.lossy.proofs.Turns.{ill_part, stretch_goes_on, stretch_ends}
-use Prim.Native.Nat.{◌≤◌, ◌+◌, ◌-◌}
+use Prim.Native.Nat.{◌≤◌}
 use mathlib.Core.Path.{◌≡◌}
 use native.Mathlib.Omega.{arith}
 use lib.ListN.{length, drop, drop_of_length-le}
 use borrow.Author.Tests.{not-true, not-false}
-use borrow.Author.Rules.{rules}
 use Rattle.lossy.proofs.plain_from.Goals as goal
 
 pub returns-then-not-p : goal.returns-then-not-p

@@ -1,13 +1,8 @@
 -- What is passed and the stretch from there on make the whole stretch.
 use Rattle.lossy.specs.Stretch.{stretch_of}
-use Rattle.lossy.proofs.Laws.{stretch_none}
-use Rattle.lossy.proofs.Turns.{ill_part, stretch_goes_on, stretch_ends}
 use Prim.Native.Nat.{◌≤◌, ◌+◌, ◌-◌}
 use mathlib.Core.Path.{◌≡◌}
-use native.Mathlib.Omega.{arith}
-use lib.ListN.{length, drop, drop_of_length-le}
-use borrow.Author.Tests.{not-true, not-false}
-use borrow.Author.Rules.{rules}
+use lib.ListN.{length, drop}
 use Rattle.lossy.proofs.plain_from.Given as goal
 
 abbrev pub invariant-loop-i : goal.invariant-loop-i

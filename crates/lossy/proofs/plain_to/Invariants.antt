@@ -1,12 +1,7 @@
 -- What is passed is well-formed, part after part.
 use Rattle.lossy.specs.Blocks.{PassedTo}
-use Rattle.lossy.proofs.Turns.{passed_part, walked_ill}
 use Prim.Native.Nat.{◌≤◌, ◌-◌}
-use mathlib.Core.Path.{refl}
-use native.Mathlib.Omega.{arith}
 use lib.ListN.{length}
-use borrow.Author.Tests.{not-true, not-false}
-use borrow.Author.Rules.{rules}
 use Rattle.lossy.proofs.plain_to.Given as goal
 
 abbrev pub invariant-loop-i : goal.invariant-loop-i

@@ -1,12 +1,8 @@
 -- What is passed is well-formed, part after part.
-use Rattle.lossy.specs.Blocks.{PassedTo}
 use Rattle.lossy.proofs.Turns.{passed_part, walked_ill}
-use Prim.Native.Nat.{◌≤◌, ◌-◌}
 use mathlib.Core.Path.{refl}
 use native.Mathlib.Omega.{arith}
-use lib.ListN.{length}
 use borrow.Author.Tests.{not-true, not-false}
-use borrow.Author.Rules.{rules}
 use Rattle.lossy.proofs.table_to.Goals as goal
 
 pub loop-i-init : goal.loop-i-init

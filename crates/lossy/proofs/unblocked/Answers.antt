@@ -1,8 +1,5 @@
 -- What blocks pass, or the parts of as many bytes.
-use Prim.Native.Nat.{◌≤◌, ◌+◌}
-use mathlib.Core.Path.{◌≡◌}
 use native.Mathlib.Omega.{arith}
-use borrow.Author.Rules.{rules}
 use Rattle.lossy.proofs.unblocked.Goals as goal
 
 pub returns-then-from-b : goal.returns-then-from-b

@@ -11,21 +11,13 @@ use mathlib.Core.Path.{◌≡◌, refl, sym, ap, ◌∙◌}
 use mathlib.Core.List.{List}
 use native.Mathlib.Omega.{arith}
 use lib.ListN.{length}
-use borrow.Author.Rules.{rules}
 use Rattle.lossy.proofs.write_by.Goals as goal
-use Rattle.lossy.proofs.write_by.Lts as places
-use Rattle.lossy.proofs.write_by.Reads.{Pre, Post}
 
 pub returns-then-text-gt-INPUT_LIMIT : goal.returns-then-text-gt-INPUT_LIMIT
 returns-then-text-gt-INPUT_LIMIT c = marked 25 0 0 _ (too_long _ _ _ c.if-text-gt-INPUT_LIMIT.true) refl
 
 pub returns-in_default : goal.returns-in_default
 returns-in_default c = marked 4 0 0 _ (no_room _ _ _ (omega arith) (measured_over _ _ _ c.measure_by.ensures c.in_default.is)) refl
-
--- the text was measured
-fitting : (c : places.After-bytes Pre Post) → let a = c.args in let g = c.bytes-1.given.0 in
-    (length (lossy_of a.text.now) ≡ g.0) × (g.0 ≤ length a.out.now) × (marks_of a.text.now ≡ g.1.0)
-fitting c = measured_fits _ _ _ _ _ c.measure_by.ensures c.in-Fits.is
 
 -- a text without marks was placed as it is
 unmarked : (s out : List ℕ) {q : List ℕ} {n r : ℕ} → length s ≤ input_limit → length (lossy_of s) ≡ n → n ≤ length out → marks_of s ≡ 0 → (r, q) ≡ placed out 0 s
@@ -34,15 +26,13 @@ unmarked s out h e k z p = wrote_placed (length s) (lossy_of s) out h e k (p ∙
 
 pub returns-then-marks-eq0 : goal.returns-then-marks-eq0
 returns-then-marks-eq0 c =
-    let before-fit = c.before.before.before.before.before.before in
-    let h = fitting before-fit in
+    let h = measured_fits _ _ _ _ _ c.measure_by.ensures c.in-Fits.is in
     marked 0 _ _ _ (unmarked _ _ (omega arith) h.0 h.1 (omega arith) c.place.ensures) (sym h.2)
 
 pub fill-requires : goal.fill-requires
-fill-requires c = let h = fitting c.before.before.before in omega arith
+fill-requires c = let h = measured_fits _ _ _ _ _ c.measure_by.ensures c.in-Fits.is in omega arith
 
 pub returns : goal.returns
 returns c =
-    let before-fit = c.before.before.before.before.before.before in
-    let h = fitting before-fit in
+    let h = measured_fits _ _ _ _ _ c.measure_by.ensures c.in-Fits.is in
     marked 0 _ _ _ (wrote _ _ _ _ _ (omega arith) h.0 h.1 c.fill.ensures) (sym h.2)

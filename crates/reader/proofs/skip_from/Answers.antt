@@ -1,7 +1,6 @@
 -- The three places where a move ends.
 use mathlib.Core.Path.{sym}
 use native.Mathlib.Omega.{arith}
-use borrow.Author.Rules.{rules}
 use Rattle.reader.proofs.Laws.{skipped_within, skipped_to_end, skipped_far}
 use Rattle.reader.proofs.skip_from.Goals as goal
 

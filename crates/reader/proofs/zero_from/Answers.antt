@@ -4,8 +4,6 @@ use mathlib.Core.Path.{sym, ap}
 use Prim.Native.Nat.{◌≤◌}
 use lib.ListN.{length, drop_of_length-le}
 use native.Mathlib.Omega.{arith}
-use borrow.Author.Rules.{rules}
-
 -- after the end there is no byte
 use Rattle.reader.proofs.zero_from.Goals as goal
 

@@ -7,7 +7,6 @@ use Rattle.wire.proofs.FieldLaws.{told, field_within}
 use Rattle.replication.proofs.Laws.{keep_alive_cut, keep_alive_time_cut, keep_alive_read}
 use mathlib.Core.Path.{sym, ap, ◌∙◌}
 use native.Mathlib.Omega.{arith}
-use borrow.Author.Rules.{rules}
 use Rattle.replication.proofs.keep_alive.Goals as goal
 
 pub returns-in_default : goal.returns-in_default

@@ -1,6 +1,5 @@
 -- By the letter: what the body says is what the payload says.
 use Rattle.replication.proofs.Laws.{empty, by_w, by_k, by_other}
-use borrow.Author.Rules.{rules}
 use Rattle.replication.proofs.parse_copy_data.Goals as goal
 
 pub returns-then-payload-eq0 : goal.returns-then-payload-eq0
@@ -11,8 +10,7 @@ returns-then-letter-eq119 c = by_w _ _ c.if-payload-eq0.false c.if-letter-eq119.
 
 pub returns-then-letter-eq107 : goal.returns-then-letter-eq107
 returns-then-letter-eq107 c =
-    let at-if1 = c.before.before.before.before.before in
-    by_k _ _ at-if1.if1.false c.if-letter-eq119.false c.if-letter-eq107.true c.keep_alive.ensures
+    by_k _ _ c.if-payload-eq0.false c.if-letter-eq119.false c.if-letter-eq107.true c.keep_alive.ensures
 
 pub returns : goal.returns
 returns c = by_other _ c.if-payload-eq0.false c.if-letter-eq119.false c.if-letter-eq107.false

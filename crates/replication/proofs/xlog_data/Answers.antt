@@ -9,10 +9,7 @@ use mathlib.Core.Path.{sym, ap, ◌∙◌}
 use Prim.Native.Nat.{◌≤◌}
 use lib.ListN.{length}
 use native.Mathlib.Omega.{arith}
-use borrow.Author.Rules.{rules}
 use Rattle.replication.proofs.xlog_data.Goals as goal
-use Rattle.replication.proofs.xlog_data.Lts as places
-use Rattle.replication.proofs.xlog_data.Reads.{Pre, Post}
 
 pub returns-in_default : goal.returns-in_default
 returns-in_default c = xlog_cut 8 _ 0 (omega arith) (sym (ap u64_of c.in_default.is) ∙ c.read_u64.ensures)
@@ -23,21 +20,17 @@ returns-in_default-read_u64 c = xlog_cut 8 _ 8 (omega arith) (sym (ap u64_of c.i
 pub returns-in_default-read_i64 : goal.returns-in_default-read_i64
 returns-in_default-read_i64 c = xlog_time_cut 8 _ 16 (omega arith) (sym (ap i64_of c.in_default-read_i64.is) ∙ c.read_i64.ensures)
 
--- the last field ends within the body
-ends : (c : places.After-server_time Pre Post)
-    → 24 ≤ length c.args.body.now
-ends c = omega (arith, int_within 8 _ 16 _ (told i64_of c.read_i64.ensures c.in-Value-read_i64.is))
-
 pub returns : goal.returns
 returns c =
-    let t = c.before in
-    let z = t.in-Value-read_i64.server_time in
+    let z = c.in-Value-read_i64.server_time in
     let f : SFits w64 z = record { sfits = omega arith } in
+    -- the last field ends within the body
+    let ends : 24 ≤ length c.args.body.now = omega (arith, int_within 8 _ 16 _ (told i64_of c.read_i64.ensures c.in-Value-read_i64.is)) in
     rw (to_z-of_z w64 z f)
-    (xlog_read _ _ _ z (ends t)
-    (sym (ap u64_of t.in-Value.is) ∙ t.read_u64.ensures)
-    (sym (ap u64_of t.in-Value-read_u64.is) ∙ t.read_u64-2.ensures)
-    (sym (ap i64_of t.in-Value-read_i64.is) ∙ t.read_i64.ensures))
+    (xlog_read _ _ _ z ends
+    (sym (ap u64_of c.in-Value.is) ∙ c.read_u64.ensures)
+    (sym (ap u64_of c.in-Value-read_u64.is) ∙ c.read_u64-2.ensures)
+    (sym (ap i64_of c.in-Value-read_i64.is) ∙ c.read_i64.ensures))
 
 pub overflow_sub-result : goal.overflow_sub-result
-overflow_sub-result c = omega (arith, ends c.before)
+overflow_sub-result c = omega (arith, int_within 8 _ 16 _ (told i64_of c.read_i64.ensures c.in-Value-read_i64.is))

@@ -20,5 +20,4 @@ returns-then-at-interval c = simp (ne_eqb _ _ c.if-interval-eq0.false) (omega ar
 pub returns : goal.returns
 unfolding due_of
 returns c =
-    let at-if1 = c.before.before.before.before.before in
-    simp (ne_eqb _ _ at-if1.if1.false) (omega arith)
+    simp (ne_eqb _ _ c.if-interval-eq0.false) (omega arith)

@@ -6,8 +6,7 @@ use Rattle.schedule.proofs.waiting.Goals as goal
 pub returns-then-run : goal.returns-then-run
 unfolding waiting_next
 returns-then-run c =
-    let at-if1 = c.before.before.before in
-    rw (c.by_clock.ensures, c.sooner.ensures, c.due-status.ensures, at-if1.before.due.ensures) (simp at-if1.if1.true)
+    rw (c.by_clock.ensures, c.sooner.ensures, c.due-status.ensures, c.due-idle.ensures) (simp c.if-run.true)
 
 pub returns-then-run-2 : goal.returns-then-run-2
 unfolding waiting_next

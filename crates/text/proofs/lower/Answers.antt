@@ -1,6 +1,5 @@
 -- Two digits' ranges.
 use borrow.Author.Tests.{lt-ltb, le-ltb}
-use borrow.Author.Rules.{rules}
 use Rattle.text.proofs.lower.Goals as goal
 
 pub returns-then-d-lt10 : goal.returns-then-d-lt10

@@ -4,7 +4,6 @@ use Rattle.text.proofs.Laws.{length_hex_bytes}
 use Prim.Native.Nat.{◌*◌}
 use native.Mathlib.Omega.{arith}
 use lib.ListN.{length}
-use borrow.Author.Rules.{rules}
 use Rattle.text.proofs.place_hex_bytes.Goals as goal
 
 pub returns-then-out-to : goal.returns-then-out-to

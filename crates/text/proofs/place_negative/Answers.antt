@@ -7,7 +7,6 @@ use mathlib.Core.Path.{sym, ◌∙◌}
 use mathlib.Core.List.{◌∷◌}
 use native.Mathlib.Omega.{arith}
 use lib.ListN.{length-set}
-use borrow.Author.Rules.{rules}
 use Rattle.text.proofs.place_negative.Goals as goal
 
 pub returns-then-out-to : goal.returns-then-out-to

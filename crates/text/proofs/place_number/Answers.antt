@@ -3,7 +3,6 @@ use Rattle.wire.proofs.Laws.{unplaced, placed_at}
 use Rattle.text.specs.Numeral.{numeral}
 use mathlib.Core.Path.{sym}
 use native.Mathlib.Omega.{arith}
-use borrow.Author.Rules.{rules}
 use Rattle.text.proofs.place_number.Goals as goal
 
 pub returns-then-out-to : goal.returns-then-out-to

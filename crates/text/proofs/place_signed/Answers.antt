@@ -2,7 +2,6 @@
 use Rattle.wire.proofs.Signed.{NotNegative, not_negative, Negative, negative}
 use Prim.Native.Nat.{◌^◌}
 use native.Mathlib.Omega.{arith}
-use borrow.Author.Rules.{rules}
 use Rattle.text.proofs.place_signed.Goals as goal
 use Rattle.text.proofs.place_signed.Tie.{the-claims}
 use Rattle.text.proofs.place_signed.Lts as places

@@ -1,11 +1,8 @@
 -- The digits counted and those that are left are those of v, and one.
 use Rattle.text.proofs.Laws.{falls, stays, numeral_one, numeral_longer, numeral_length}
-use Rattle.text.specs.Numeral.{numeral}
-use Prim.Native.Nat.{◌<◌, ◌+◌, ◌^◌}
-use mathlib.Core.Path.{◌≡◌, refl, ap}
+use mathlib.Core.Path.{refl, ap}
 use native.Mathlib.Omega.{arith}
 use lib.ListN.{length}
-use borrow.Author.Rules.{rules}
 use Rattle.text.proofs.places.Goals as goal
 
 pub loop-x-init : goal.loop-x-init

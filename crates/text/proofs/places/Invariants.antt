@@ -1,11 +1,8 @@
 -- The digits counted and those that are left are those of v, and one.
-use Rattle.text.proofs.Laws.{falls, stays, numeral_one, numeral_longer, numeral_length}
 use Rattle.text.specs.Numeral.{numeral}
 use Prim.Native.Nat.{◌<◌, ◌+◌, ◌^◌}
-use mathlib.Core.Path.{◌≡◌, refl, ap}
-use native.Mathlib.Omega.{arith}
+use mathlib.Core.Path.{◌≡◌}
 use lib.ListN.{length}
-use borrow.Author.Rules.{rules}
 use Rattle.text.proofs.places.Given as goal
 
 abbrev pub invariant-loop-x : goal.invariant-loop-x

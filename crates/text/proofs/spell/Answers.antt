@@ -1,12 +1,10 @@
 -- With i digits to go, the i digits of x written over out give what is asked.
 use Rattle.text.proofs.Laws.{falls, stays, digit_below, numeral_one, numeral_longer, spell_turn, spell_end}
 use Rattle.text.specs.Numeral.{numeral}
-use Rattle.wire.specs.Bytes.{put}
 use Prim.Native.Nat.{ℕ, ◌+◌, ◌/◌, ◌≤◌, ◌<◌, ◌^◌}
 use mathlib.Core.Path.{◌≡◌, refl, ap}
 use native.Mathlib.Omega.{arith}
 use lib.ListN.{length, length-set}
-use borrow.Author.Rules.{rules}
 use Rattle.text.proofs.spell.Goals as goal
 
 pub loop-x-init : goal.loop-x-init

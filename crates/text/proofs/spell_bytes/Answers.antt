@@ -1,12 +1,8 @@
 -- The digits of the bytes that are left, written over out, give what is asked.
 use Rattle.text.proofs.Laws.{bytes_turn, bytes_end}
-use Rattle.text.specs.Numeral.{hex_bytes}
-use Rattle.wire.specs.Bytes.{put}
-use Prim.Native.Nat.{◌≤◌, ◌+◌, ◌*◌, ◌-◌}
-use mathlib.Core.Path.{◌≡◌, refl, sym, ◌∙◌}
+use mathlib.Core.Path.{refl, sym, ◌∙◌}
 use native.Mathlib.Omega.{arith}
-use lib.ListN.{length, drop, length-set}
-use borrow.Author.Rules.{rules}
+use lib.ListN.{length-set}
 use Rattle.text.proofs.spell_bytes.Goals as goal
 
 pub loop-i-init : goal.loop-i-init

@@ -1,9 +1,8 @@
 -- The entry at the state and the byte, or 8.
-use mathlib.Core.Path.{◌≡◌, refl}
+use mathlib.Core.Path.{◌≡◌}
 use native.Mathlib.Omega.{arith}
 use Prim.Native.Nat.{◌+◌, ◌*◌}
 use borrow.Author.Tests.{le-leb, lt-leb}
-use borrow.Author.Rules.{rules}
 use Rattle.utf8.proofs.next.Goals as goal
 
 pub returns-then-state-ge8 : goal.returns-then-state-ge8

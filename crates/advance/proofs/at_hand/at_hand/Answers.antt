@@ -12,12 +12,11 @@ returns-then-n-eq0 c = (
 pub returns : goal.returns
 unfolding at_hand_of
 returns c =
-    let at-if1 = c.before.before in
-    let u = at-if1.before.before.before.args.unread.now in
-    let n = at-if1.before.whole_at.result in
+    let u = c.args.unread.now in
+    let n = c.whole_at-n.result in
     let m : 5 + n - 5 ≡ n = omega arith in
     let l : length (take (5 + n - 5) (drop 5 u)) ≤ length u - 5 = simp (length-take, length-drop) (omega arith) in (
-      c.message.ensures.0 ∙ rw (m, ← at-if1.before.whole_at.ensures.0, ne_eqb _ _ at-if1.if1.false),
+      c.message.ensures.0 ∙ rw (m, ← c.whole_at-n.ensures.0, ne_eqb _ _ c.if-n-eq0.false),
       omega (
         arith,
         c.message.ensures.1,

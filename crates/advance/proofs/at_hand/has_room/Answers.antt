@@ -22,14 +22,12 @@ returns-then-out_len-lt39 c = rw (
 pub returns-then-is_in_range : goal.returns-then-is_in_range
 unfolding has_room_for
 returns-then-is_in_range c =
-    let at-if3 = c.before.before.before in
-    let at-if1 = at-if3.before.before in
     rw (
       c.is_before.ensures,
-      ← at-if1.before.limit-of.ensures,
-      le-ltb _ _ at-if1.if1.false,
-      le-ltb _ _ at-if3.before.if2.false,
-      le-ltb _ _ at-if3.if3.false,
+      ← c.limit_of-limit.ensures,
+      le-ltb _ _ c.if-payload_len-limit.false,
+      le-ltb _ _ c.if-limit-len.false,
+      le-ltb _ _ c.if-out_len-lt39.false,
       ← c.is_in_range.ensures,
       c.if-is_in_range.true,
     )
@@ -37,13 +35,11 @@ returns-then-is_in_range c =
 pub returns : goal.returns
 unfolding has_room_for
 returns c =
-    let at-if3 = c.before.before in
-    let at-if1 = at-if3.before.before in
     rw (
-      ← at-if1.before.limit-of.ensures,
-      le-ltb _ _ at-if1.if1.false,
-      le-ltb _ _ at-if3.before.if2.false,
-      le-ltb _ _ at-if3.if3.false,
+      ← c.limit_of-limit.ensures,
+      le-ltb _ _ c.if-payload_len-limit.false,
+      le-ltb _ _ c.if-limit-len.false,
+      le-ltb _ _ c.if-out_len-lt39.false,
       ← c.is_in_range.ensures,
       c.if-is_in_range.false,
     )

@@ -5,21 +5,17 @@ use Rattle.advance.proofs.at_hand.is_between.Goals as goal
 pub returns-then-reader : goal.returns-then-reader
 unfolding is_between
 returns-then-reader c =
-    let at-if1 = c.before.before.before.before in
-    rw (← at-if1.before.is-drain.ensures, at-if1.if1.true, eq-eqb _ _ c.if-reader-eq0.true, c.if-reader.true)
+    rw (← c.is_drain.ensures, c.if-is_drain.true, eq-eqb _ _ c.if-reader-eq0.true, c.if-reader.true)
 
 pub returns-then-reader-eq0 : goal.returns-then-reader-eq0
 unfolding is_between
 returns-then-reader-eq0 c =
-    let at-if2 = c.before.before in
-    let at-if1 = at-if2.before.before.before in
-    rw (← at-if1.before.is-drain.ensures, at-if1.if1.true, eq-eqb _ _ at-if2.if2.true, c.if-reader.false)
+    rw (← c.is_drain.ensures, c.if-is_drain.true, eq-eqb _ _ c.if-reader-eq0.true, c.if-reader.false)
 
 pub returns-then-is_drain : goal.returns-then-is_drain
 unfolding is_between
 returns-then-is_drain c =
-    let at-if1 = c.before.before.before in
-    rw (← at-if1.before.is-drain.ensures, at-if1.if1.true, ne_eqb _ _ c.if-reader-eq0.false)
+    rw (← c.is_drain.ensures, c.if-is_drain.true, ne_eqb _ _ c.if-reader-eq0.false)
 
 pub returns : goal.returns
 unfolding is_between

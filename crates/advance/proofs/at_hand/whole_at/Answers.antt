@@ -12,8 +12,7 @@ returns-then-unread-lt30 c = (rw (lt-ltb _ _ c.if-unread-lt30.true), omega arith
 pub returns-in_default : goal.returns-in_default
 unfolding whole_at
 returns-in_default c =
-    let at-args = c.before.before.before.before.before.before.before.before in
-    let u = at-args.args.unread.now in
+    let u = c.args.unread.now in
     let e : ◌≡◌ {A = Option ℕ} none (some (be (at u 1 4))) = (rw c.in_default.is at c.read_u32.ensures) ∙ field_whole 4 u 1 (omega arith) in
     let z : ◌≡◌ {A = ℕ} 0 1 = cc e in
     absurd (omega arith)
@@ -21,16 +20,14 @@ returns-in_default c =
 pub returns-then-is_copy_data : goal.returns-then-is_copy_data
 unfolding whole_at
 returns-then-is_copy_data c =
-    let at-read-u32 = c.before.before.before.before in
-    let at-if1 = at-read-u32.before.before.before.before in
-    let u = at-if1.before.before.args.unread.now in
-    let e : some c.in-Value.n ≡ some (be (at u 1 4)) = (rw c.in-Value.is at at-read-u32.read_u32.ensures) ∙ field_whole 4 u 1 (omega arith) in
+    let u = c.args.unread.now in
+    let e : some c.in-Value.n ≡ some (be (at u 1 4)) = (rw c.in-Value.is at c.read_u32.ensures) ∙ field_whole 4 u 1 (omega arith) in
     let v : c.in-Value.n ≡ be (at u 1 4) = cc e in (
       c.within.ensures.0 ∙ rw (
         v,
-        le-ltb _ _ at-if1.if1.false,
-        ← at-read-u32.before.before.is-copy-data.ensures,
-        at-read-u32.before.if2.true,
+        le-ltb _ _ c.if-unread-lt30.false,
+        ← c.is_copy_data.ensures,
+        c.if-is_copy_data.true,
       ),
       c.within.ensures.1,
     )

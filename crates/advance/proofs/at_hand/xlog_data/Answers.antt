@@ -8,22 +8,19 @@ use Rattle.advance.proofs.at_hand.xlog_data.Goals as goal
 
 pub returns-in_default : goal.returns-in_default
 returns-in_default c =
-    let at-args = c.before.before.before.before.before in
-    let s = at-args.args.payload.now in
+    let s = c.args.payload.now in
     let h = field_short 8 s 1 (sym (ap u64_of c.in_default.is) ∙ c.read_u64.ensures) in
     (c.none.ensures ∙ xlog_short s (omega arith), rw c.none.ensures (omega arith))
 
 pub returns-in_default-read_u64 : goal.returns-in_default-read_u64
 returns-in_default-read_u64 c =
-    let at-args = c.before.before.before.before.before.before.before.before.before in
-    let s = at-args.args.payload.now in
+    let s = c.args.payload.now in
     let h = field_short 8 s 9 (sym (ap u64_of c.in_default-read_u64.is) ∙ c.read_u64-2.ensures) in
     (c.none-in_default-read_u64.ensures ∙ xlog_short s (omega arith), rw c.none-in_default-read_u64.ensures (omega arith))
 
 pub returns-in_default-read_i64 : goal.returns-in_default-read_i64
 returns-in_default-read_i64 c =
-    let at-args = c.before.before.before.before.before.before.before.before.before.before.before.before.before in
-    let s = at-args.args.payload.now in
+    let s = c.args.payload.now in
     let h = int_short 8 s 17 (sym (ap i64_of c.in_default-read_i64.is) ∙ c.read_i64.ensures) in
     (c.none-in_default-read_i64.ensures ∙ xlog_short s (omega arith), rw c.none-in_default-read_i64.ensures (omega arith))
 

@@ -1,4 +1,3 @@
-use borrow.Author.Rules.{rules}
 use Rattle.error.proofs.Refusal.is_kind.Goals as goal
 
 pub returns : goal.returns

@@ -1,4 +1,3 @@
-use borrow.Author.Rules.{rules}
 use Rattle.error.proofs.Refusal.is_transient.Goals as goal
 
 pub returns : goal.returns

@@ -1,6 +1,5 @@
 -- Each arm answers the kind of its refusal.
 use mathlib.Core.Path.{◌≡◌, sym, ap}
-use borrow.Author.Rules.{rules}
 use Rattle.error.specs.Refusal.{kind_of}
 use Rattle.error.specs.declared.Refusal.{Refusal}
 use Rattle.error.proofs.Refusal.kind.Goals as goal

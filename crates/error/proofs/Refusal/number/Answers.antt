@@ -1,6 +1,5 @@
 -- Each arm answers the number of its refusal.
 use mathlib.Core.Path.{◌≡◌, sym, ap}
-use borrow.Author.Rules.{rules}
 use Rattle.error.specs.Refusal.{number_of}
 use Rattle.error.specs.declared.Refusal.{Refusal}
 use Rattle.error.proofs.Refusal.number.Goals as goal

@@ -6,7 +6,5 @@ use Rattle.ffi_export.proofs.client.rufflesquash_write_startup.Goals as goal
 
 pub returns : goal.returns
 returns c =
-    let at-write = c.before.before.before in
-    let start = at-write.before.before.before in
-    let back = to_z-of_z w32 start.args.version start.ranges.version in
-    replied c.written_reply-reply.ensures (rw back at at-write.write-startup.ensures)
+    let back = to_z-of_z w32 c.args.version c.ranges.version in
+    replied c.written_reply-reply.ensures (rw back at c.write_startup.ensures)

@@ -6,7 +6,5 @@ use Rattle.ffi_export.proofs.client.rufflesquash_write_status.Goals as goal
 
 pub returns : goal.returns
 returns c =
-    let at-write = c.before.before.before in
-    let start = at-write.before.before.before in
-    let back = to_z-of_z w64 start.args.client-time start.ranges.client-time in
-    replied c.written_reply-answer.ensures (rw back at at-write.write-status-update.ensures)
+    let back = to_z-of_z w64 c.args.client-time c.ranges.client-time in
+    replied c.written_reply-answer.ensures (rw back at c.write_status_update.ensures)

@@ -4,8 +4,6 @@ use Rattle.ffi_words.proofs.run.run_of.Goals as goal
 
 pub returns : goal.returns
 returns c =
-    let at-status = c.before.before.before.before in
-    let at-state = at-status.before.before.before.before in
-    run_by at-state.before.settings-of.ensures at-state.state_of.ensures at-status.before.before.before.run-reader-of.ensures
-    at-status.before.before.clock-of.ensures at-status.before.progress-of.ensures at-status.last-status-of.ensures
+    run_by c.settings_of-settings.ensures c.state_of-state.ensures c.run_reader_of-reader.ensures
+    c.clock_of-clock.ensures c.progress_of-progress.ensures c.last_status_of-status.ensures
     c.flag_of.ensures c.whole_of-whole.ensures c.offer_of-offer.ensures c.metrics_of-metrics.ensures

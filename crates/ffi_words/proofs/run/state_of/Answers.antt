@@ -34,11 +34,9 @@ returns-then-n-eq-STATE_OFFERING c = rw c.if-n-eq-STATE_OFFERING.true
 pub returns-else-n-eq-STATE_OFFERING : goal.returns-else-n-eq-STATE_OFFERING
 unfolding state_of
 returns-else-n-eq-STATE_OFFERING c =
-    let at-if2 = c.before.before.before.before.before in
-    let at-if1 = c.before.before.before.before.before.before in
     simp (
-      ne_eqb _ _ at-if1.if1.false,
-      ne_eqb _ _ at-if2.if2.false,
+      ne_eqb _ _ c.if-n-eq-STATE_OPENING.false,
+      ne_eqb _ _ c.if-n-eq-STATE_TURN.false,
       ne_eqb _ _ c.if-n-eq-STATE_DRAIN.false,
       ne_eqb _ _ c.if-n-eq-STATE_READING.false,
       ne_eqb _ _ c.if-n-eq-STATE_WAITING.false,

@@ -1,7 +1,6 @@
 -- The tests in their order: 3, a remembered 7, then the header or the payload.
 use Rattle.framing.specs.Read.{read_of}
 use borrow.Author.Tests.{lt-ltb, le-ltb}
-use borrow.Author.Rules.{rules}
 use Rattle.framing.proofs.MessageReader.read.Goals as goal
 
 pub returns-then-payload-limit : goal.returns-then-payload-limit

@@ -11,7 +11,6 @@ use Rattle.frames.proofs.Front.{header_front, negative_front, short_front, over_
 use native.Mathlib.Omega.{arith}
 use Rattle.framing.specs.Read.{limit_of}
 use Rattle.framing.proofs.WholeFront.{front_is}
-use borrow.Author.Rules.{rules}
 use Rattle.framing.proofs.front.front.Goals as goal
 
 pub returns-then-unread-lt5 : goal.returns-then-unread-lt5
@@ -46,7 +45,7 @@ returns-then-limit_of-n c =
     let v : c.in-Value.n ≡ length_field u = cc ((rw c.in-Value.is at c.read_u32.ensures) ∙ field_whole 4 u 1 (omega arith)) in
     let a : length_field u < half 4 = subst (λ (z : ℕ). z < half 4) v c.if-n-ge-FIRST_NEGATIVE.false in
     let b : 4 ≤ length_field u = subst (λ (z : ℕ). 4 ≤ z) v c.if-n-lt4.false in
-    let w = c.args.max-message-size in
+    let w = c.args.max_message_size in
     let d : limit_of w < length_field u - 4 = rw (← c.limit_of.ensures, ← v) c.if-limit_of-n.true in
     (front_is w u too_large (over_front (limit_of w) u c.if-unread-lt5.false a b d), omega arith)
 
@@ -56,7 +55,7 @@ returns-then-unread-n c =
     let v : c.in-Value.n ≡ length_field u = cc ((rw c.in-Value.is at c.read_u32.ensures) ∙ field_whole 4 u 1 (omega arith)) in
     let a : length_field u < half 4 = subst (λ (z : ℕ). z < half 4) v c.if-n-ge-FIRST_NEGATIVE.false in
     let b : 4 ≤ length_field u = subst (λ (z : ℕ). 4 ≤ z) v c.if-n-lt4.false in
-    let w = c.args.max-message-size in
+    let w = c.args.max_message_size in
     let d : length_field u - 4 ≤ limit_of w = rw (← c.limit_of.ensures, ← v) c.if-limit_of-n.false in
     let e : length u < length_field u + 1 = subst (λ (z : ℕ). length u < z + 1) v c.if-unread-n.true in
     (front_is w u in_payload (payload_front (limit_of w) u c.if-unread-lt5.false a b d e), omega arith)
@@ -67,7 +66,7 @@ returns c =
     let v : c.in-Value.n ≡ length_field u = cc ((rw c.in-Value.is at c.read_u32.ensures) ∙ field_whole 4 u 1 (omega arith)) in
     let a : length_field u < half 4 = subst (λ (z : ℕ). z < half 4) v c.if-n-ge-FIRST_NEGATIVE.false in
     let b : 4 ≤ length_field u = subst (λ (z : ℕ). 4 ≤ z) v c.if-n-lt4.false in
-    let w = c.args.max-message-size in
+    let w = c.args.max_message_size in
     let d : length_field u - 4 ≤ limit_of w = rw (← c.limit_of.ensures, ← v) c.if-limit_of-n.false in
     let e : length_field u + 1 ≤ length u = subst (λ (z : ℕ). z + 1 ≤ length u) v c.if-unread-n.false in
     let f = front_is w u (whole (get_or u 0 0) (length_field u - 4)) (whole_front (limit_of w) u c.if-unread-lt5.false a b d e) in

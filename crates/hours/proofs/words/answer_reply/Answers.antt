@@ -1,4 +1,3 @@
-use borrow.Author.Rules.{rules}
 use Rattle.hours.proofs.words.answer_reply.Goals as goal
 
 pub returns-in-Told : goal.returns-in-Told

@@ -1,14 +1,12 @@
 -- Block after block of a text is well-formed.
 use Rattle.lossy.specs.Blocks.{trails, unfit_at, PassedTo}
 use Rattle.lossy.proofs.Pairs.{block_passed, trail_few}
-use Prim.Native.Nat.{◌+◌, ◌-◌, ◌≤◌, ◌<◌}
+use Prim.Native.Nat.{ℕ, ◌+◌, ◌≤◌, ◌<◌}
 use mathlib.Core.Path.{◌≡◌, refl, sym, ◌∙◌}
 use native.Mathlib.Omega.{arith}
+use mathlib.Core.List.{List}
 use lib.ListN.{length, get_or}
-use borrow.Author.Rules.{rules}
 use Rattle.lossy.proofs.blocks.passed.Goals as goal
-use Rattle.lossy.proofs.blocks.passed.Lts as places
-use Rattle.lossy.proofs.blocks.passed.Reads.{Pre, Post}
 
 pub loop-i-init : goal.loop-i-init
 loop-i-init c = (omega arith, record { from = omega arith; within = omega arith; is = refl })
@@ -20,31 +18,31 @@ pub returns-then-unfit_in-ne0 : goal.returns-then-unfit_in-ne0
 returns-then-unfit_in-ne0 c = c.loop-i.invariant.1
 
 -- the character that goes over the block's end
-over : (c : (places.After-trail2 Pre Post) invariant-loop decreases-loop) → let l = c.before.before.before.before.before.before.before.before in
-    (c.trail2.result ≤ 1) × (PassedTo l.before.before.args.text.now l.before.before.args.from (l.loop.i + 32 + c.trail2.result))
-over c =
-    let k = c.before.before in
-    let l = k.before.before.before.before.before.before in
-    let s = l.before.before.args.text.now in
-    let i = l.loop.i in
-    let e : k.before.before.before.trail.result ≡ trails (get_or s i 0) = k.before.before.before.trail.ensures in
-    let f : c.trail2.result ≡ trails (get_or s (i + 32) 0) = c.trail2.ensures in
-    let u : unfit_at s i 32 ≡ 0 = sym k.before.unfit-in.ensures ∙ omega arith in
-    let n = trail_few (get_or s (i + 32) 0) in
-    let h : i + 32 < length s = omega arith in
-    (omega arith, rw f (block_passed s l.before.before.args.from i l.loop.invariant.1 h (λ z. k.before.before.if1.false (e ∙ z)) u))
+over : (s : List ℕ) (from i : ℕ) {t u v : ℕ} → PassedTo s from i → i + 32 < length s → t ≡ trails (get_or s i 0) → (t ≡ 1 → ⊥) → u ≡ unfit_at s i 32 → u ≡ 0
+    → v ≡ trails (get_or s (i + 32) 0) → (v ≤ 1) × PassedTo s from (i + 32 + v)
+over s from i p h e n u z f =
+    let m = trail_few (get_or s (i + 32) 0) in
+    (rw f m, rw f (block_passed s from i p h (λ y. n (e ∙ y)) (sym u ∙ z)))
 
 pub overflow_cast-i : goal.overflow_cast-i
-overflow_cast-i c = let o = over c in omega arith
+overflow_cast-i c =
+    let o = over c.args.text.now c.args.from c.loop-i.i c.loop-i.invariant.1 (omega arith) c.trail.ensures c.if-trail-eq1.false c.unfit_in.ensures (omega arith) c.trail-in-loop-i.ensures in
+    omega arith
 
 pub overflow_add-i-in-loop-i : goal.overflow_add-i-in-loop-i
-overflow_add-i-in-loop-i c = let o = over c in omega arith
+overflow_add-i-in-loop-i c =
+    let o = over c.args.text.now c.args.from c.loop-i.i c.loop-i.invariant.1 (omega arith) c.trail.ensures c.if-trail-eq1.false c.unfit_in.ensures (omega arith) c.trail-in-loop-i.ensures in
+    omega arith
 
 pub loop-i-smaller : goal.loop-i-smaller
-loop-i-smaller c = let o = over c in omega arith
+loop-i-smaller c =
+    let o = over c.args.text.now c.args.from c.loop-i.i c.loop-i.invariant.1 (omega arith) c.trail.ensures c.if-trail-eq1.false c.unfit_in.ensures (omega arith) c.trail-in-loop-i.ensures in
+    omega arith
 
 pub loop-i-preserved : goal.loop-i-preserved
-loop-i-preserved c = let o = over c in (o.1.within, o.1)
+loop-i-preserved c =
+    let o = over c.args.text.now c.args.from c.loop-i.i c.loop-i.invariant.1 (omega arith) c.trail.ensures c.if-trail-eq1.false c.unfit_in.ensures (omega arith) c.trail-in-loop-i.ensures in
+    (o.1.within, o.1)
 
 pub returns : goal.returns
 returns c = c.loop-i.invariant.1

@@ -1,11 +1,7 @@
 -- Block after block of a text is well-formed.
-use Rattle.lossy.specs.Blocks.{trails, unfit_at, PassedTo}
-use Rattle.lossy.proofs.Pairs.{block_passed, trail_few}
-use Prim.Native.Nat.{◌+◌, ◌-◌, ◌≤◌, ◌<◌}
-use mathlib.Core.Path.{◌≡◌, refl, sym, ◌∙◌}
-use native.Mathlib.Omega.{arith}
-use lib.ListN.{length, get_or}
-use borrow.Author.Rules.{rules}
+use Rattle.lossy.specs.Blocks.{PassedTo}
+use Prim.Native.Nat.{◌-◌, ◌≤◌}
+use lib.ListN.{length}
 use Rattle.lossy.proofs.blocks.passed.Given as goal
 
 abbrev pub invariant-loop-i : goal.invariant-loop-i

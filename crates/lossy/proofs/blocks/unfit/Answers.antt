@@ -1,6 +1,5 @@
 -- Both numbers are compared.
 use Rattle.lossy.proofs.Pairs.{fits_same, fits_not}
-use borrow.Author.Rules.{rules}
 use Rattle.lossy.proofs.blocks.unfit.Goals as goal
 
 pub returns-then-lead-trail : goal.returns-then-lead-trail

@@ -1,11 +1,7 @@
 -- Of the bytes before the loop's place so many are unfit, at most each of them.
 use Rattle.lossy.specs.Blocks.{unfit_at}
-use Rattle.lossy.proofs.Pairs.{unfit_none, unfit_next, fits_few}
-use Prim.Native.Nat.{◌+◌, ◌-◌, ◌≤◌}
-use mathlib.Core.Path.{◌≡◌, sym, ap, ◌∙◌}
-use native.Mathlib.Omega.{arith}
-use lib.ListN.{get_or}
-use borrow.Author.Rules.{rules}
+use Prim.Native.Nat.{◌-◌, ◌≤◌}
+use mathlib.Core.Path.{◌≡◌}
 use Rattle.lossy.proofs.blocks.unfit_in.Given as goal
 
 abbrev pub invariant-loop-j : goal.invariant-loop-j

@@ -1,23 +1,16 @@
 -- What is left of the lossy text, put where the loop stands, gives what is asked, a stretch and the mark after it at a time.
 use Rattle.wire.proofs.Laws.{put_none}
-use Rattle.wire.proofs.Pieces.{Filling, filling_start}
+use Rattle.wire.proofs.Pieces.{filling_start}
 use Rattle.lossy.specs.Lossy.{lossy_of}
 use Rattle.lossy.proofs.Laws.{lossy_end}
 use Rattle.lossy.proofs.Stretches.{stretch_within, behind_within}
 use Rattle.lossy.proofs.Written.{stretch_written, mark_written, all_written}
-use Prim.Native.Nat.{◌≤◌, ◌+◌, ◌-◌}
+use Prim.Native.Nat.{◌≤◌}
 use mathlib.Core.Path.{◌≡◌, refl, sym, ◌∙◌}
 use mathlib.Core.List.{[]}
 use native.Mathlib.Omega.{arith}
 use lib.ListN.{length, drop}
-use borrow.Author.Rules.{rules}
 use Rattle.lossy.proofs.by_table.fill_in.Goals as goal
-use Rattle.lossy.proofs.by_table.fill_in.Lts as places
-use Rattle.lossy.proofs.by_table.fill_in.Reads.{Pre, Post}
-
--- the text has room
-fits : (b : (places.Start Pre Post) invariant-loop decreases-loop) → 0 + length (lossy_of b.args.text.now) ≤ length b.args.out.now
-fits b = omega (arith, b.requires.0)
 
 pub loop-i-init : goal.loop-i-init
 loop-i-init c = (omega arith, filling_start refl)
@@ -30,26 +23,23 @@ slice_bounds-place-count c =
     let w = c.stretch_in-t in
     (stretch_within c.args.text.now c.loop-i.i w.result (omega arith) w.ensures).0
 
-part_place_end : tie.Need-slice-bounds-place-end invariant-loop decreases-loop
-part_place_end c =
-    let w = c.before.stretch-in in
-    let l = c.before.before.before in
-    (stretch_within l.before.before.before.args.text.now l.loop.i w.result (omega arith) w.ensures).1
+pub slice_bounds-place-end : goal.slice_bounds-place-end
+slice_bounds-place-end c =
+    let w = c.stretch_in-t in
+    (stretch_within c.args.text.now c.loop-i.i w.result (omega arith) w.ensures).1
 
 pub shape_of-out-then-t-eq0 : goal.shape_of-out-then-t-eq0
 shape_of-out-then-t-eq0 c =
     let w = c.stretch_in-t in
-    let b = c.before.before.before in
-    (stretch_written b.args.text.now c.loop-i.i w.result (omega arith) w.ensures (fits b) c.loop-i.invariant.1 c.place-at.ensures).same
+    (stretch_written c.args.text.now c.loop-i.i w.result (omega arith) w.ensures (omega (arith, c.requires.0)) c.loop-i.invariant.1 c.place-at.ensures).same
 
 pub returns-then-t-eq0 : goal.returns-then-t-eq0
 returns-then-t-eq0 c =
     let w = c.stretch_in-t in
-    let b = c.before.before.before in
-    let s = b.args.text.now in
+    let s = c.args.text.now in
     let h : c.loop-i.i ≤ length s = omega arith in
     all_written s c.loop-i.i w.result h w.ensures (omega arith)
-    (stretch_written s c.loop-i.i w.result h w.ensures (fits b) c.loop-i.invariant.1 c.place-at.ensures)
+    (stretch_written s c.loop-i.i w.result h w.ensures (omega (arith, c.requires.0)) c.loop-i.invariant.1 c.place-at.ensures)
 
 pub overflow_add-i : goal.overflow_add-i
 overflow_add-i c =
@@ -71,14 +61,13 @@ loop-i-smaller c =
 pub loop-i-preserved : goal.loop-i-preserved
 loop-i-preserved c =
     let w = c.stretch_in-t in
-    let b = c.before.before.before in
-    let s = b.args.text.now in
+    let s = c.args.text.now in
     let h : c.loop-i.i ≤ length s = omega arith in
     let o : 1 ≤ w.result.ill = omega arith in
     let k = behind_within s c.loop-i.i w.result h w.ensures o in (
       omega arith,
-      mark_written s c.loop-i.i w.result h w.ensures o (fits b)
-          (stretch_written s c.loop-i.i w.result h w.ensures (fits b) c.loop-i.invariant.1 c.place-at.ensures) c.place-at-in-loop-i.ensures,
+      mark_written s c.loop-i.i w.result h w.ensures o (omega (arith, c.requires.0))
+          (stretch_written s c.loop-i.i w.result h w.ensures (omega (arith, c.requires.0)) c.loop-i.invariant.1 c.place-at.ensures) c.place-at-in-loop-i.ensures,
     )
 
 pub shape_of-out : goal.shape_of-out

@@ -6,9 +6,7 @@ use Rattle.lossy.proofs.Stretches.{stretch_within, stretch_length, stretch_marks
 use Prim.Native.Nat.{◌≤◌, ◌+◌, ◌-◌}
 use mathlib.Core.Path.{◌≡◌, ap}
 use native.Mathlib.Omega.{arith}
-use lib.ListN.{length, drop}
-use borrow.Author.Rules.{rules}
-
+use lib.ListN.{length}
 -- no more marks than bytes are behind the loop, so their count has room
 use Rattle.lossy.proofs.by_table.measure_in.Goals as goal
 

@@ -1,14 +1,9 @@
 -- What is counted and what is left make the whole length, and so do the marks, a stretch and the mark after it at a time.
 use Rattle.lossy.specs.Lossy.{lossy_of}
 use Rattle.lossy.specs.Marks.{marks_of}
-use Rattle.lossy.proofs.Laws.{lossy_end, marks_end, measured_within, measured_past}
-use Rattle.lossy.proofs.Stretches.{stretch_within, stretch_length, stretch_marks, last_text, last_marks, behind_within, mark_text, mark_marks}
 use Prim.Native.Nat.{◌≤◌, ◌+◌, ◌-◌}
-use mathlib.Core.Path.{◌≡◌, ap}
-use native.Mathlib.Omega.{arith}
+use mathlib.Core.Path.{◌≡◌}
 use lib.ListN.{length, drop}
-use borrow.Author.Rules.{rules}
-
 -- no more marks than bytes are behind the loop, so their count has room
 use Rattle.lossy.proofs.by_table.measure_in.Given as goal
 

@@ -1,7 +1,6 @@
 -- A walk by the table to the end of the text.
 use Rattle.lossy.proofs.Turns.{walked_stretch}
 use native.Mathlib.Omega.{arith}
-use borrow.Author.Rules.{rules}
 use Rattle.lossy.proofs.by_table.stretch_in.Goals as goal
 
 pub table_to-requires : goal.table_to-requires

@@ -1,11 +1,10 @@
 -- The state says what is due at the loop's place.
 use Rattle.utf8.proofs.Entries.{looked_is_entry}
-use Rattle.lossy.proofs.States.{Going, lead_ill, lead_going, part_whole, part_cut, part_ill, part_goes, of_length}
-use Prim.Native.Nat.{◌+◌, ◌-◌, ◌≤◌, ◌<◌}
-use mathlib.Core.Path.{◌≡◌, refl, ◌∙◌}
+use Rattle.lossy.proofs.States.{lead_ill, lead_going, part_whole, part_cut, part_ill, part_goes, of_length}
+use Prim.Native.Nat.{◌<◌}
+use mathlib.Core.Path.{refl, ◌∙◌}
 use native.Mathlib.Omega.{arith}
-use lib.ListN.{length, get_or}
-use borrow.Author.Rules.{rules}
+use lib.ListN.{get_or}
 use Rattle.lossy.proofs.lookup.part_in.Goals as goal
 
 pub returns-then-state-eq8 : goal.returns-then-state-eq8

@@ -1,11 +1,7 @@
 -- The state says what is due at the loop's place.
-use Rattle.utf8.proofs.Entries.{looked_is_entry}
-use Rattle.lossy.proofs.States.{Going, lead_ill, lead_going, part_whole, part_cut, part_ill, part_goes, of_length}
-use Prim.Native.Nat.{◌+◌, ◌-◌, ◌≤◌, ◌<◌}
-use mathlib.Core.Path.{◌≡◌, refl, ◌∙◌}
-use native.Mathlib.Omega.{arith}
-use lib.ListN.{length, get_or}
-use borrow.Author.Rules.{rules}
+use Rattle.lossy.proofs.States.{Going}
+use Prim.Native.Nat.{◌+◌, ◌-◌, ◌≤◌}
+use lib.ListN.{length}
 use Rattle.lossy.proofs.lookup.part_in.Given as goal
 
 abbrev pub invariant-loop-state : goal.invariant-loop-state

@@ -2,7 +2,6 @@
 use Rattle.utf8.specs.WellFormed.{table}
 use Rattle.lossy.proofs.Table.{row_at, row_none}
 use native.Mathlib.Omega.{arith}
-use borrow.Author.Rules.{rules}
 use Rattle.lossy.proofs.part.lead_of.Goals as goal
 
 pub returns-then-b-lt128 : goal.returns-then-b-lt128

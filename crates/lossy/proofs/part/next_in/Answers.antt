@@ -2,7 +2,6 @@
 use lib.Seq.{drop-cons}
 use lib.ListN.{drop_of_length-le}
 use borrow.Author.Tests.{le-leb, lt-leb}
-use borrow.Author.Rules.{rules}
 use Rattle.lossy.proofs.part.next_in.Goals as goal
 
 pub returns-then-s-at : goal.returns-then-s-at

@@ -6,7 +6,6 @@ use Rattle.lossy.proofs.Table.{at_ill, at_begun, matched_ends}
 use Prim.Native.Nat.{◌≤◌, ◌+◌}
 use native.Mathlib.Omega.{arith}
 use lib.ListN.{length}
-use borrow.Author.Rules.{rules}
 use Rattle.lossy.proofs.part.part_at.Goals as goal
 
 pub returns-then-not-l : goal.returns-then-not-l

@@ -1,8 +1,7 @@
 -- The three bytes from the last to the first.
 use native.Mathlib.Omega.{arith}
-use mathlib.Core.Path.{◌≡◌, sym, ◌∙◌}
+use mathlib.Core.Path.{sym, ◌∙◌}
 use borrow.Author.Tests.{eq-eqb, ne_eqb}
-use borrow.Author.Rules.{rules}
 use Rattle.lossy.proofs.wide.begun_in.Goals as goal
 
 pub returns-then-due-eq0 : goal.returns-then-due-eq0

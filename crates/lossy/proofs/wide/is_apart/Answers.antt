@@ -1,8 +1,7 @@
 -- Both numbers are compared.
 use native.Mathlib.Omega.{arith}
-use mathlib.Core.Path.{◌≡◌, sym, ◌∙◌}
+use mathlib.Core.Path.{sym, ◌∙◌}
 use borrow.Author.Tests.{eq-eqb, ne_eqb}
-use borrow.Author.Rules.{rules}
 use Rattle.lossy.proofs.wide.is_apart.Goals as goal
 
 pub returns-then-due-trail : goal.returns-then-due-trail

@@ -1,12 +1,8 @@
 -- Window after window fits; the last block stands over the one before it.
-use Rattle.lossy.specs.Blocks.{PassedTo}
-use Rattle.lossy.specs.Wide.{unfits, windows_at}
-use Rattle.lossy.proofs.Windows.{windows_none, windows_more, windows_last, windows_passed_at}
+use Rattle.lossy.specs.Wide.{windows_at}
 use Prim.Native.Nat.{◌+◌, ◌-◌, ◌≤◌}
-use mathlib.Core.Path.{◌≡◌, refl, sym, ◌∙◌}
-use native.Mathlib.Omega.{arith}
-use lib.ListN.{length, get_or}
-use borrow.Author.Rules.{rules}
+use mathlib.Core.Path.{◌≡◌}
+use lib.ListN.{length}
 use Rattle.lossy.proofs.wide.passed.Given as goal
 
 abbrev pub invariant-loop-i : goal.invariant-loop-i

@@ -1,6 +1,5 @@
 -- The sum of what the tests answer.
 use native.Mathlib.Omega.{arith}
-use borrow.Author.Rules.{rules}
 use Rattle.lossy.specs.Wide.{unfits}
 use Rattle.lossy.proofs.wide.unfit.Goals as goal
 

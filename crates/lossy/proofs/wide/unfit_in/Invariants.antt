@@ -1,10 +1,7 @@
 -- Of the windows before the loop's place the sum is what was added up, at most six for each.
-use Rattle.lossy.specs.Wide.{windows_at, window_at}
-use Rattle.lossy.proofs.Windows.{windows_none, windows_next}
-use Prim.Native.Nat.{◌+◌, ◌*◌, ◌-◌, ◌≤◌}
-use mathlib.Core.Path.{◌≡◌, sym, ap, ◌∙◌}
-use native.Mathlib.Omega.{arith}
-use borrow.Author.Rules.{rules}
+use Rattle.lossy.specs.Wide.{windows_at}
+use Prim.Native.Nat.{◌*◌, ◌-◌, ◌≤◌}
+use mathlib.Core.Path.{◌≡◌}
 use Rattle.lossy.proofs.wide.unfit_in.Given as goal
 
 abbrev pub invariant-loop-j : goal.invariant-loop-j

@@ -2,7 +2,6 @@
 use Rattle.query.specs.DataRow.{columns_of}
 use Rattle.query.proofs.Laws.{count_by, count_picked}
 use mathlib.Core.Path.{ap, ◌∙◌}
-use borrow.Author.Rules.{rules}
 use Rattle.query.proofs.data_row.parse_data_row.Goals as goal
 
 pub returns-in-DataRow : goal.returns-in-DataRow

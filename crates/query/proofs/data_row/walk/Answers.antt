@@ -1,12 +1,10 @@
 -- The columns passed and those that follow, from the place reached, make the columns of the whole walk.
 use mathlib.Core.Option.{some, none}
 use Rattle.query.specs.DataRow.{column_at, columns_from}
-use Rattle.query.specs.Code.{picked_of}
-use Rattle.query.proofs.Laws.{walked, walk_start, walk_turn, walk_cut, walk_end}
-use Prim.Native.Nat.{◌≤◌, ◌-◌}
+use Rattle.query.proofs.Laws.{walk_start, walk_turn, walk_cut, walk_end}
+use Prim.Native.Nat.{◌-◌}
 use mathlib.Core.Path.{◌≡◌, sym, ◌∙◌}
 use native.Mathlib.Omega.{arith}
-use borrow.Author.Rules.{rules}
 use Rattle.query.proofs.data_row.walk.Goals as goal
 
 pub loop-k-init : goal.loop-k-init

@@ -1,12 +1,9 @@
 -- The columns passed and those that follow, from the place reached, make the columns of the whole walk.
-use mathlib.Core.Option.{some, none}
-use Rattle.query.specs.DataRow.{column_at, columns_from}
+use Rattle.query.specs.DataRow.{columns_from}
 use Rattle.query.specs.Code.{picked_of}
-use Rattle.query.proofs.Laws.{walked, walk_start, walk_turn, walk_cut, walk_end}
+use Rattle.query.proofs.Laws.{walked}
 use Prim.Native.Nat.{◌≤◌, ◌-◌}
-use mathlib.Core.Path.{◌≡◌, sym, ◌∙◌}
-use native.Mathlib.Omega.{arith}
-use borrow.Author.Rules.{rules}
+use mathlib.Core.Path.{◌≡◌}
 use Rattle.query.proofs.data_row.walk.Given as goal
 
 abbrev pub invariant-loop-k : goal.invariant-loop-k

@@ -3,5 +3,4 @@ use Rattle.worker.proofs.deliver.hands_on.Goals as goal
 
 pub returns : goal.returns
 returns c = λ u p.
-    let at-with-metrics = c.before.before.before.before in
-    c.next.ensures u p ∙ rw (at-with-metrics.with-metrics.ensures, at-with-metrics.before.record-event-forwarded.ensures)
+    c.next.ensures u p ∙ rw (c.with_metrics.ensures, c.record_event_forwarded-counted.ensures)

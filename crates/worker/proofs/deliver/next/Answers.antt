@@ -4,8 +4,7 @@ use Rattle.worker.proofs.deliver.next.Goals as goal
 
 pub returns-then-is_stopped_at : goal.returns-then-is_stopped_at
 returns-then-is_stopped_at c = λ u p.
-    let at-if1 = c.before.before.before.before in
-    rw (← at-if1.before.is-stopped-at.ensures, at-if1.if1.true) (c.done.ensures u p)
+    rw (← c.is_stopped_at.ensures, c.if-is_stopped_at.true) (c.done.ensures u p)
 
 pub returns : goal.returns
 returns c = λ u p. rw (

@@ -6,11 +6,10 @@ use Rattle.worker.proofs.handle.copy_data.Goals as goal
 
 pub returns-in-KeepAlive : goal.returns-in-KeepAlive
 returns-in-KeepAlive c = λ u.
-    let at-with-wal-end = c.before.before.before.before in
     c.keep_alive.ensures u _ ∙ rw (
-      at-with-wal-end.with-wal-end.ensures,
-      at-with-wal-end.before.before.said.given.1,
-      to_z-of_z w64 at-with-wal-end.before.before.said.given.0.1.0 (record { sfits = at-with-wal-end.before.known-told.given.1.0.1 }),
+      c.with_wal_end-next.ensures,
+      c.in-KeepAlive.is,
+      to_z-of_z w64 c.in-KeepAlive.server_time (record { sfits = c.known_told-1.given.1.0.1 }),
     )
 
 pub returns-in-XLogData : goal.returns-in-XLogData

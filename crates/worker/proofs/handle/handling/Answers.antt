@@ -10,43 +10,35 @@ returns-then-is_error c = λ u. rw (← c.is_error.ensures, c.if-is_error.true) 
 pub returns-then-is_copy_done : goal.returns-then-is_copy_done
 unfolding handling_of
 returns-then-is_copy_done c = λ u.
-    let at-if2 = c.before.before.before.before in
-    let at-if1 = at-if2.before.before in
     rw (
-      ← at-if1.before.is-error.ensures,
-      at-if1.if1.false,
-      ← at-if2.before.is-copy-done.ensures,
-      at-if2.if2.true,
+      ← c.is_error.ensures,
+      c.if-is_error.false,
+      ← c.is_copy_done.ensures,
+      c.if-is_copy_done.true,
     ) (c.done.ensures u _)
 
 pub returns-then-is_copy_data : goal.returns-then-is_copy_data
 unfolding handling_of
 returns-then-is_copy_data c = λ u.
-    let at-copy-data-in = c.before.before.before.before in
-    let at-if2 = at-copy-data-in.before.before.before in
-    let at-if1 = at-if2.before.before in
     rw (
-      ← at-if1.before.is-error.ensures,
-      at-if1.if1.false,
-      ← at-if2.before.is-copy-done.ensures,
-      at-if2.if2.false,
-      ← at-copy-data-in.before.before.is-copy-data.ensures,
-      at-copy-data-in.before.if3.true,
-      ← at-copy-data-in.copy-data-in.ensures,
+      ← c.is_error.ensures,
+      c.if-is_error.false,
+      ← c.is_copy_done.ensures,
+      c.if-is_copy_done.false,
+      ← c.is_copy_data.ensures,
+      c.if-is_copy_data.true,
+      ← c.copy_data_in-said.ensures,
     ) (c.copy_data.ensures u)
 
 pub returns : goal.returns
 unfolding handling_of
 returns c = λ u.
-    let at-if3 = c.before.before in
-    let at-if2 = at-if3.before.before in
-    let at-if1 = at-if2.before.before in
     rw (
-      ← at-if1.before.is-error.ensures,
-      at-if1.if1.false,
-      ← at-if2.before.is-copy-done.ensures,
-      at-if2.if2.false,
-      ← at-if3.before.is-copy-data.ensures,
-      at-if3.if3.false,
+      ← c.is_error.ensures,
+      c.if-is_error.false,
+      ← c.is_copy_done.ensures,
+      c.if-is_copy_done.false,
+      ← c.is_copy_data.ensures,
+      c.if-is_copy_data.false,
       ← c.back.ensures,
     ) (c.moved.ensures (lent u _ _))

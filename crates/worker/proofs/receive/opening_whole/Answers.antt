@@ -10,22 +10,19 @@ returns-then-is_copy_both_response c = λ l. rw (
 
 pub returns-then-is_error : goal.returns-then-is_error
 returns-then-is_error c = λ l.
-    let at-if2 = c.before.before in
-    let at-if1 = at-if2.before.before in
     c.ended.ensures l ∙ rw (
       c.with_whole.ensures,
-      ← at-if1.before.is-copy-both-response.ensures,
-      at-if1.if1.false,
-      ← at-if2.before.is-error.ensures,
-      at-if2.if2.true,
+      ← c.is_copy_both_response.ensures,
+      c.if-is_copy_both_response.false,
+      ← c.is_error.ensures,
+      c.if-is_error.true,
     )
 
 pub returns : goal.returns
 returns c = λ l.
-    let at-if1 = c.before.before.before in
     rw (
-      ← at-if1.before.is-copy-both-response.ensures,
-      at-if1.if1.false,
+      ← c.is_copy_both_response.ensures,
+      c.if-is_copy_both_response.false,
       ← c.is_error.ensures,
       c.if-is_error.false,
     ) (c.moved-2.ensures l)

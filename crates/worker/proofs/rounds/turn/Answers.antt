@@ -6,20 +6,18 @@ use Rattle.worker.proofs.rounds.turn.Goals as goal
 pub returns-then-status_due : goal.returns-then-status_due
 unfolding turn_of
 returns-then-status_due c = λ u p.
-    let at-if1 = c.before.before.before.before in
     rw (
-      ← at-if1.before.status-due.ensures,
-      at-if1.if1.true,
-      ← at-if1.before.before.with_drained_lem.ensures,
+      ← c.status_due.ensures,
+      c.if-status_due.true,
+      ← c.with_drained-next.ensures,
     ) (c.send_feedback.ensures u p)
 
 pub returns : goal.returns
 unfolding turn_of
 returns c = λ u p.
-    let at-if1 = c.before.before in
     c.moved.ensures (lent u p _) ∙ rw (
       c.with_state.ensures,
-      at-if1.before.before.with_drained_lem.ensures,
-      ← at-if1.before.status-due.ensures,
-      at-if1.if1.false,
+      c.with_drained-next.ensures,
+      ← c.status_due.ensures,
+      c.if-status_due.false,
     )

@@ -9,10 +9,9 @@ returns-then-bad_interval c = rw (c.fresh_run-run.ensures, ← c.bad_interval.en
 pub returns : goal.returns
 unfolding open_of
 returns c =
-    let at-if1 = c.before.before.before.before in
     rw (
-      at-if1.before.before.fresh-run.ensures,
-      ← at-if1.before.bad-interval.ensures,
-      at-if1.if1.false,
+      c.fresh_run-run.ensures,
+      ← c.bad_interval.ensures,
+      c.if-bad_interval.false,
       ← c.start_replication-written.ensures,
     )

@@ -8,8 +8,6 @@ use Rattle.worker.proofs.status.send_feedback.Goals as goal
 pub returns : goal.returns
 unfolding feedback_of
 returns c = λ u p.
-    let at-write-status-update = c.before.before.before.before.before in
-    let start = at-write-status-update.before.before.before.before.before in
-    let back = to_z-of_z w64 start.args.input.client_time (record { sfits = at-write-status-update.before.struct_told.given.1.0.1 }) in
-    let w = rw back at at-write-status-update.write-status-update.ensures in
-    rw (c.with_state-next.ensures, c.confirmed.ensures, c.waited_by-waited.ensures, status_written _ _ _ _ _ _ start.requires w, ← at-write-status-update.before.before.before.position.ensures)
+    let back = to_z-of_z w64 c.args.input.client_time (record { sfits = c.struct_told-1.given.1.0.1 }) in
+    let w = rw back at c.write_status_update.ensures in
+    rw (c.with_state-next.ensures, c.confirmed.ensures, c.waited_by-waited.ensures, status_written _ _ _ _ _ _ c.requires w, ← c.position-applied.ensures)

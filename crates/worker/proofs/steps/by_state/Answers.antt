@@ -22,14 +22,12 @@ returns-in-Reading c = rw c.in-Reading.is (c.reading.ensures _)
 pub returns-in-Waiting : goal.returns-in-Waiting
 unfolding step_in
 returns-in-Waiting c =
-    let at-waiting = c.before.before.before.before in
-    rw at-waiting.before.before.before.enum-told5.given.1 at-waiting.waiting.ensures
+    rw c.in-Waiting.is c.waiting.ensures
 
 pub returns-in-Handling : goal.returns-in-Handling
 unfolding step_in
 returns-in-Handling c =
-    let at-enum-told6 = c.before.before.before.before.before in
-    rw at-enum-told6.enum-told6.given.1 (c.handling.ensures _)
+    rw c.in-Handling.is (c.handling.ensures _)
 
 pub returns-in-Offering : goal.returns-in-Offering
 unfolding step_in

@@ -4,8 +4,7 @@ use Rattle.worker.proofs.wait.idle.Goals as goal
 
 pub returns-then-idle_passed : goal.returns-then-idle_passed
 returns-then-idle_passed c = λ u p.
-    let at-if1 = c.before.before.before.before in
-    rw (← at-if1.before.idle-passed.ensures, at-if1.if1.true) (c.send_feedback.ensures u p)
+    rw (← c.idle_passed.ensures, c.if-idle_passed.true) (c.send_feedback.ensures u p)
 
 pub returns : goal.returns
 returns c = λ u p. rw (← c.idle_passed.ensures, c.if-idle_passed.false) (c.moved.ensures (lent u p _))

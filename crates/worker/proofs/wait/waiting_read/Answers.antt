@@ -4,11 +4,8 @@ use Rattle.worker.proofs.wait.waiting_read.Goals as goal
 
 pub returns : goal.returns
 returns c =
-    let at-with-reader = c.before.before.before.before.before in
-    let at_read = at-with-reader.before.before.before.before in
-    let start = at_read.before.before.before.before.before.before in
-    let a = start.args in
-    rw (← at_read.read.ensures, ← at-with-reader.with-reader.ensures)
+    let a = c.args in
+    rw (← c.read-x.ensures, ← c.with_reader.ensures)
     (c.having.ensures _ a.payload.now _ ∙ having_same _ _ (c.waiting_by-stepped.ensures a.unread.now a.payload.now))
 
 pub shape_of-payload : goal.shape_of-payload

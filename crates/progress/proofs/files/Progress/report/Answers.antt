@@ -1,5 +1,4 @@
 -- A number above 3 is refused; else the file is raised, then the cell.
-use borrow.Author.Rules.{rules}
 use borrow.Author.Tests.{lt-ltb, le-ltb}
 use Rattle.progress.specs.Files.{filed_of}
 use Rattle.progress.proofs.files.Progress.report.Goals as goal
@@ -11,12 +10,10 @@ returns-then-file-gt-LAST_FILE c = rw (lt-ltb _ _ c.if-file-gt-LAST_FILE.true)
 pub returns : goal.returns
 unfolding filed_of
 returns c =
-    let at-raised = c.before.before.before.before.before in
-    let at-if1 = c.before.before.before.before.before.before.before in
-    simp (le-ltb _ _ at-if1.if1.false) (rw (
+    simp (le-ltb _ _ c.if-file-gt-LAST_FILE.false) (rw (
       c.beside-progress.ensures,
       c.raise-raised.ensures,
       c.cell-cell.ensures,
       c.smallest-smallest.ensures,
-      at-raised.raised.ensures,
+      c.raised-after.ensures,
     ))

@@ -1,5 +1,4 @@
 -- By whether an error came.
-use borrow.Author.Rules.{rules}
 use Rattle.query.proofs.simple.SimpleQuery.end.Goals as goal
 
 pub returns-then-self : goal.returns-then-self

@@ -2,7 +2,6 @@
 use Rattle.query.specs.Fold.{error_kept, message_of}
 use mathlib.Core.Path.{ap}
 use borrow.Author.Tests.{ne_eqb}
-use borrow.Author.Rules.{rules}
 use Rattle.query.proofs.simple.SimpleQuery.message.Goals as goal
 
 pub returns-in-68 : goal.returns-in-68
@@ -19,4 +18,4 @@ returns-in-90 c = rw (c.in-90.is, c.new.ensures, c.end-answer.ensures)
 
 pub returns-in_default : goal.returns-in_default
 unfolding message_of
-returns-in_default c = simp (ne_eqb _ _ c.in_default.rest.1, ne_eqb _ _ c.in_default.rest.0.1, ne_eqb _ _ c.in_default.rest.0.0.1)
+returns-in_default c = simp (ne_eqb _ _ c.in_default.in_default-own.rest.1, ne_eqb _ _ c.in_default.in_default-own.rest.0.1, ne_eqb _ _ c.in_default.in_default-own.rest.0.0.1)

@@ -1,7 +1,6 @@
 -- A row is handed on by its number of columns, or refused.
 use Rattle.query.specs.DataRow.{columns_of}
 use Rattle.query.proofs.Laws.{row_handed, row_refused}
-use borrow.Author.Rules.{rules}
 use Rattle.query.proofs.simple.SimpleQuery.with_data_row.Goals as goal
 
 pub returns-in-Columns : goal.returns-in-Columns
