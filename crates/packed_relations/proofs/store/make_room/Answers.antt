@@ -1,13 +1,8 @@
 -- The lengths, then the test, then the bytes and the places.
-use mathlib.Core.Path.{◌≡◌, refl, sym, ap, ◌∙◌}
-use mathlib.Core.Bool.{true, false}
+use mathlib.Core.Path.{◌≡◌, sym, ◌∙◌}
 use Prim.Native.Nat.{ℕ, ◌+◌, ◌*◌, ◌-◌, ◌≤◌, ◌<◌, min}
 use native.Mathlib.Omega.{arith}
-use borrow.Author.Tests.{not-true, not-false}
-use lib.ListN.{length}
-use Rattle.packed_relations.specs.Packed.{lie_in}
 use Rattle.packed_relations.proofs.Leaves.{lie_fits, made_not, made}
-use borrow.Author.Rules.{rules}
 use Rattle.packed_relations.proofs.store.make_room.Goals as goal
 
 pub slot_lens-place-requires : goal.slot_lens-place-requires
