@@ -2,26 +2,24 @@
 use mathlib.Core.Path.{◌≡◌, refl, sym, ap, ◌∙◌}
 use mathlib.Core.Bool.{Bool, true, false}
 use mathlib.Core.List.{List, [], ◌∷◌, ◌++◌, append_assoc, append-nil}
-use mathlib.Core.Option.{Option, some, none}
-use Prim.Native.Nat.{ℕ, ◌+◌, ◌-◌, ◌%◌, ◌^◌, ◌≤◌, ◌<◌}
+use mathlib.Core.Option.{some}
+use Prim.Native.Nat.{ℕ, ◌+◌, ◌-◌, ◌%◌, ◌^◌, ◌<◌}
 use native.Mathlib.Nat.{mod-eq_of_lt}
 use native.Mathlib.Omega.{arith}
 use lib.ListN.{length, drop, length-append, length-drop}
 use lib.Seq.{take_at, drop_at, drop-drop}
 use lib.IntN.{ℤ}
 use lib.Signed.{mag}
-use borrow.Author.Tests.{le-ltb, lt-leb, eq-eqb}
+use borrow.Author.Tests.{le-ltb, lt-leb}
 use Rattle.wire.specs.Bytes.{at, be, be_bytes, flag_word}
-use Rattle.wire.specs.Field.{field_at, signed, unsigned}
-use Rattle.wire.specs.Int.{half, int, value, int_at, int_bytes}
-use Rattle.wire.specs.Find.{NoZero}
+use Rattle.wire.specs.Field.{field_at}
+use Rattle.wire.specs.Int.{half, int, value, int_bytes}
 use Rattle.wire.proofs.Laws.{length_be_bytes}
 use Rattle.wire.proofs.AllValues.{be_modulo}
 use Rattle.wire.proofs.FieldLaws.{be_bytes_one, field_read, field_whole, signed_unsigned, unsigned_below}
 use Rattle.frames.specs.Message.{framed}
 use Rattle.frontend.specs.Frontend.{query, copy_data, copy_done_message, terminate, status_body, status_update}
-use Rattle.frontend.specs.Startup.{string_of}
-use Rattle.frontend.specs.ReadBack.{Message, message_read, Status, reply_of, body_of, status_of, confirming, query_of, CopyDataReadBack, CopyDoneReadBack, TerminateReadBack, QueryReadBack, QueryCutAtZero, BodyReadBack, StatusReadBack, StatusReadBackModulo, StartupReadBack}
+use Rattle.frontend.specs.ReadBack.{message_read, reply_of, body_of, status_of, confirming, query_of, CopyDataReadBack, CopyDoneReadBack, TerminateReadBack, QueryReadBack, QueryCutAtZero, BodyReadBack, StatusReadBack, StatusReadBackModulo, StartupReadBack}
 use Rattle.frontend.proofs.Laws.{length_framed, length_status, status_pieces}
 use Rattle.frontend.proofs.StartupBack.{string_back, startup_back}
 

@@ -1,24 +1,22 @@
 -- A startup message of any texts is the Strings of the texts, and is read String by String.
 use mathlib.Core.Path.{◌≡◌, refl, sym, ap, ◌∙◌}
-use mathlib.Core.Bool.{Bool, true, false}
-use mathlib.Core.List.{List, [], ◌∷◌, ◌++◌, append_assoc, append-nil}
+use mathlib.Core.List.{List, [], ◌∷◌, ◌++◌, append_assoc}
 use mathlib.Core.Option.{Option, some, none}
 use Prim.Native.Nat.{ℕ, zero, suc, ◌+◌, ◌≤◌, ◌<◌}
 use native.Mathlib.Omega.{arith}
-use lib.ListN.{length, drop, length-append}
+use lib.ListN.{length, length-append}
 use lib.Seq.{take-append_seam, drop-append_seam}
 use lib.IntN.{ℤ}
 use lib.Signed.{mag}
 use lib.Dec.{eqb}
 use denote.Ref.{Bor}
 use borrow.Author.Tests.{eqb-true, eqb-false, ne_eqb, le-ltb, lt-leb}
-use Rattle.wire.specs.Bytes.{pick}
 use Rattle.wire.specs.Field.{and_then}
 use Rattle.wire.specs.Int.{half}
 use Rattle.wire.specs.Find.{index_of, NoZero}
 use Rattle.wire.proofs.Laws.{by_test}
 use Rattle.frontend.specs.Frontend.{pairs, startup}
-use Rattle.frontend.specs.Startup.{Startup, string_of, pair_by, pairs_from, pairs_of, startup_of}
+use Rattle.frontend.specs.Startup.{string_of, pair_by, pairs_from, pairs_of, startup_of}
 use Rattle.frontend.specs.StartupStrings.{longer, cut_at_zeros, strings_of, strings_sent, read_in_turn, taken, StartupLaws}
 use Rattle.frontend.proofs.StartupBack.{string_back, length_back, fields_back}
 

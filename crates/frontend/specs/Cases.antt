@@ -1,5 +1,5 @@
 -- Messages of a client byte by byte, computed of the definitions. SCOPE 3.6, 3.7.
-use Rattle.std.specs.Prelude.{◌≡◌, refl, true, false, List, [], ◌∷◌, ℕ, pos, negsuc}
+use Rattle.std.specs.Prelude.{◌≡◌, refl, true, false, [], ◌∷◌, pos, negsuc}
 use Rattle.wire.specs.Bytes.{be_bytes}
 use Rattle.wire.specs.Field.{unsigned}
 use Rattle.frames.specs.Message.{framed}

@@ -1,7 +1,7 @@
 -- The messages that a client sends: PostgreSQL documentation, "Message Formats" (Query, CopyData, CopyDone, Terminate, StartupMessage), and
 -- "Streaming Replication Protocol" (Standby status update). A String ends in a zero byte. SCOPE 3.6, 3.7; 01, "Messages". ReadBack.antt
 -- has the reader of these messages.
-use Rattle.std.specs.Prelude.{ℕ, ◌+◌, Bool, true, false, List, [], ◌∷◌, ◌++◌, length, ℤ}
+use Rattle.std.specs.Prelude.{ℕ, ◌+◌, Bool, List, [], ◌∷◌, ◌++◌, length, ℤ}
 use Rattle.std.specs.Borrow.{Bor}
 use Rattle.wire.specs.Bytes.{be_bytes, flag_word}
 use Rattle.wire.specs.Int.{int_bytes}

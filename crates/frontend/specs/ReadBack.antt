@@ -1,7 +1,7 @@
 -- A server's reader of what a client sends, written from the PostgreSQL documentation, "Message Formats" and "Streaming Replication Protocol",
 -- and that it reads back what the writers write. SCOPE 3.6, 3.7; 01, "Messages". That a length is signed is 01's and the Rust's reading: the
 -- documentation's Int32 is an n-bit integer.
-use Rattle.std.specs.Prelude.{◌≡◌, Bool, true, false, List, [], ◌∷◌, ◌++◌, ℕ, ◌+◌, ◌-◌, ◌%◌, ◌^◌, ◌≤◌, ◌<◌, length, drop, ℤ, ltb, eqb}
+use Rattle.std.specs.Prelude.{◌≡◌, Bool, true, false, List, [], ◌∷◌, ◌++◌, ℕ, ◌+◌, ◌-◌, ◌%◌, ◌^◌, ◌<◌, length, drop, ℤ, ltb, eqb}
 use Rattle.std.proofs.Math.Option.{Option, some, none}
 use Rattle.std.specs.Int.Signed.{mag}
 use Rattle.std.specs.Borrow.{Bor}

@@ -9,7 +9,7 @@ use Rattle.wire.specs.Field.{and_then}
 use Rattle.wire.specs.Int.{half}
 use Rattle.wire.specs.Find.{NoZero}
 use Rattle.frontend.specs.Frontend.{startup}
-use Rattle.frontend.specs.Startup.{Startup, startup_of}
+use Rattle.frontend.specs.Startup.{startup_of}
 
 -- ---- the Strings that are sent
 

@@ -3,22 +3,21 @@ use mathlib.Core.Path.{◌≡◌, refl, sym, ap, ◌∙◌}
 use mathlib.Core.List.{List, [], ◌∷◌, ◌++◌}
 use mathlib.Core.Logic.{◌⊎◌, inl, inr}
 use mathlib.Core.Option.{Option, some, none}
-use Prim.Native.Nat.{ℕ, ◌+◌, ◌*◌, ◌/◌, ◌%◌, ◌^◌, ◌≤◌, ◌<◌}
+use Prim.Native.Nat.{ℕ, ◌+◌, ◌/◌, ◌%◌, ◌^◌, ◌≤◌, ◌<◌}
 use native.Mathlib.Omega.{arith}
 use lib.ListN.{length, take, drop, length-append}
 use lib.Dec.{eqb}
-use borrow.Author.Tests.{lt-ltb, le-ltb, eqb-true, eqb-false}
+use borrow.Author.Tests.{lt-ltb, le-ltb, eqb-false}
 use Rattle.wire.specs.Find.{index_of}
 use Rattle.wire.proofs.Laws.{by_test, impossible}
 use Rattle.wire.proofs.FindLaws.{nothing_later, found_later}
 use Rattle.text.specs.Numeral.{hex_text}
-use Rattle.text.specs.Spelling.{SpelledTo}
 use Rattle.text.proofs.Spelling.{spelling_laws}
 use Rattle.lsn.specs.Hex.{hex_part}
 use Rattle.lsn.specs.Position.{joined, position_by_parts, by_slash, position_of, display_of}
 use Rattle.lsn.specs.Spelled.{Number, NoSlash, Spells}
 use Rattle.lsn.specs.PositionLaws.{Displayed, DisplayLaws, RefusalLaws, OrderLaws}
-use Rattle.lsn.proofs.Spelled.{parted, part_number, number_part, digits_no_slash, spelled_laws}
+use Rattle.lsn.proofs.Spelled.{parted, part_number, number_part, spelled_laws}
 use Rattle.lsn.proofs.ReadBack.{display_spells}
 
 -- ---- Display

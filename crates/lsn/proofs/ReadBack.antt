@@ -10,7 +10,7 @@ use lib.Dec.{ltb}
 use borrow.Author.Tests.{lt-ltb, ltb-true}
 use Rattle.wire.specs.Field.{and_then}
 use Rattle.wire.proofs.Laws.{by_test}
-use Rattle.text.specs.Numeral.{glyph_of, numeral, hex_text}
+use Rattle.text.specs.Numeral.{numeral, hex_text}
 use Rattle.lsn.specs.Hex.{digit_of, value_from}
 use Rattle.lsn.specs.Position.{position_of, display_of}
 use Rattle.lsn.specs.Spelled.{Number, Spells}

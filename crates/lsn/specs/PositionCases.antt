@@ -1,5 +1,5 @@
 -- Cases and laws of position texts, in plain bytes: SCOPE 2.1, 2.2; 01, "Where each call turns back", 22 to 24, as 02, wish 6, widens them.
-use Rattle.std.specs.Prelude.{◌≡◌, List, [], ◌∷◌, ℕ, ◌+◌, ◌<◌, ◌^◌}
+use Rattle.std.specs.Prelude.{◌≡◌, [], ◌∷◌, ℕ, ◌<◌, ◌^◌}
 use Rattle.std.proofs.Math.Option.{some, none}
 use Rattle.lsn.specs.Hex.{digit_of}
 use Rattle.lsn.specs.Position.{position_of, display_of}

@@ -1,6 +1,6 @@
 -- Positions over all values: how Display spells one, which texts each refusal belongs to, what an answer says, and the order. SCOPE 2.1 to 2.3; 01,
 -- "Texts and positions"; the spelling by PostgreSQL's documentation, "pg_lsn Type".
-use Rattle.std.specs.Prelude.{◌≡◌, true, false, List, [], ◌∷◌, ◌++◌, ◌⊎◌, ℕ, ◌+◌, ◌*◌, ◌^◌, ◌≤◌, ◌<◌, length}
+use Rattle.std.specs.Prelude.{◌≡◌, true, false, List, ◌∷◌, ◌++◌, ◌⊎◌, ℕ, ◌+◌, ◌*◌, ◌^◌, ◌≤◌, ◌<◌, length}
 use Prim.Native.Char.{code}
 use Rattle.error.specs.declared.Refusal.{Refusal}
 use Rattle.error.specs.Refusal.{number_of}

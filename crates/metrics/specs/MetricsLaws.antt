@@ -1,6 +1,6 @@
 -- The counters over all values: each function changes one counter, or a position, and leaves every other field as it was; a counter goes on from 0
 -- after 2^64 - 1. SCOPE 4.4; 01, "Progress".
-use Rattle.std.specs.Prelude.{◌≡◌, ℕ, ◌+◌, ◌^◌, ◌<◌, ◌≤◌, ◌⊎◌}
+use Rattle.std.specs.Prelude.{◌≡◌, ℕ, ◌+◌, ◌^◌, ◌<◌, ◌⊎◌}
 use Rattle.lsn.specs.declared.Lsn.{Lsn}
 use Rattle.metrics.specs.declared.Metrics.{Metrics}
 use Rattle.metrics.specs.Metrics.{more, no_counts, with_event, with_status, with_reply, with_stall, with_stall_end, with_end}

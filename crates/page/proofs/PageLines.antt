@@ -1,11 +1,10 @@
 -- The lines of the page one by one: the blanks behind the label and those before the value are one filling.
-use mathlib.Core.Path.{◌≡◌, refl, sym, ap, ◌∙◌}
+use mathlib.Core.Path.{◌≡◌, refl, ap, ◌∙◌}
 use mathlib.Core.Bool.{Bool, true, false}
 use mathlib.Core.List.{List, [], ◌∷◌, ◌++◌, append_assoc}
 use Prim.Native.Nat.{ℕ, zero, suc, ◌+◌, ◌-◌, ◌^◌, ◌≤◌, ◌<◌}
-use Prim.Native.Char.{code}
 use native.Mathlib.Omega.{arith}
-use lib.ListN.{length, replicate, length-append, length-replicate}
+use lib.ListN.{length, length-append, length-replicate}
 use Rattle.text.specs.Ascii.{ascii}
 use Rattle.text.specs.Numeral.{decimal_text}
 use Rattle.text.proofs.Laws.{numeral_length}
@@ -13,10 +12,8 @@ use Rattle.text.proofs.Spelling.{spelling_laws}
 use Rattle.lsn.specs.Position.{display_of}
 use Rattle.lsn.specs.PositionLaws.{Displayed}
 use Rattle.lsn.proofs.PositionLaws.{display_laws}
-use Rattle.page.specs.declared.Page.{Page}
 use Rattle.page.specs.Page.{spaces, line_of, sent_text, state_names, state_name, page_of}
-use Rattle.page.specs.Reader.{In64}
-use Rattle.page.specs.PageLines.{Line, LineOf, SentValue, state_shown, Lines, PageHasLines, NamesOfStates}
+use Rattle.page.specs.PageLines.{Line, LineOf, SentValue, PageHasLines, NamesOfStates}
 use Rattle.page.proofs.Laws.{display_short, sent_short, state_short, line_pieces}
 
 spaces_joined : (a b : ℕ) (t : List ℕ) → spaces a ++ (spaces b ++ t) ≡ spaces (a + b) ++ t

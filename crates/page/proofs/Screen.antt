@@ -3,7 +3,7 @@ use mathlib.Core.Path.{◌≡◌, refl, ap, ◌∙◌}
 use mathlib.Core.Bool.{Bool, true, false}
 use mathlib.Core.List.{List, [], ◌∷◌, ◌++◌, append_assoc, append-nil}
 use mathlib.Core.Option.{Option, some, none}
-use Prim.Native.Nat.{ℕ, zero, suc, ◌+◌, ◌-◌, ◌/◌, ◌%◌, ◌^◌, ◌≤◌, ◌<◌}
+use Prim.Native.Nat.{ℕ, zero, suc, ◌-◌, ◌/◌, ◌%◌, ◌^◌, ◌≤◌, ◌<◌}
 use native.Mathlib.Omega.{arith}
 use lib.ListN.{length, length-append, length-replicate}
 use lib.Dec.{leb, ltb}
@@ -21,7 +21,7 @@ use Rattle.lsn.proofs.ReadBack.{read_back}
 use Rattle.page.specs.declared.Page.{Page}
 use Rattle.page.specs.Page.{spaces, flush_left, flush_right, line_of, sent_text, state_names, state_name, page_of}
 use Rattle.page.specs.Reader.{lines_of, label_of, value_from, is_same, beside, shown, position_in, shown_position, shown_number}
-use Rattle.page.specs.Reader.{In64, PageReadsBack, OnScreen, PageFitsScreen, ValuesFit}
+use Rattle.page.specs.Reader.{PageReadsBack, OnScreen, PageFitsScreen, ValuesFit}
 use Rattle.page.proofs.Laws.{display_short, sent_short, state_short, length_line, length_page}
 
 -- ---- printable characters

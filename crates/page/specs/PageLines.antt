@@ -1,6 +1,6 @@
 -- The page line by line, over all pages: six lines in their order, each of 32 characters, a label, blanks and a value spelled as the value is. 02,
 -- wish 9; SCOPE 5.12.
-use Rattle.std.specs.Prelude.{◌≡◌, Bool, true, false, List, [], ◌∷◌, ◌++◌, ℕ, zero, suc, ◌+◌, ◌≤◌, length, replicate}
+use Rattle.std.specs.Prelude.{◌≡◌, Bool, true, false, List, [], ◌∷◌, ◌++◌, ℕ, zero, suc, ◌≤◌, length, replicate}
 use Prim.Native.Char.{code}
 use Rattle.text.specs.Ascii.{ascii}
 use Rattle.text.specs.Spelling.{SpelledTo}

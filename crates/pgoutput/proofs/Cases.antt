@@ -8,7 +8,7 @@ use native.Mathlib.Omega.{arith}
 use lib.ListN.{length, drop, length-append}
 use lib.Seq.{take_at, drop_at, drop-drop, drop-append-add}
 use lib.Dec.{ltb}
-use borrow.Author.Tests.{ne_eqb, le-leb, lt-leb, lt-ltb, ltb-true, ltb-false}
+use borrow.Author.Tests.{ne_eqb, le-leb, lt-ltb, ltb-true, ltb-false}
 use Rattle.wire.specs.Bytes.{at, be, be_from}
 use Rattle.wire.specs.Field.{field_at, signed}
 use Rattle.wire.specs.Int.{is_negative}

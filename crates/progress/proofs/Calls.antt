@@ -1,5 +1,5 @@
 -- A cell after any list of calls, call by call.
-use Prim.Native.Nat.{ℕ, min, max, ◌<◌, ◌≤◌}
+use Prim.Native.Nat.{ℕ, max, ◌<◌, ◌≤◌}
 use native.Mathlib.Omega.{arith}
 use mathlib.Core.Bool.{Bool, true, false, not}
 use mathlib.Core.List.{List, [], ◌∷◌}
@@ -12,7 +12,7 @@ use Rattle.lsn.specs.declared.Lsn.{Lsn}
 use Rattle.moment.specs.declared.Moment.{Moment}
 use Rattle.progress.specs.declared.ProgressCell.{ProgressCell}
 use Rattle.progress.specs.Progress.{cell, raise_of, looked_of, reported_of, carried_of}
-use Rattle.progress.specs.Calls.{Call, raise, take_signal, take_pending, carry_pending, cell_after, largest, rises, signalled, or_else, older, pending_since, CellAsCalled, CellsAsCalled}
+use Rattle.progress.specs.Calls.{Call, raise, take_signal, take_pending, carry_pending, cell_after, largest, signalled, or_else, older, pending_since, CellsAsCalled}
 
 -- a cell by its position, signal, pending moment and timing
 abbrev cell_of : ℕ → Bool → ℕ → Bool → ProgressCell

@@ -1,5 +1,5 @@
 -- A run's progress after any list of calls, call by call; and reports of one position for every file.
-use Prim.Native.Nat.{ℕ, zero, suc, min, max, ◌<◌, ◌≤◌}
+use Prim.Native.Nat.{ℕ, zero, suc, min, max, ◌≤◌}
 use native.Mathlib.Omega.{arith}
 use mathlib.Core.Bool.{Bool, true, false}
 use mathlib.Core.List.{List, [], ◌∷◌}
@@ -17,7 +17,7 @@ use Rattle.progress.specs.declared.files.Progress.{Progress}
 use Rattle.progress.specs.Progress.{cell, no_moment, is_none, cell_position, stored_by, raise_of, looked_of, reported_of}
 use Rattle.progress.specs.Calls.{Call, raise, cell_after}
 use Rattle.progress.specs.Files.{files, larger, smallest, raised_in, as_cell, beside, filed_of}
-use Rattle.progress.specs.FileCalls.{FileCall, report, take_signal, take_pending, progress_after, reached, confirmable, lifts, told_to, ProgressAsCalled, FilesAsCalled, reports_of, names, NamesAll, FourReports}
+use Rattle.progress.specs.FileCalls.{FileCall, report, take_signal, take_pending, progress_after, reached, confirmable, lifts, told_to, FilesAsCalled, reports_of, names, FourReports}
 use Rattle.progress.proofs.FileLaws.{position, files_at, raised_at, refused_at, accepted_at, all_at, never_falls, not_raised, raised_to, filed_is, filed_cell}
 
 -- ---- any list of calls

@@ -1,26 +1,25 @@
 -- The laws over all values, mostly from what the proofs of the code need.
 use mathlib.Core.Path.{◌≡◌, refl, sym, ap, ◌∙◌}
-use mathlib.Core.Bool.{Bool, true, false}
+use mathlib.Core.Bool.{true}
 use mathlib.Core.List.{List, [], ◌∷◌, ◌++◌, append_assoc, append-nil}
-use mathlib.Core.Option.{Option, some, none}
+use mathlib.Core.Option.{some, none}
 use Prim.Native.Nat.{ℕ, zero, suc, ◌+◌, ◌*◌, ◌-◌, ◌/◌, ◌%◌, ◌^◌, ◌≤◌, ◌<◌, min}
 use native.Mathlib.Nat.{div-add-mod', mod-eq_of_lt, mul-add-mod_self_right, mul_assoc, mod-lt, pow-suc, mod-one}
 use native.Mathlib.Omega.{arith}
-use lib.ListN.{length, take, drop, get_or, length-append, length-take, length-drop, take-append-drop, drop_of_length-le}
-use lib.Seq.{take_at, drop_at, take_all, drop-drop, take-append_seam, drop-append_seam, take-add, take-length}
-use lib.IntN.{ℤ, pos, negsuc}
+use lib.ListN.{length, take, drop, get_or, length-append, length-take, take-append-drop, drop_of_length-le}
+use lib.Seq.{take_at, drop_at, drop-drop, take-append_seam, drop-append_seam, take-length}
+use lib.IntN.{ℤ, negsuc}
 use lib.Signed.{mag}
-use lib.Dec.{leb, ltb, eqb}
 use lib.Pow.{are_bytes}
 use borrow.Author.Tests.{lt-ltb, le-ltb, le-leb, lt-leb, eq-eqb, ne_eqb}
-use Rattle.wire.specs.Bytes.{at, put, nowhere, placed, copied, be, be_from, be_bytes}
-use Rattle.wire.specs.Field.{field_at, signed, unsigned}
-use Rattle.wire.specs.Int.{half, is_negative, int, value, int_at, int_bytes}
-use Rattle.wire.specs.Find.{index_of, later}
+use Rattle.wire.specs.Bytes.{at, put, placed, copied, be, be_from, be_bytes}
+use Rattle.wire.specs.Field.{field_at, signed}
+use Rattle.wire.specs.Int.{half, int, int_at, int_bytes}
+use Rattle.wire.specs.Find.{index_of}
 use Rattle.wire.specs.AllValues.{Over, PutLaws, PlaceLaws, CopyLaws, NumberLaws, IntLaws, SearchLaws, ValueLaws}
 use Rattle.wire.proofs.Laws.{length_put, length_be_bytes, be_snoc, below_pow}
-use Rattle.wire.proofs.FieldLaws.{be_be_bytes, first_byte, part_bytes, field_whole, field_cut, field_read, int_read, halves, signed_unsigned}
-use Rattle.wire.proofs.FieldLaws.{unsigned_signed, signed_within, unsigned_below, value_fits}
+use Rattle.wire.proofs.FieldLaws.{be_be_bytes, first_byte, part_bytes, field_whole, field_cut, int_read, halves, signed_unsigned}
+use Rattle.wire.proofs.FieldLaws.{unsigned_signed, signed_within, value_fits}
 use Rattle.wire.proofs.Cases.{there, order_laws}
 
 -- ---- written over a buffer

@@ -1,21 +1,19 @@
 -- The cases by computing, the laws by recursion on the lists and widths.
-use mathlib.Core.Path.{◌≡◌, refl, sym, ap, ◌∙◌}
-use mathlib.Core.Bool.{Bool, true, false}
-use mathlib.Core.List.{List, [], ◌∷◌, ◌++◌, append-nil}
-use mathlib.Core.Option.{Option, some, none}
-use Prim.Native.Nat.{ℕ, zero, suc, ◌+◌, ◌*◌, ◌-◌, ◌/◌, ◌%◌, ◌^◌, ◌≤◌, ◌<◌}
-use native.Mathlib.Nat.{pow-suc, add-mul, mul_assoc, mul_comm, le_of_suc-le-suc, not-suc-le-zero}
-use native.Mathlib.Numerals.{add-one}
+use mathlib.Core.Path.{◌≡◌, refl, ap}
+use mathlib.Core.List.{List, [], ◌∷◌, ◌++◌}
+use mathlib.Core.Option.{some, none}
+use Prim.Native.Nat.{ℕ, zero, suc, ◌+◌, ◌*◌, ◌/◌, ◌%◌, ◌^◌, ◌≤◌, ◌<◌}
+use native.Mathlib.Nat.{pow-suc, add-mul, mul_assoc, mul_comm, le_of_suc-le-suc}
 use native.Mathlib.Omega.{arith}
-use lib.ListN.{length, take, drop, get_or, replicate, length-append, length-take}
+use lib.ListN.{length, take, drop, get_or, replicate, length-take}
 use lib.Seq.{take-append_seam, drop_at}
-use lib.IntN.{ℤ, pos, negsuc}
+use lib.IntN.{negsuc}
 use lib.Dec.{eqb, leb}
-use borrow.Author.Tests.{eqb-true, eqb-false, le-leb, lt-leb, leb-true, leb-false}
+use borrow.Author.Tests.{eqb-true, eqb-false, lt-leb, leb-true, leb-false}
 use Rattle.wire.specs.Bytes.{at, put, nowhere, placed, copied, be, be_from, be_bytes}
 use Rattle.wire.specs.Field.{field_at, signed, unsigned}
 use Rattle.wire.specs.Int.{half, value, int_bytes}
-use Rattle.wire.specs.Find.{index_of, later}
+use Rattle.wire.specs.Find.{index_of}
 use Rattle.wire.specs.Cases.{OrderLaws, SignedLaws, PlacedLaws, FindLawsOf}
 use Rattle.wire.proofs.Laws.{by_test, impossible, below_pow}
 use Rattle.wire.proofs.FieldLaws.{halves}

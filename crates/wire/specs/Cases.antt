@@ -1,6 +1,6 @@
 -- Cases and laws of the definitions of bytes and fields, in plain numbers: SCOPE 1.2. Numbers stand on the wire with their highest byte first, and
 -- a signed number of n bytes stands there as its two's complement.
-use Rattle.std.specs.Prelude.{◌≡◌, List, [], ◌∷◌, ◌++◌, ℕ, ◌+◌, ◌*◌, ◌^◌, ◌≤◌, ◌<◌, length, take, drop, get_or, replicate, pos, negsuc}
+use Rattle.std.specs.Prelude.{◌≡◌, List, [], ◌∷◌, ℕ, ◌+◌, ◌*◌, ◌^◌, ◌≤◌, ◌<◌, length, get_or, replicate, pos, negsuc}
 use Rattle.std.proofs.Math.Option.{some, none}
 use Rattle.wire.specs.Bytes.{at, put, nowhere, placed, copied, be, be_bytes}
 use Rattle.wire.specs.Field.{field_at}

@@ -4,7 +4,6 @@ use mir.ValLaws.{to_z-of_z}
 use Rattle.frontend.proofs.Laws.{length_status}
 use Rattle.error.proofs.Laws.{no_room, wrote_placed}
 use native.Mathlib.Omega.{arith}
-use borrow.Author.Rules.{rules}
 use Rattle.frontend.proofs.encode_standby_status_update.Goals as goal
 
 pub returns-then-out-lt34 : goal.returns-then-out-lt34

@@ -5,7 +5,6 @@ use Rattle.frontend.specs.Code.{header}
 use Prim.Native.Nat.{◌+◌, ◌≤◌}
 use native.Mathlib.Omega.{arith}
 use lib.ListN.{length}
-use borrow.Author.Rules.{rules}
 use Rattle.frontend.proofs.place_header.Goals as goal
 
 pub returns : goal.returns

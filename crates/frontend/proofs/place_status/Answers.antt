@@ -8,7 +8,6 @@ use Rattle.frontend.specs.Frontend.{status_body}
 use Prim.Native.Nat.{◌≤◌, ◌+◌}
 use native.Mathlib.Omega.{arith}
 use lib.ListN.{length}
-use borrow.Author.Rules.{rules}
 use Rattle.frontend.proofs.place_status.Goals as goal
 
 pub returns : goal.returns

@@ -1,14 +1,8 @@
 -- The texts written and those to come, each with its zero byte, are all texts.
-use Rattle.frontend.proofs.Laws.{strings_next, strings_end}
-use Rattle.wire.specs.Bytes.{be_bytes}
-use Rattle.wire.proofs.Pieces.{Filling, filling_start, filling_next, filling_end}
-use Rattle.error.specs.Inputs.{name_at}
+use Rattle.wire.proofs.Pieces.{Filling}
 use Rattle.frontend.specs.Code.{strings}
 use Prim.Native.Nat.{◌≤◌, ◌-◌}
-use mathlib.Core.Path.{refl}
-use native.Mathlib.Omega.{arith}
 use lib.ListN.{length, drop}
-use borrow.Author.Rules.{rules}
 use Rattle.frontend.proofs.place_strings.Given as goal
 
 abbrev pub invariant-loop-i : goal.invariant-loop-i

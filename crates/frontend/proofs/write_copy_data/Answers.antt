@@ -1,6 +1,5 @@
 -- A message of the tag d.
 use Rattle.frontend.specs.Frontend.{copy_data}
-use borrow.Author.Rules.{rules}
 use Rattle.frontend.proofs.write_copy_data.Goals as goal
 
 pub returns : goal.returns

@@ -1,6 +1,5 @@
 -- A message of the tag c without a payload.
 use Rattle.frontend.specs.Frontend.{copy_done_message}
-use borrow.Author.Rules.{rules}
 use Rattle.frontend.proofs.write_copy_done.Goals as goal
 
 pub returns : goal.returns

@@ -7,7 +7,6 @@ use Prim.Native.Nat.{◌≤◌, ◌+◌}
 use mathlib.Core.Path.{◌≡◌}
 use native.Mathlib.Omega.{arith}
 use lib.ListN.{length}
-use borrow.Author.Rules.{rules}
 use Rattle.frontend.proofs.write_framed.Goals as goal
 
 pub returns-then-payload-gt-INPUT_LIMIT : goal.returns-then-payload-gt-INPUT_LIMIT

@@ -2,16 +2,11 @@
 use mir.Syntax.{w32}
 use mir.ValLaws.{to_z-of_z}
 use Rattle.frontend.proofs.Laws.{startup_front, length_startup}
-use Rattle.wire.specs.Bytes.{be_bytes}
-use Rattle.wire.proofs.Pieces.{Filling, filling_room, filling_next, filling_last}
-use Rattle.error.specs.Inputs.{total}
-use Rattle.error.specs.Writer.{input_limit}
+use Rattle.wire.proofs.Pieces.{filling_room, filling_next, filling_last}
 use Rattle.error.proofs.Laws.{too_long, no_room, wrote_placed, counted_fits, counted_over}
 use Rattle.frontend.specs.Frontend.{startup}
 use Rattle.frontend.specs.Code.{strings}
-use Prim.Native.Nat.{◌≤◌, ◌+◌, ◌%◌}
-use mathlib.Core.Path.{◌≡◌}
-use mathlib.Core.List.{◌++◌}
+use Prim.Native.Nat.{◌≤◌, ◌+◌}
 use native.Mathlib.Omega.{arith}
 use lib.ListN.{length}
 use Rattle.frontend.proofs.write_startup.Goals as goal

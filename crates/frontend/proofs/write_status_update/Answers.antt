@@ -13,7 +13,6 @@ use mathlib.Core.Path.{◌≡◌, ◌∙◌}
 use mathlib.Core.List.{List}
 use native.Mathlib.Omega.{arith}
 use lib.ListN.{length}
-use borrow.Author.Rules.{rules}
 use Rattle.frontend.proofs.write_status_update.Goals as goal
 
 pub returns-then-out-lt39 : goal.returns-then-out-lt39

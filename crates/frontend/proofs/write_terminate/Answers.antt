@@ -1,6 +1,5 @@
 -- A message of the tag X without a payload.
 use Rattle.frontend.specs.Frontend.{terminate}
-use borrow.Author.Rules.{rules}
 use Rattle.frontend.proofs.write_terminate.Goals as goal
 
 pub returns : goal.returns

@@ -1,9 +1,7 @@
 -- The digits in a buffer of their own, whose front is the value.
-use mathlib.Core.Path.{◌≡◌}
 use Prim.Native.Nat.{ℕ, ◌≤◌}
 use native.Mathlib.Omega.{arith}
-use lib.ListN.{length, take, length-take}
-use borrow.Author.Rules.{rules}
+use lib.ListN.{length}
 use Rattle.text.specs.Numeral.{decimal_text}
 use Rattle.text.proofs.Laws.{numeral_length}
 use Rattle.page.proofs.Laws.{stored}
@@ -14,14 +12,12 @@ short n = numeral_length 10 20 n
 
 pub slice_bounds-value-end : goal.slice_bounds-value-end
 slice_bounds-value-end c =
-    let at-args = c.before.before.before.before.before.before in
-    let n = at-args.args.n in
+    let n = c.args.n in
     omega (arith, short n, (stored _ _ (short n) c.place_decimal-k.ensures).0)
 
 pub slice_bounds-place_line-end : goal.slice_bounds-place_line-end
 slice_bounds-place_line-end c =
-    let at-args = c.before.before.before.before.before.before.before in
-    let n = at-args.args.n in
+    let n = c.args.n in
     let s = stored _ _ (short n) c.place_decimal-k.ensures in
     rw s.1 (omega (arith, s.0))
 

@@ -4,7 +4,6 @@ use native.Mathlib.Omega.{arith}
 use lib.ListN.{length}
 use Rattle.wire.proofs.Laws.{unplaced}
 use Rattle.wire.proofs.Pieces.{filling_start, filling_next, filling_last}
-use borrow.Author.Rules.{rules}
 use Rattle.page.specs.Page.{spaces, line_of}
 use Rattle.page.proofs.Laws.{line_pieces, length_line}
 use Rattle.page.proofs.place_line.Goals as goal

@@ -1,7 +1,6 @@
 -- The front of a row of spaces.
 use native.Mathlib.Omega.{arith}
 use lib.ListN.{length-take}
-use borrow.Author.Rules.{rules}
 use Rattle.page.proofs.Laws.{spaces_front}
 use Rattle.page.proofs.place_spaces.Goals as goal
 

@@ -1,6 +1,5 @@
 -- By the letter: what the message says is what the data say.
 use Rattle.pgoutput.proofs.Laws.{no_data, by_b, by_c, by_m, by_other}
-use borrow.Author.Rules.{rules}
 use Rattle.pgoutput.proofs.parse_pgoutput_boundary.Goals as goal
 
 pub returns-then-bytes-eq0 : goal.returns-then-bytes-eq0
@@ -14,8 +13,7 @@ returns-then-letter-eq67 c = by_c _ _ c.if-bytes-eq0.false c.if-letter-eq66.fals
 
 pub returns-then-letter-eq77 : goal.returns-then-letter-eq77
 returns-then-letter-eq77 c =
-    let at-if1 = c.before.before.before.before.before in
-    by_m _ _ at-if1.if1.false c.if-letter-eq66.false c.if-letter-eq67.false c.if-letter-eq77.true c.message_at.ensures
+    by_m _ _ c.if-bytes-eq0.false c.if-letter-eq66.false c.if-letter-eq67.false c.if-letter-eq77.true c.message_at.ensures
 
 pub returns : goal.returns
 returns c = by_other _ c.if-bytes-eq0.false c.if-letter-eq66.false c.if-letter-eq67.false c.if-letter-eq77.false

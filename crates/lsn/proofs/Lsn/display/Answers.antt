@@ -2,7 +2,6 @@
 use mathlib.Core.Path.{sym}
 use native.Mathlib.Omega.{arith}
 use Rattle.error.proofs.Laws.{no_room, wrote_placed}
-use borrow.Author.Rules.{rules}
 use Rattle.lsn.proofs.Lsn.display.Goals as goal
 
 pub returns-then-out-n : goal.returns-then-out-n

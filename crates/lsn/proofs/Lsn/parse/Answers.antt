@@ -1,17 +1,14 @@
 -- The slash, the high part, then the low part: the first that is missing or bad gives the refusal.
-use mathlib.Core.Path.{◌≡◌, sym, ◌∙◌}
-use mathlib.Core.Option.{some}
-use Prim.Native.Nat.{◌+◌, ◌^◌, ◌<◌}
+use Prim.Native.Nat.{◌+◌}
 use native.Mathlib.Omega.{arith}
-use lib.ListN.{length, take, length-take}
-use Rattle.wire.specs.Find.{index_of, found_of}
+use lib.ListN.{length-take}
+use Rattle.wire.specs.Find.{found_of}
 use Rattle.wire.proofs.Laws.{tail_whole}
 use Rattle.wire.proofs.FieldLaws.{told}
 use Rattle.wire.proofs.FindLaws.{found_below}
-use Rattle.lsn.specs.Hex.{hex_part, part_of}
+use Rattle.lsn.specs.Hex.{part_of}
 use Rattle.lsn.specs.Position.{position_of, joined}
 use Rattle.lsn.proofs.Spelled.{part_below}
-use borrow.Author.Rules.{rules}
 use Rattle.lsn.proofs.Lsn.parse.Goals as goal
 
 pub returns-in_default : goal.returns-in_default

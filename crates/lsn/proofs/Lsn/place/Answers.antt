@@ -2,7 +2,6 @@
 use Rattle.wire.proofs.Laws.{unplaced}
 use Rattle.lsn.proofs.Laws.{displayed}
 use native.Mathlib.Omega.{arith}
-use borrow.Author.Rules.{rules}
 use Rattle.lsn.proofs.Lsn.place.Goals as goal
 
 pub returns-then-out-to : goal.returns-then-out-to

@@ -4,8 +4,6 @@ use Rattle.text.specs.Numeral.{hex_text}
 use native.Mathlib.Omega.{arith}
 use Rattle.text.proofs.Laws.{numeral_length}
 use Rattle.lsn.proofs.Laws.{length_display}
-use borrow.Author.Rules.{rules}
-
 -- two halves of 20 digits at most
 use Rattle.lsn.proofs.Lsn.text_len.Goals as goal
 

@@ -2,7 +2,6 @@ use Rattle.lsn.specs.Hex.{digit_of}
 use Prim.Native.Nat.{ℕ, ◌-◌}
 use native.Mathlib.Omega.{arith}
 use borrow.Author.Tests.{le-leb, lt-leb, lt-ltb}
-use borrow.Author.Rules.{rules}
 use Rattle.lsn.proofs.hex.digit.Goals as goal
 
 pub returns-then-c-lt48 : goal.returns-then-c-lt48

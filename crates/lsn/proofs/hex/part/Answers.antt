@@ -1,11 +1,7 @@
 -- The length first, then a turn for each digit: what is read so far, with the digits to come, is the part.
-use mathlib.Core.Path.{◌≡◌, sym, ◌∙◌}
-use Prim.Native.Nat.{◌≤◌, ◌<◌, ◌+◌, ◌*◌, ◌-◌, ◌^◌}
+use mathlib.Core.Path.{sym, ◌∙◌}
 use native.Mathlib.Omega.{arith}
-use lib.ListN.{length, drop}
-use Rattle.lsn.specs.Hex.{value_from, hex_part}
 use Rattle.lsn.proofs.Laws.{value_bad, value_turn, value_end, part_empty, part_long, part_digits, next_below, power_below}
-use borrow.Author.Rules.{rules}
 use Rattle.lsn.proofs.hex.part.Goals as goal
 
 pub returns-then-s-eq0 : goal.returns-then-s-eq0

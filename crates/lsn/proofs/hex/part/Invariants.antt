@@ -1,11 +1,8 @@
 -- The length first, then a turn for each digit: what is read so far, with the digits to come, is the part.
-use mathlib.Core.Path.{◌≡◌, sym, ◌∙◌}
-use Prim.Native.Nat.{◌≤◌, ◌<◌, ◌+◌, ◌*◌, ◌-◌, ◌^◌}
-use native.Mathlib.Omega.{arith}
+use mathlib.Core.Path.{◌≡◌}
+use Prim.Native.Nat.{◌≤◌, ◌<◌, ◌-◌, ◌^◌}
 use lib.ListN.{length, drop}
 use Rattle.lsn.specs.Hex.{value_from, hex_part}
-use Rattle.lsn.proofs.Laws.{value_bad, value_turn, value_end, part_empty, part_long, part_digits, next_below, power_below}
-use borrow.Author.Rules.{rules}
 use Rattle.lsn.proofs.hex.part.Given as goal
 
 abbrev pub invariant-loop-i : goal.invariant-loop-i

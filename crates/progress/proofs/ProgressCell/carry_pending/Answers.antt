@@ -1,7 +1,6 @@
 -- By timing, and which moment is older.
 use Rattle.progress.specs.Progress.{carried_of}
 use mathlib.Core.Path.{sym, ◌∙◌}
-use borrow.Author.Rules.{rules}
 use Rattle.progress.proofs.ProgressCell.carry_pending.Goals as goal
 
 pub returns-then-is_none : goal.returns-then-is_none

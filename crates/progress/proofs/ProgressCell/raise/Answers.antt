@@ -1,7 +1,6 @@
 -- By whether the position rises.
 use Rattle.progress.specs.Progress.{raise_of}
 use mathlib.Core.Path.{sym, ◌∙◌}
-use borrow.Author.Rules.{rules}
 use Rattle.progress.proofs.ProgressCell.raise.Goals as goal
 
 pub returns-then-is_below : goal.returns-then-is_below

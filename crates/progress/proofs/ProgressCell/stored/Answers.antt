@@ -1,6 +1,5 @@
 -- By timing, and whether a moment is stored.
 use mathlib.Core.Path.{sym, ◌∙◌}
-use borrow.Author.Rules.{rules}
 use Rattle.progress.proofs.ProgressCell.stored.Goals as goal
 
 pub returns-then-is_none : goal.returns-then-is_none

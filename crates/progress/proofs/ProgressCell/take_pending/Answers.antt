@@ -1,7 +1,6 @@
 -- By whether the stored position is above the one that was sent.
 use Rattle.progress.specs.Progress.{reported_of}
 use mathlib.Core.Path.{sym, ◌∙◌}
-use borrow.Author.Rules.{rules}
 use Rattle.progress.proofs.ProgressCell.take_pending.Goals as goal
 
 pub returns-then-is_below : goal.returns-then-is_below

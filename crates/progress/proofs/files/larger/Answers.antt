@@ -1,6 +1,5 @@
 -- By which of the two is below.
 use mathlib.Core.Path.{sym, ◌∙◌}
-use borrow.Author.Rules.{rules}
 use Rattle.progress.proofs.FileLaws.{larger_left, larger_right}
 use Rattle.progress.proofs.files.larger.Goals as goal
 

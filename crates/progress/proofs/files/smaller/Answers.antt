@@ -1,6 +1,5 @@
 -- By which of the two is below.
 use mathlib.Core.Path.{sym, ◌∙◌}
-use borrow.Author.Rules.{rules}
 use Rattle.progress.proofs.FileLaws.{smaller_left, smaller_right}
 use Rattle.progress.proofs.files.smaller.Goals as goal
 

@@ -9,17 +9,6 @@ use Rattle.rows.proofs.Steps.{value_cut, value_over, value_fits}
 use native.Mathlib.Omega.{arith}
 use borrow.Author.Rules.{rules}
 use Rattle.rows.proofs.items.bytes_at.Goals as goal
-use Rattle.rows.proofs.items.bytes_at.Lts as places
-use Rattle.rows.proofs.items.bytes_at.Reads.{Pre, Post}
-
-abbrev start : (places.After-known_told Pre Post) → places.Start Pre Post
-start c = c.before.before.before.before.before
-
-length_read : (c : places.After-known_told Pre Post) → let a = (start c).args in field_at 4 a.bytes.now a.at ≡ some c.in-Value.len
-length_read c = said u32_of c.read_u32.ensures c.in-Value.is
-
-within : (c : places.After-known_told Pre Post) → let a = (start c).args in a.at + 4 ≤ length a.bytes.now
-within c = field_within 4 _ _ _ (length_read c)
 
 pub returns-in_default : goal.returns-in_default
 returns-in_default c =
@@ -27,22 +16,20 @@ returns-in_default c =
     sym (value_cut a.bytes.now a.at (said u32_of c.read_u32.ensures c.in_default.is))
 
 pub overflow_add-from : goal.overflow_add-from
-overflow_add-from c = omega (arith, within c)
+overflow_add-from c = omega (arith, field_within 4 _ _ _ (said u32_of c.read_u32.ensures c.in-Value.is))
 
 pub overflow_sub-bytes : goal.overflow_sub-bytes
-overflow_sub-bytes c = omega (arith, within c)
+overflow_sub-bytes c = omega (arith, field_within 4 _ _ _ (said u32_of c.read_u32.ensures c.in-Value.is))
 
 pub returns-then-least-n : goal.returns-then-least-n
 returns-then-least-n c =
-    let k = c.before.before in
-    let a = (start k).args in
-    sym (value_over a.bytes.now a.at k.in-Value.len _ (length_read k) c.least.ensures c.if-least-n.true)
+    let a = c.args in
+    sym (value_over a.bytes.now a.at c.in-Value.len _ (said u32_of c.read_u32.ensures c.in-Value.is) c.least.ensures c.if-least-n.true)
 
 pub overflow_add-result : goal.overflow_add-result
-overflow_add-result c = omega (arith, within c.before.before, c.least.ensures, c.if-least-n.false)
+overflow_add-result c = omega (arith, field_within 4 _ _ _ (said u32_of c.read_u32.ensures c.in-Value.is), c.least.ensures, c.if-least-n.false)
 
 pub returns : goal.returns
 returns c =
-    let k = c.before.before in
-    let a = (start k).args in
-    sym (value_fits a.bytes.now a.at k.in-Value.len _ (length_read k) c.least.ensures c.if-least-n.false)
+    let a = c.args in
+    sym (value_fits a.bytes.now a.at c.in-Value.len _ (said u32_of c.read_u32.ensures c.in-Value.is) c.least.ensures c.if-least-n.false)

@@ -9,14 +9,6 @@ use Rattle.rows.proofs.Columns.{column_cut, column_null, column_unchanged, colum
 use native.Mathlib.Omega.{arith}
 use borrow.Author.Rules.{rules}
 use Rattle.rows.proofs.items.column_at.Goals as goal
-use Rattle.rows.proofs.items.column_at.Lts as places
-use Rattle.rows.proofs.items.column_at.Reads.{Pre, Post}
-
-abbrev start : (places.After-known_told Pre Post) → places.Start Pre Post
-start c = c.before.before.before.before.before
-
-letter_read : (c : places.After-known_told Pre Post) → let a = (start c).args in field_at 1 a.bytes.now a.at ≡ some c.in-Value.letter
-letter_read c = said u8_of c.read_u8.ensures c.in-Value.is
 
 pub returns-in_default : goal.returns-in_default
 returns-in_default c =
@@ -24,40 +16,34 @@ returns-in_default c =
     sym (column_cut a.bytes.now a.at (said u8_of c.read_u8.ensures c.in_default.is))
 
 pub overflow_add-from : goal.overflow_add-from
-overflow_add-from c = omega (arith, field_within 1 _ _ _ (letter_read c))
+overflow_add-from c = omega (arith, field_within 1 _ _ _ (said u8_of c.read_u8.ensures c.in-Value.is))
 
 pub returns-then-letter-eq110 : goal.returns-then-letter-eq110
 returns-then-letter-eq110 c =
-    let k = c.before in
-    let a = (start k).args in
-    sym (column_null a.bytes.now a.at _ (letter_read k) c.if-letter-eq110.true)
+    let a = c.args in
+    sym (column_null a.bytes.now a.at _ (said u8_of c.read_u8.ensures c.in-Value.is) c.if-letter-eq110.true)
 
 pub returns-then-letter-eq117 : goal.returns-then-letter-eq117
 returns-then-letter-eq117 c =
-    let k = c.before.before in
-    let a = (start k).args in
-    sym (column_unchanged a.bytes.now a.at _ (letter_read k) c.if-letter-eq110.false c.if-letter-eq117.true)
+    let a = c.args in
+    sym (column_unchanged a.bytes.now a.at _ (said u8_of c.read_u8.ensures c.in-Value.is) c.if-letter-eq110.false c.if-letter-eq117.true)
 
 pub returns-then-letter-eq116 : goal.returns-then-letter-eq116
 returns-then-letter-eq116 c =
-    let k = c.before.before.before.before.before in
-    let a = (start k).args in
-    sym (column_text a.bytes.now a.at _ (letter_read k) c.if-letter-eq110.false c.if-letter-eq117.false
+    let a = c.args in
+    sym (column_text a.bytes.now a.at _ (said u8_of c.read_u8.ensures c.in-Value.is) c.if-letter-eq110.false c.if-letter-eq117.false
     c.if-letter-eq116.true
     c.bytes_at.ensures c.text_of.ensures)
 
 pub returns-then-letter-eq98 : goal.returns-then-letter-eq98
 returns-then-letter-eq98 c =
-    let at-if1 = c.before.before.before.before.before in
-    let k = c.before.before.before.before.before.before in
-    let a = (start k).args in
-    sym (column_binary a.bytes.now a.at _ (letter_read k) at-if1.if1.false
+    let a = c.args in
+    sym (column_binary a.bytes.now a.at _ (said u8_of c.read_u8.ensures c.in-Value.is) c.if-letter-eq110.false
     c.if-letter-eq117.false
     c.if-letter-eq116.false c.if-letter-eq98.true c.bytes_at-then-letter-eq98.ensures c.binary_of.ensures)
 
 pub returns : goal.returns
 returns c =
-    let k = c.before.before.before.before in
-    let a = (start k).args in
-    sym (column_wrong a.bytes.now a.at _ (letter_read k) c.if-letter-eq110.false c.if-letter-eq117.false
+    let a = c.args in
+    sym (column_wrong a.bytes.now a.at _ (said u8_of c.read_u8.ensures c.in-Value.is) c.if-letter-eq110.false c.if-letter-eq117.false
     c.if-letter-eq116.false c.if-letter-eq98.false)

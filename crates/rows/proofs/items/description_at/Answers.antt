@@ -11,14 +11,6 @@ use Rattle.rows.proofs.Descriptions.{flags_cut, name_cut, described_typed}
 use native.Mathlib.Omega.{arith}
 use borrow.Author.Rules.{rules}
 use Rattle.rows.proofs.items.description_at.Goals as goal
-use Rattle.rows.proofs.items.description_at.Lts as places
-use Rattle.rows.proofs.items.description_at.Reads.{Pre, Post}
-
-abbrev start : (places.After-known_told Pre Post) → places.Start Pre Post
-start c = c.before.before.before.before.before
-
-flags_read : (c : places.After-known_told Pre Post) → let a = (start c).args in field_at 1 a.bytes.now a.at ≡ some c.in-Value.flags
-flags_read c = said u8_of c.read_u8.ensures c.in-Value.is
 
 pub returns-in_default : goal.returns-in_default
 returns-in_default c =
@@ -26,17 +18,15 @@ returns-in_default c =
     sym (flags_cut a.bytes.now a.at (said u8_of c.read_u8.ensures c.in_default.is))
 
 pub overflow_add-at : goal.overflow_add-at
-overflow_add-at c = omega (arith, field_within 1 _ _ _ (flags_read c))
+overflow_add-at c = omega (arith, field_within 1 _ _ _ (said u8_of c.read_u8.ensures c.in-Value.is))
 
 pub returns-in_default-name_at : goal.returns-in_default-name_at
 returns-in_default-name_at c =
-    let k = c.before.before.before in
-    let a = (start k).args in
-    sym (name_cut a.bytes.now a.at _ (flags_read k) (rw c.in_default-name_at.is at c.name_at.ensures))
+    let a = c.args in
+    sym (name_cut a.bytes.now a.at _ (said u8_of c.read_u8.ensures c.in-Value.is) (rw c.in_default-name_at.is at c.name_at.ensures))
 
 pub returns : goal.returns
 returns c =
-    let k = c.before.before.before.before.before in
-    let a = (start k).args in
-    sym (described_typed a.bytes.now a.at _ (flags_read k)
-    (rw c.in-At.is at c.name_at.ensures) c.type-inv.ensures)
+    let a = c.args in
+    sym (described_typed a.bytes.now a.at _ (said u8_of c.read_u8.ensures c.in-Value.is)
+    (rw c.in-At.is at c.name_at.ensures) c.typed.ensures)

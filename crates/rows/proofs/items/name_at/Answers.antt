@@ -9,14 +9,6 @@ use lib.ListN.{drop}
 use native.Mathlib.Omega.{arith}
 use borrow.Author.Rules.{rules}
 use Rattle.rows.proofs.items.name_at.Goals as goal
-use Rattle.rows.proofs.items.name_at.Lts as places
-use Rattle.rows.proofs.items.name_at.Reads.{Pre, Post}
-
-zero_found : (c : places.After-known_told Pre Post) → let a = c.args in index_of 0 (drop a.at a.bytes.now) ≡ some
-    c.in-At.len
-zero_found c =
-    let a = c.args in
-    rw (skipped_none a.bytes.now a.at) at (said found_of c.zero_after.ensures c.in-At.is)
 
 pub returns-in_default : goal.returns-in_default
 returns-in_default c =
@@ -27,14 +19,14 @@ returns-in_default c =
 pub overflow_add-result : goal.overflow_add-result
 overflow_add-result c =
     let a = c.args in
-    omega (arith, name_within a.bytes.now a.at c.in-At.len (zero_found c))
+    omega (arith, name_within a.bytes.now a.at c.in-At.len (rw (skipped_none a.bytes.now a.at) at (said found_of c.zero_after.ensures c.in-At.is)))
 
 pub overflow_add-result-2 : goal.overflow_add-result-2
 overflow_add-result-2 c =
     let a = c.args in
-    omega (arith, name_within a.bytes.now a.at c.in-At.len (zero_found c))
+    omega (arith, name_within a.bytes.now a.at c.in-At.len (rw (skipped_none a.bytes.now a.at) at (said found_of c.zero_after.ensures c.in-At.is)))
 
 pub returns : goal.returns
 returns c =
     let a = c.args in
-    sym (name_got a.bytes.now a.at c.in-At.len (zero_found c))
+    sym (name_got a.bytes.now a.at c.in-At.len (rw (skipped_none a.bytes.now a.at) at (said found_of c.zero_after.ensures c.in-At.is)))

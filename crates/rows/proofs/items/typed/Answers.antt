@@ -13,18 +13,6 @@ use Rattle.rows.proofs.Steps.{number_got, number_cut, integer_got, integer_cut, 
 use native.Mathlib.Omega.{arith}
 use borrow.Author.Rules.{rules}
 use Rattle.rows.proofs.items.typed.Goals as goal
-use Rattle.rows.proofs.items.typed.Lts as places
-use Rattle.rows.proofs.items.typed.Reads.{Pre, Post}
-
-abbrev start : (places.After-known_told Pre Post) → places.Start Pre Post
-start c = c.before.before.before.before.before
-
-type-read : (c : places.After-known_told Pre Post) → let a = (start c).args in field_at 4 a.bytes.now a.at ≡ some c.in-Value.oid
-type-read c = said u32_of c.read_u32.ensures c.in-Value.is
-
-type-got : (c : places.After-known_told Pre Post) → let a = (start c).args in read_at (number 4) a.bytes.now a.at ≡ got c.in-Value.oid
-    (a.at + 4)
-type-got c = let a = (start c).args in number_got a.bytes.now a.at 4 _ (type-read c)
 
 pub returns-in_default : goal.returns-in_default
 returns-in_default c =
@@ -33,24 +21,22 @@ returns-in_default c =
     rw (both_refused a.bytes.now a.at (number 4) integer 26 e)
 
 pub overflow_add-at : goal.overflow_add-at
-overflow_add-at c = omega (arith, field_within 4 _ _ _ (type-read c))
+overflow_add-at c = omega (arith, field_within 4 _ _ _ (said u32_of c.read_u32.ensures c.in-Value.is))
 
 pub returns-in_default-read_i32 : goal.returns-in_default-read_i32
 returns-in_default-read_i32 c =
-    let k = c.before.before.before in
-    let a = (start k).args in
+    let a = c.args in
     let e = integer_cut a.bytes.now (a.at + 4) (said i32_of c.read_i32.ensures c.in_default-read_i32.is) in
-    rw (both_got a.bytes.now a.at (number 4) integer _ _ (type-got k), e)
+    rw (both_got a.bytes.now a.at (number 4) integer _ _ (number_got a.bytes.now a.at 4 _ (said u32_of c.read_u32.ensures c.in-Value.is)), e)
 
 pub overflow_add-result : goal.overflow_add-result
 overflow_add-result c = omega (arith, int_within 4 _ _ _ (said i32_of c.read_i32.ensures c.in-Value-read_i32.is))
 
 pub returns : goal.returns
 returns c =
-    let k = c.before.before.before.before in
-    let a = (start k).args in
+    let a = c.args in
     let z = c.in-Value-read_i32.modifier in
     let f : SFits w32 z = record { sfits = omega arith } in
     let e = integer_got a.bytes.now (a.at + 4) z (said i32_of c.read_i32.ensures c.in-Value-read_i32.is) in
     let n : a.at + 4 + 4 ≡ a.at + 8 = omega arith in
-    simp (to_z-of_z w32 z f, pair_got a.bytes.now a.at (number 4) integer _ _ _ _ (type-got k) e, n)
+    simp (to_z-of_z w32 z f, pair_got a.bytes.now a.at (number 4) integer _ _ _ _ (number_got a.bytes.now a.at 4 _ (said u32_of c.read_u32.ensures c.in-Value.is)) e, n)

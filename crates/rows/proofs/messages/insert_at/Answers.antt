@@ -8,14 +8,6 @@ use Rattle.rows.specs.Head.{head_of}
 use Rattle.rows.proofs.Heads.{first_cut, insert_whole}
 use borrow.Author.Rules.{rules}
 use Rattle.rows.proofs.messages.insert_at.Goals as goal
-use Rattle.rows.proofs.messages.insert_at.Lts as places
-use Rattle.rows.proofs.messages.insert_at.Reads.{Pre, Post}
-
-abbrev start : (places.After-known_told Pre Post) → places.Start Pre Post
-start c = c.before.before.before.before.before
-
-relation_read : (c : places.After-known_told Pre Post) → field_at 4 (start c).args.bytes.now 1 ≡ some c.in-Value.relation
-relation_read c = said u32_of c.read_u32.ensures c.in-Value.is
 
 pub returns-in_default : goal.returns-in_default
 returns-in_default c =
@@ -24,6 +16,5 @@ returns-in_default c =
 
 pub returns : goal.returns
 returns c =
-    let k = c.before.before in
-    let a = (start k).args in
-    insert_whole a.bytes.now _ (relation_read k) c.new_at.ensures c.inserted.ensures
+    let a = c.args in
+    insert_whole a.bytes.now _ (said u32_of c.read_u32.ensures c.in-Value.is) c.new_at.ensures c.inserted.ensures

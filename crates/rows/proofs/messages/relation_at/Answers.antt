@@ -10,14 +10,6 @@ use Rattle.rows.specs.Head.{head_of}
 use Rattle.rows.proofs.Heads.{first_cut, name_missing, second_missing, identity_missing, relation_whole}
 use borrow.Author.Rules.{rules}
 use Rattle.rows.proofs.messages.relation_at.Goals as goal
-use Rattle.rows.proofs.messages.relation_at.Lts as places
-use Rattle.rows.proofs.messages.relation_at.Reads.{Pre, Post}
-
-abbrev start : (places.After-known_told Pre Post) → places.Start Pre Post
-start c = c.before.before.before.before.before
-
-id_read : (c : places.After-known_told Pre Post) → field_at 4 (start c).args.bytes.now 1 ≡ some c.in-Value.id
-id_read c = said u32_of c.read_u32.ensures c.in-Value.is
 
 pub returns-in_default : goal.returns-in_default
 returns-in_default c =
@@ -27,31 +19,24 @@ returns-in_default c =
 
 pub returns-in_default-name_at : goal.returns-in_default-name_at
 returns-in_default-name_at c =
-    let k = c.before.before.before in
-    let a = (start k).args in
-    name_missing a.bytes.now 4 _ (id_read k) (both name (both (number 1) (many 2 nothing described_layout))) (λ v. head_of (relation_of v))
+    let a = c.args in
+    name_missing a.bytes.now 4 _ (said u32_of c.read_u32.ensures c.in-Value.is) (both name (both (number 1) (many 2 nothing described_layout))) (λ v. head_of (relation_of v))
     (rw c.in_default-name_at.is at c.name_at.ensures)
 
 pub returns-in_default-name_at-2 : goal.returns-in_default-name_at-2
 returns-in_default-name_at-2 c =
-    let at-name-at = c.before.before.before.before.before.before in
-    let k = c.before.before.before.before.before.before.before in
-    let a = (start k).args in
-    second_missing a.bytes.now _ (id_read k) (rw c.in-At.is at
-    at-name-at.name_at.ensures)
+    let a = c.args in
+    second_missing a.bytes.now _ (said u32_of c.read_u32.ensures c.in-Value.is) (rw c.in-At.is at
+    c.name_at.ensures)
     (both (number 1) (many 2 nothing described_layout)) (λ v. head_of (relation_of v))
     (rw c.in_default-name_at-2.is at c.name_at-2.ensures)
 
 pub returns-in_default-read_u8 : goal.returns-in_default-read_u8
 returns-in_default-read_u8 c =
-    let at-namespace = c.before.before.before.before.before.before.before.before in
-    let at-name-at = c.before.before.before.before.before.before.before.before.before.before in
-    let at-name-at2 = c.before.before.before.before.before.before in
-    let k = c.before.before.before.before.before.before.before.before.before.before.before in
-    let a = (start k).args in
-    identity_missing a.bytes.now _ (id_read k) (rw at-namespace.namespace.given.1 at
-    at-name-at.name_at.ensures)
-    (rw c.in-At-name_at.is at at-name-at2.name-at2.ensures)
+    let a = c.args in
+    identity_missing a.bytes.now _ (said u32_of c.read_u32.ensures c.in-Value.is) (rw c.in-At.is at
+    c.name_at.ensures)
+    (rw c.in-At-name_at.is at c.name_at-2.ensures)
     (said u8_of c.read_u8.ensures c.in_default-read_u8.is)
 
 pub overflow_add-next : goal.overflow_add-next
@@ -59,14 +44,9 @@ overflow_add-next c = omega (arith, field_within 1 _ _ _ (said u8_of c.read_u8.e
 
 pub returns : goal.returns
 returns c =
-    let at-namespace = c.before.before.before.before.before.before.before.before.before.before.before in
-    let at-name-at = c.before.before.before.before.before.before.before.before.before.before.before.before.before in
-    let at-name-at2 = c.before.before.before.before.before.before.before.before.before in
-    let at-read-u8 = c.before.before.before.before.before in
-    let k = c.before.before.before.before.before.before.before.before.before.before.before.before.before.before in
-    let a = (start k).args in
-    relation_whole a.bytes.now _ (id_read k) (rw at-namespace.namespace.given.1 at at-name-at.name_at.ensures)
+    let a = c.args in
+    relation_whole a.bytes.now _ (said u32_of c.read_u32.ensures c.in-Value.is) (rw c.in-At.is at c.name_at.ensures)
     (rw c.in-At-name_at.is at
-    at-name-at2.name-at2.ensures) _
-    (said u8_of at-read-u8.read-u8.ensures c.in-Value-read_u8.is)
+    c.name_at-2.ensures) _
+    (said u8_of c.read_u8.ensures c.in-Value-read_u8.is)
     c.counted_at.ensures c.related.ensures

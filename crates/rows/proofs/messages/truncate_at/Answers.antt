@@ -6,14 +6,6 @@ use Rattle.wire.specs.Field.{field_at, u8_of, u32_of}
 use Rattle.rows.proofs.Heads.{truncate_cut, truncate_negative, options_missing, truncate_whole}
 use borrow.Author.Rules.{rules}
 use Rattle.rows.proofs.messages.truncate_at.Goals as goal
-use Rattle.rows.proofs.messages.truncate_at.Lts as places
-use Rattle.rows.proofs.messages.truncate_at.Reads.{Pre, Post}
-
-abbrev start : (places.After-known_told Pre Post) → places.Start Pre Post
-start c = c.before.before.before.before.before
-
-count_read : (c : places.After-known_told Pre Post) → field_at 4 (start c).args.bytes.now 1 ≡ some c.in-Value.n
-count_read c = said u32_of c.read_u32.ensures c.in-Value.is
 
 pub returns-in_default : goal.returns-in_default
 returns-in_default c =
@@ -22,20 +14,15 @@ returns-in_default c =
 
 pub returns-then-n-ge-FIRST_NEGATIVE_32 : goal.returns-then-n-ge-FIRST_NEGATIVE_32
 returns-then-n-ge-FIRST_NEGATIVE_32 c =
-    let k = c.before in
-    truncate_negative (start k).args.bytes.now _ (count_read k) c.if-n-ge-FIRST_NEGATIVE_32.true
+    truncate_negative c.args.bytes.now _ (said u32_of c.read_u32.ensures c.in-Value.is) c.if-n-ge-FIRST_NEGATIVE_32.true
 
 pub returns-in_default-read_u8 : goal.returns-in_default-read_u8
 returns-in_default-read_u8 c =
-    let k = c.before.before.before.before in
-    options_missing (start k).args.bytes.now _ (count_read k) c.if-n-ge-FIRST_NEGATIVE_32.false
+    options_missing c.args.bytes.now _ (said u32_of c.read_u32.ensures c.in-Value.is) c.if-n-ge-FIRST_NEGATIVE_32.false
     (said u8_of c.read_u8.ensures c.in_default-read_u8.is)
 
 pub returns : goal.returns
 returns c =
-    let at-if1 = c.before.before.before.before.before.before in
-    let at-read-u8 = c.before.before.before.before.before in
-    let k = c.before.before.before.before.before.before.before in
-    truncate_whole (start k).args.bytes.now _ (count_read k) at-if1.if1.false _
-    (said u8_of at-read-u8.read-u8.ensures c.in-Value-read_u8.is)
+    truncate_whole c.args.bytes.now _ (said u32_of c.read_u32.ensures c.in-Value.is) c.if-n-ge-FIRST_NEGATIVE_32.false _
+    (said u8_of c.read_u8.ensures c.in-Value-read_u8.is)
     c.after_all.ensures c.truncated.ensures

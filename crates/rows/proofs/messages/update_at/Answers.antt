@@ -8,20 +8,6 @@ use Rattle.rows.specs.Head.{head_of}
 use Rattle.rows.proofs.Heads.{first_cut, letter_missing, update_key, update_old, update_new, update_wrong}
 use borrow.Author.Rules.{rules}
 use Rattle.rows.proofs.messages.update_at.Goals as goal
-use Rattle.rows.proofs.messages.update_at.Lts as places
-use Rattle.rows.proofs.messages.update_at.Reads.{Pre, Post}
-
-abbrev start : (places.After-known_told Pre Post) → places.Start Pre Post
-start c = c.before.before.before.before.before
-
-relation_read : (c : places.After-known_told Pre Post) → field_at 4 (start c).args.bytes.now 1 ≡ some c.in-Value.relation
-relation_read c = said u32_of c.read_u32.ensures c.in-Value.is
-
-abbrev relation_before : (places.After-known_told2 Pre Post) → places.After-known_told Pre Post
-relation_before c = c.before.before.before.before
-
-letter_read : (c : places.After-known_told2 Pre Post) → field_at 1 (start (relation_before c)).args.bytes.now 5 ≡ some c.in-Value-read_u8.letter
-letter_read c = said u8_of c.read_u8.ensures c.in-Value-read_u8.is
 
 pub returns-in_default : goal.returns-in_default
 returns-in_default c =
@@ -30,35 +16,26 @@ returns-in_default c =
 
 pub returns-in_default-read_u8 : goal.returns-in_default-read_u8
 returns-in_default-read_u8 c =
-    let k = c.before.before.before in
-    let a = (start k).args in
-    letter_missing a.bytes.now _ (relation_read k) _ (λ v. head_of (update_of v))
+    let a = c.args in
+    letter_missing a.bytes.now _ (said u32_of c.read_u32.ensures c.in-Value.is) _ (λ v. head_of (update_of v))
     (said u8_of c.read_u8.ensures c.in_default-read_u8.is)
 
 pub returns-then-letter-eq75 : goal.returns-then-letter-eq75
 returns-then-letter-eq75 c =
-    let k = c.before.before in
-    let r = relation_before k in
-    update_key (start r).args.bytes.now _ (relation_read r) _ (letter_read k) c.if-letter-eq75.true c.updated_from.ensures
+    update_key c.args.bytes.now _ (said u32_of c.read_u32.ensures c.in-Value.is) _ (said u8_of c.read_u8.ensures c.in-Value-read_u8.is) c.if-letter-eq75.true c.updated_from.ensures
 
 pub returns-then-letter-eq79 : goal.returns-then-letter-eq79
 returns-then-letter-eq79 c =
-    let k = c.before.before.before in
-    let r = relation_before k in
-    update_old (start r).args.bytes.now _ (relation_read r) _ (letter_read k) c.if-letter-eq75.false c.if-letter-eq79.true
+    update_old c.args.bytes.now _ (said u32_of c.read_u32.ensures c.in-Value.is) _ (said u8_of c.read_u8.ensures c.in-Value-read_u8.is) c.if-letter-eq75.false c.if-letter-eq79.true
     c.updated_from-then-letter-eq79.ensures
 
 pub returns-then-letter-eq78 : goal.returns-then-letter-eq78
 returns-then-letter-eq78 c =
-    let k = c.before.before.before.before.before in
-    let r = relation_before k in
-    update_new (start r).args.bytes.now _ (relation_read r) _ (letter_read k) c.if-letter-eq75.false
+    update_new c.args.bytes.now _ (said u32_of c.read_u32.ensures c.in-Value.is) _ (said u8_of c.read_u8.ensures c.in-Value-read_u8.is) c.if-letter-eq75.false
     c.if-letter-eq79.false c.if-letter-eq78.true
     c.counted_at.ensures c.updated.ensures
 
 pub returns : goal.returns
 returns c =
-    let k = c.before.before.before in
-    let r = relation_before k in
-    update_wrong (start r).args.bytes.now _ (relation_read r) _ (letter_read k) c.if-letter-eq75.false c.if-letter-eq79.false
+    update_wrong c.args.bytes.now _ (said u32_of c.read_u32.ensures c.in-Value.is) _ (said u8_of c.read_u8.ensures c.in-Value-read_u8.is) c.if-letter-eq75.false c.if-letter-eq79.false
     c.if-letter-eq78.false

@@ -5,10 +5,9 @@ use Rattle.rows.proofs.messages.updated_from.Goals as goal
 
 pub returns-in-Of : goal.returns-in-Of
 returns-in-Of c =
-    let at-counted-at = c.before.before.before.before.before in
     let a = c.args in
     from_whole a.bytes.now a.relation a.which (rw c.in-Of.is at
-    at-counted-at.counted-at.ensures) c.new_at.ensures c.updated_to.ensures
+    c.counted_at.ensures) c.new_at.ensures c.updated_to.ensures
 
 pub returns-in-Refused : goal.returns-in-Refused
 returns-in-Refused c =

@@ -7,14 +7,6 @@ use Rattle.wire.specs.Field.{field_at, u8_of}
 use Rattle.rows.proofs.Heads.{new_cut, new_here, new_wrong}
 use borrow.Author.Rules.{rules}
 use Rattle.rows.proofs.walk.new_at.Goals as goal
-use Rattle.rows.proofs.walk.new_at.Lts as places
-use Rattle.rows.proofs.walk.new_at.Reads.{Pre, Post}
-
-abbrev start : (places.After-known_told Pre Post) → places.Start Pre Post
-start c = c.before.before.before.before.before
-
-letter_read : (c : places.After-known_told Pre Post) → let a = (start c).args in field_at 1 a.bytes.now a.at ≡ some c.in-Value.letter
-letter_read c = said u8_of c.read_u8.ensures c.in-Value.is
 
 pub returns-in_default : goal.returns-in_default
 returns-in_default c =
@@ -22,16 +14,14 @@ returns-in_default c =
     new_cut a.bytes.now a.at (said u8_of c.read_u8.ensures c.in_default.is)
 
 pub overflow_add-at : goal.overflow_add-at
-overflow_add-at c = omega (arith, field_within 1 _ _ _ (letter_read c.before))
+overflow_add-at c = omega (arith, field_within 1 _ _ _ (said u8_of c.read_u8.ensures c.in-Value.is))
 
 pub returns-then-letter-eq78 : goal.returns-then-letter-eq78
 returns-then-letter-eq78 c =
-    let k = c.before.before in
-    let a = (start k).args in
-    new_here a.bytes.now a.at _ (letter_read k) c.if-letter-eq78.true c.counted_at.ensures
+    let a = c.args in
+    new_here a.bytes.now a.at _ (said u8_of c.read_u8.ensures c.in-Value.is) c.if-letter-eq78.true c.counted_at.ensures
 
 pub returns : goal.returns
 returns c =
-    let k = c.before in
-    let a = (start k).args in
-    new_wrong a.bytes.now a.at _ (letter_read k) c.if-letter-eq78.false
+    let a = c.args in
+    new_wrong a.bytes.now a.at _ (said u8_of c.read_u8.ensures c.in-Value.is) c.if-letter-eq78.false

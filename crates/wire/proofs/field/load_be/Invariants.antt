@@ -1,11 +1,7 @@
 -- After i turns acc is the number of the first i bytes, and below 256 ^ i.
-use mathlib.Core.Path.{◌≡◌, sym}
-use Prim.Native.Nat.{◌≤◌, ◌<◌, ◌-◌, ◌^◌, ◌+◌}
-use native.Mathlib.Omega.{arith}
-use lib.ListN.{length}
-use borrow.Author.Rules.{rules}
+use mathlib.Core.Path.{◌≡◌}
+use Prim.Native.Nat.{◌≤◌, ◌<◌, ◌-◌, ◌^◌}
 use Rattle.wire.specs.Bytes.{be, at}
-use Rattle.wire.proofs.Laws.{be_more, be_none, more, fits}
 use Rattle.wire.proofs.field.load_be.Given as goal
 
 abbrev pub invariant-loop-i : goal.invariant-loop-i

@@ -1,6 +1,5 @@
 use Rattle.wire.proofs.Signed.{NotNegative, not_negative, Negative, negative}
 use native.Mathlib.Omega.{arith}
-use borrow.Author.Rules.{rules}
 use Rattle.wire.proofs.field.of_signed.Goals as goal
 use Rattle.wire.proofs.field.of_signed.Lts as places
 use Rattle.wire.proofs.field.of_signed.Reads.{Pre, Post}

@@ -3,7 +3,6 @@ use Rattle.wire.proofs.FieldLaws.{field_cut, field_whole}
 use mathlib.Core.Option.{some}
 use mathlib.Core.Path.{sym, ap, ◌∙◌}
 use native.Mathlib.Omega.{arith}
-use borrow.Author.Rules.{rules}
 use Rattle.wire.proofs.field.read_be.Goals as goal
 
 pub returns-then-s-from : goal.returns-then-s-from

@@ -5,7 +5,6 @@ use Rattle.wire.proofs.FieldLaws.{told, value_below}
 use native.Mathlib.Omega.{arith}
 use mathlib.Core.Path.{ap}
 use mathlib.Core.Option.{some}
-use borrow.Author.Rules.{rules}
 use Rattle.wire.proofs.field.read_i32.Goals as goal
 
 pub to_signed-requires : goal.to_signed-requires

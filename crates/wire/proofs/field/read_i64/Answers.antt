@@ -4,7 +4,6 @@ use Rattle.wire.specs.Field.{u64_of}
 use Rattle.wire.proofs.FieldLaws.{told}
 use mathlib.Core.Path.{ap}
 use mathlib.Core.Option.{some}
-use borrow.Author.Rules.{rules}
 use Rattle.wire.proofs.field.read_i64.Goals as goal
 
 pub returns-in-Value : goal.returns-in-Value

@@ -1,5 +1,4 @@
 use Rattle.wire.proofs.FieldLaws.{value_below}
-use borrow.Author.Rules.{rules}
 use Rattle.wire.proofs.field.read_u32.Goals as goal
 
 pub overflow_cast-result : goal.overflow_cast-result

@@ -1,6 +1,5 @@
 use Rattle.wire.proofs.Signed.{low, high, high_fits}
 use mathlib.Core.Path.{refl}
-use borrow.Author.Rules.{rules}
 use Rattle.wire.proofs.field.to_signed.Goals as goal
 
 pub overflow_sub-result-else-v-half-3 : goal.overflow_sub-result-else-v-half-3

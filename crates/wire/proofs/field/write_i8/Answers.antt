@@ -2,7 +2,6 @@ use mir.Syntax.{w8}
 use mir.ValLaws.{to_z-of_z}
 use Rattle.wire.proofs.Signed.{widened}
 use native.Mathlib.Omega.{arith}
-use borrow.Author.Rules.{rules}
 use Rattle.wire.proofs.field.write_i8.Goals as goal
 
 pub overflow_cast-v : goal.overflow_cast-v

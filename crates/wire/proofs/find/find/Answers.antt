@@ -1,11 +1,7 @@
 -- The bytes passed are none of those looked for.
-use mathlib.Core.Path.{◌≡◌, sym, ◌∙◌}
-use Prim.Native.Nat.{◌≤◌, ◌-◌}
+use mathlib.Core.Path.{sym, ◌∙◌}
 use native.Mathlib.Omega.{arith}
-use lib.ListN.{length, drop}
-use Rattle.wire.specs.Find.{index_of, later}
 use Rattle.wire.proofs.Laws.{find_here, find_next, find_start, find_none}
-use borrow.Author.Rules.{rules}
 use Rattle.wire.proofs.find.find.Goals as goal
 
 pub loop-i-init : goal.loop-i-init

@@ -2,7 +2,6 @@ use Rattle.wire.proofs.Laws.{copied_at}
 use Rattle.wire.specs.Bytes.{copied}
 use native.Mathlib.Omega.{arith}
 use lib.ListN.{length-take}
-use borrow.Author.Rules.{rules}
 use Rattle.wire.proofs.store.copy.Goals as goal
 
 pub slice_bounds-copy_all-end : goal.slice_bounds-copy_all-end

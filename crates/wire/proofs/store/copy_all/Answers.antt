@@ -1,11 +1,8 @@
 -- After i turns dst is the first i bytes of src and then its own.
-use mathlib.Core.Path.{◌≡◌, refl}
-use mathlib.Core.List.{◌++◌}
-use Prim.Native.Nat.{◌≤◌, ◌-◌}
+use mathlib.Core.Path.{refl}
 use native.Mathlib.Omega.{arith}
-use lib.ListN.{length, take, drop, length-set}
+use lib.ListN.{length-set}
 use Rattle.wire.proofs.Laws.{copy_turn, copy_done}
-use borrow.Author.Rules.{rules}
 use Rattle.wire.proofs.store.copy_all.Goals as goal
 
 pub loop-i-init : goal.loop-i-init

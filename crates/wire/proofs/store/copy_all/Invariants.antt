@@ -1,11 +1,8 @@
 -- After i turns dst is the first i bytes of src and then its own.
-use mathlib.Core.Path.{◌≡◌, refl}
+use mathlib.Core.Path.{◌≡◌}
 use mathlib.Core.List.{◌++◌}
 use Prim.Native.Nat.{◌≤◌, ◌-◌}
-use native.Mathlib.Omega.{arith}
-use lib.ListN.{length, take, drop, length-set}
-use Rattle.wire.proofs.Laws.{copy_turn, copy_done}
-use borrow.Author.Rules.{rules}
+use lib.ListN.{length, take, drop}
 use Rattle.wire.proofs.store.copy_all.Given as goal
 
 abbrev pub invariant-loop-i : goal.invariant-loop-i

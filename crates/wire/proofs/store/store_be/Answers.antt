@@ -1,11 +1,9 @@
 -- With i bytes to go, the i lowest bytes of x written over dst give what is asked.
 use mathlib.Core.Path.{◌≡◌, refl, sym, ◌∙◌}
-use Prim.Native.Nat.{◌≤◌}
 use native.Mathlib.Omega.{arith}
-use lib.ListN.{length, length-set}
-use Rattle.wire.specs.Bytes.{be_bytes, put}
+use lib.ListN.{length-set}
+use Rattle.wire.specs.Bytes.{be_bytes}
 use Rattle.wire.proofs.Laws.{put_turn, put_none}
-use borrow.Author.Rules.{rules}
 use Rattle.wire.proofs.store.store_be.Goals as goal
 
 pub loop-i-init : goal.loop-i-init

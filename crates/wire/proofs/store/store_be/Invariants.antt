@@ -1,11 +1,8 @@
 -- With i bytes to go, the i lowest bytes of x written over dst give what is asked.
-use mathlib.Core.Path.{◌≡◌, refl, sym, ◌∙◌}
+use mathlib.Core.Path.{◌≡◌}
 use Prim.Native.Nat.{◌≤◌}
-use native.Mathlib.Omega.{arith}
-use lib.ListN.{length, length-set}
+use lib.ListN.{length}
 use Rattle.wire.specs.Bytes.{be_bytes, put}
-use Rattle.wire.proofs.Laws.{put_turn, put_none}
-use borrow.Author.Rules.{rules}
 use Rattle.wire.proofs.store.store_be.Given as goal
 
 abbrev pub invariant-loop-i : goal.invariant-loop-i

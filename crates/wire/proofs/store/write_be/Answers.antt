@@ -1,6 +1,5 @@
 use Rattle.wire.proofs.Laws.{unplaced, placed_at, length_be_bytes}
 use native.Mathlib.Omega.{arith}
-use borrow.Author.Rules.{rules}
 use Rattle.wire.proofs.store.write_be.Goals as goal
 
 pub returns-then-dst-to : goal.returns-then-dst-to

@@ -1,5 +1,4 @@
 -- By the file's number.
-use borrow.Author.Rules.{rules}
 use borrow.Author.Tests.{ne_eqb}
 use Rattle.progress.specs.Files.{raised_in}
 use Rattle.progress.proofs.files.Files.raised.Goals as goal

@@ -1,5 +1,4 @@
 -- Two pairs, and the two that are left.
-use borrow.Author.Rules.{rules}
 use Rattle.progress.specs.Files.{smallest}
 use Rattle.progress.proofs.files.Files.smallest.Goals as goal
 

@@ -1,5 +1,4 @@
 -- The smallest of the four, with the rest as it is.
-use borrow.Author.Rules.{rules}
 use Rattle.progress.proofs.files.Progress.cell.Goals as goal
 
 pub returns : goal.returns

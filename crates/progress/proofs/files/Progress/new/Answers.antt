@@ -1,5 +1,4 @@
 -- All four files at the start.
-use borrow.Author.Rules.{rules}
 use Rattle.progress.proofs.files.Progress.new.Goals as goal
 
 pub returns : goal.returns

@@ -1,5 +1,4 @@
 -- A number above 3 is refused; else the file is raised, then the cell.
-use borrow.Author.Rules.{rules}
 use borrow.Author.Tests.{lt-ltb, le-ltb}
 use Rattle.progress.specs.Files.{filed_of}
 use Rattle.progress.proofs.files.Progress.report.Goals as goal
