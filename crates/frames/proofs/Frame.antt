@@ -1,20 +1,19 @@
 -- The frame both ways: what is framed is cut off whole, and what is cut off whole was framed.
 use mathlib.Core.Path.{◌≡◌, refl, sym, ap, subst, subst⁻¹, ◌∙◌}
-use mathlib.Core.Bool.{Bool, true}
+use mathlib.Core.Bool.{true}
 use mathlib.Core.List.{List, [], ◌∷◌, ◌++◌, append_assoc}
-use mathlib.Core.Logic.{◌⊎◌, inl, inr}
-use Prim.Native.Nat.{ℕ, zero, suc, ◌+◌, ◌-◌, ◌*◌, ◌≤◌, ◌<◌}
+use mathlib.Core.Logic.{inl, inr}
+use Prim.Native.Nat.{ℕ, zero, suc, ◌+◌, ◌-◌, ◌≤◌, ◌<◌}
 use native.Mathlib.Omega.{arith}
 use lib.ListN.{length, take, drop, get_or, length-append, length-drop, take-append-drop}
-use lib.Seq.{take_at, drop_at, take-append_seam, drop-append_seam, drop-drop, drop-cons, length-take-le, take-append-le}
+use lib.Seq.{take_at, drop_at, take-append_seam, drop-append_seam, drop-drop, drop-cons, length-take-le}
 use lib.Pow.{are_bytes}
-use borrow.Author.Tests.{le-ltb, lt-leb}
 use Rattle.wire.specs.Bytes.{at, be, be_from, be_bytes}
 use Rattle.wire.specs.Int.{half}
 use Rattle.wire.proofs.Laws.{length_be_bytes}
 use Rattle.wire.proofs.FieldLaws.{be_be_bytes, first_byte, part_there}
 use Rattle.frames.specs.Message.{Front, in_header, in_payload, bad_length, too_large, whole, framed, length_field, front_of}
-use Rattle.frames.specs.Cut.{Item, message, refused, Ending, header, payload, over, Cut, behind, ended, cut_by, cut_of}
+use Rattle.frames.specs.Cut.{message, refused, Ending, header, payload, over, Cut, behind, ended, cut_by, cut_of}
 use Rattle.frames.specs.Frame.{length_in, Laid, all, one, bad, Bad, Stops, CutByFront, FramedIsCut, LaidIsCut, CutIsLaid}
 use Rattle.frames.proofs.Front.{Shows, cut_header, negative, short, large, cut_payload, complete, shows, header_front, negative_front, short_front, over_front, payload_front, whole_front, length_field_append}
 use Rattle.frames.proofs.Laws.{cut_next, cut_in_header, cut_in_payload, cut_too_large, cut_bad_length, cut_whole}

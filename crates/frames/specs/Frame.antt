@@ -3,7 +3,7 @@
 use Rattle.std.specs.Prelude.{◌≡◌, true, List, [], ◌∷◌, ◌++◌, ◌⊎◌, ℕ, ◌+◌, ◌-◌, ◌*◌, ◌≤◌, ◌<◌, length, get_or, drop}
 use Rattle.std.proofs.Math.Pow.{are_bytes}
 use Rattle.frames.specs.Message.{framed, front_of}
-use Rattle.frames.specs.Cut.{Item, message, refused, Ending, header, payload, over, Cut, behind, cut_by, cut_of}
+use Rattle.frames.specs.Cut.{Item, message, refused, Ending, header, payload, over, behind, cut_by, cut_of}
 
 -- the four bytes after the tag, the first of them the highest
 abbrev pub length_in : List ℕ → ℕ

@@ -1,5 +1,4 @@
 -- The laws of moments, by their tests.
-use Prim.Native.Nat.{ℕ}
 use native.Mathlib.Omega.{arith}
 use borrow.Author.Tests.{lt-ltb, le-ltb, le-leb, lt-leb}
 use Rattle.moment.specs.Moment.{last}

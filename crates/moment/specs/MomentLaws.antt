@@ -1,6 +1,6 @@
 -- Moments over all values: which are in range, which come before, and the time between two. SCOPE 4.3, 5.4; 01, "Events and confirmations", the
 -- inputs of a step.
-use Rattle.std.specs.Prelude.{◌≡◌, true, false, ℕ, ◌+◌, ◌^◌, ◌≤◌, ◌<◌}
+use Rattle.std.specs.Prelude.{◌≡◌, true, false, ◌+◌, ◌≤◌, ◌<◌}
 use Rattle.moment.specs.declared.Moment.{Moment}
 use Rattle.moment.specs.Moment.{is_before, in_range, since_of}
 
