@@ -8,10 +8,8 @@ use native.Mathlib.Omega.{arith}
 use lib.ListN.{length, take, replicate, length-append, length-replicate}
 use lib.IntN.{pos}
 use Rattle.wire.specs.Bytes.{be_bytes}
-use Rattle.wire.specs.Int.{int_bytes}
 use Rattle.wire.specs.Field.{unsigned}
 use Rattle.wire.proofs.Laws.{length_be_bytes}
-use Rattle.wire.proofs.FieldLaws.{be_bytes_one}
 use Rattle.frames.specs.Message.{framed}
 use Rattle.replication.specs.CopyData.{xlog_data, keep_alive}
 use Rattle.pgoutput.specs.Boundary.{begin_bytes, commit_bytes}

@@ -1,7 +1,7 @@
 -- A stream of messages drawn from a seed: document 02, wish 13. The bytes of the messages are those of PostgreSQL's documentation, as stream,
 -- replication and pgoutput have them.
-use Rattle.std.specs.Prelude.{ℕ, zero, suc, ◌%◌, ◌^◌, Bool, true, false, List, [], ◌∷◌, ◌++◌, length, replicate, pos, eqb}
-use Rattle.wire.specs.Bytes.{pick, put}
+use Rattle.std.specs.Prelude.{ℕ, zero, suc, ◌%◌, ◌^◌, Bool, true, false, List, [], ◌∷◌, ◌++◌, replicate, pos, eqb}
+use Rattle.wire.specs.Bytes.{pick}
 use Rattle.error.specs.Refusal.{number_of as writer_number}
 use Rattle.error.specs.Writer.{writing}
 use Rattle.frames.specs.Message.{framed}

@@ -1,12 +1,7 @@
 -- Messages of drawn numbers in plain bytes, and what a call refuses: document 02, wish 13.
-use Rattle.std.specs.Prelude.{◌≡◌, refl, true, false, List, [], ◌∷◌, ◌++◌, ℕ, ◌<◌, ◌≤◌, ◌^◌, length, replicate}
-use Rattle.std.specs.Int.Bits.{bit_xor}
-use Rattle.wire.specs.Bytes.{be_bytes}
-use Rattle.frames.specs.Message.{framed}
-use Rattle.replication.specs.CopyData.{xlog_data, keep_alive}
-use Rattle.pgoutput.specs.Boundary.{begin_bytes, commit_bytes}
+use Rattle.std.specs.Prelude.{◌≡◌, true, [], ◌∷◌, ◌++◌, ℕ, replicate}
 use Rattle.load.specs.declared.Message.TheVariants.{KeepAlive, Begin, Data, Commit}
-use Rattle.load.specs.Load.{by_kind, bytes_of, payload_of, messages_of, stream_of, loading}
+use Rattle.load.specs.Load.{by_kind, bytes_of, stream_of, loading}
 
 -- which of the four kinds a number chooses
 abbrev kind : ℕ → ℕ

@@ -1,23 +1,18 @@
 -- An authentication request and its layout.
 use mathlib.Core.Path.{◌≡◌, refl, sym, ap, ◌∙◌}
-use mathlib.Core.Bool.{true}
-use mathlib.Core.List.{List, [], ◌∷◌, ◌++◌}
-use mathlib.Core.Option.{Option, some, none}
-use Prim.Native.Nat.{ℕ, ◌+◌, ◌-◌, ◌≤◌, ◌<◌}
+use mathlib.Core.List.{List, ◌++◌}
+use Prim.Native.Nat.{ℕ, ◌-◌, ◌≤◌, ◌<◌}
 use native.Mathlib.Omega.{arith}
-use lib.ListN.{length, take, drop, length-append, length-drop}
+use lib.ListN.{length, drop, length-append, length-drop}
 use lib.Seq.{take-length}
 use lib.IntN.{ℤ, pos}
-use lib.Signed.{mag}
 use lib.Dec.{leb}
-use lib.Pow.{are_bytes}
 use borrow.Author.Tests.{leb-true, leb-false}
 use Rattle.wire.specs.Bytes.{at, be}
-use Rattle.wire.specs.Field.{field_at}
-use Rattle.wire.specs.Int.{half, int, int_at, int_bytes}
-use Rattle.wire.proofs.Laws.{by_test, impossible, length_be_bytes}
+use Rattle.wire.specs.Int.{int, int_bytes}
+use Rattle.wire.proofs.Laws.{by_test, length_be_bytes}
 use Rattle.wire.proofs.FieldLaws.{field_cut, int_whole, int_read, int_part_there}
-use Rattle.messages.specs.Auth.{auth_by, auth_of}
+use Rattle.messages.specs.Auth.{auth_of}
 use Rattle.messages.specs.AuthLayout.{SentAuthIsRead, ReadAuthIsSent, ShortAuthIsRefused, AuthIsWithin}
 
 short_auth : (payload : List ℕ) → length payload < 4 → auth_of payload ≡ (21, pos 0, 0, 0)

@@ -1,17 +1,17 @@
 -- The fields by index, along the list of letters; and the place of each, along the walk over the payload.
 use mathlib.Core.Path.{◌≡◌, refl, sym, ap, ◌∙◌}
-use mathlib.Core.Bool.{Bool, true, false}
+use mathlib.Core.Bool.{true, false}
 use mathlib.Core.List.{List, [], ◌∷◌, ◌++◌, map}
 use mathlib.Core.Option.{Option, some, none}
 use Prim.Native.Nat.{ℕ, zero, suc, ◌+◌, ◌-◌, ◌≤◌, ◌<◌}
 use native.Mathlib.Omega.{arith}
-use lib.ListN.{length, take, drop, get_or, length-take, length-drop, take-append-drop, get_or-eq_default}
+use lib.ListN.{length, take, drop, get_or, length-drop, take-append-drop, get_or-eq_default}
 use lib.Seq.{drop-drop, length-take-le}
 use lib.Dec.{eqb, ltb}
-use borrow.Author.Tests.{eqb-true, eqb-false, eq-eqb, ne_eqb, ltb-true, ltb-false, lt-ltb, le-ltb}
+use borrow.Author.Tests.{eqb-true, eqb-false, eq-eqb, ne_eqb, ltb-true, ltb-false, le-ltb}
 use Rattle.wire.specs.Bytes.{pick, at, be}
 use Rattle.wire.specs.Int.{int}
-use Rattle.wire.specs.Find.{index_of, NoZero}
+use Rattle.wire.specs.Find.{index_of}
 use Rattle.wire.proofs.Laws.{by_test, impossible}
 use Rattle.wire.proofs.FindLaws.{found_at, found_below}
 use Rattle.wire.proofs.FieldLaws.{int_whole}
@@ -20,7 +20,7 @@ use Rattle.messages.specs.Fields.{Entry, entries_of, absent, entered, last_of, l
 use Rattle.messages.specs.FieldLayout.{Laid}
 use Rattle.messages.specs.Auth.{auth_of}
 use Rattle.messages.specs.ErrorText.{error_text, error_marks}
-use Rattle.messages.specs.FieldsSent.{fifteen, either, last_value, value_given, text_of, value_marks}
+use Rattle.messages.specs.FieldsSent.{fifteen, last_value, value_given}
 use Rattle.messages.specs.FieldsIndexed.{letter_at, NoLetter, Behind, IndexLaws}
 use Rattle.messages.proofs.Laws.{at_place, unread, unread_start, unread_end, unread_zero, unread_cut, unread_field}
 use Rattle.messages.proofs.FieldsSent.{one_field, text_by_lem, marks_by}

@@ -1,5 +1,5 @@
 -- The fields and the text of an error by the layout of its payload.
-use mathlib.Core.Path.{◌≡◌, refl, sym, ap, ◌∙◌}
+use mathlib.Core.Path.{◌≡◌, refl, ap, ◌∙◌}
 use mathlib.Core.Bool.{Bool, true, false}
 use mathlib.Core.List.{List, [], ◌∷◌, ◌++◌, map}
 use mathlib.Core.Logic.{inl}
@@ -19,10 +19,10 @@ use Rattle.lossy.specs.Marks.{seen, marks_of}
 use Rattle.lossy.proofs.Marks.{marks_are_seen, seen_joined}
 use Rattle.messages.specs.declared.Field.{Field}
 use Rattle.messages.specs.Fields.{Entry, entries_of, absent, entered, last_of, letters, fields_of, named}
-use Rattle.messages.specs.FieldLayout.{encode, Sendable, Laid, said, fields_read}
+use Rattle.messages.specs.FieldLayout.{encode, Laid, said, fields_read}
 use Rattle.messages.specs.ErrorText.{opened, closed, plain, coded, text_by, error_text, error_marks}
 use Rattle.text.specs.Ascii.{ascii}
-use Rattle.messages.specs.FieldsSent.{fifteen, either, last_value, value_given, FieldsAreLaid, FieldsAreSent, FieldIsWithin, text_of, TextIsLaid, value_marks, MarksAreLaid, value_seen, TextShowsMarks}
+use Rattle.messages.specs.FieldsSent.{either, last_value, value_given, FieldsAreLaid, FieldsAreSent, FieldIsWithin, text_of, TextIsLaid, value_marks, MarksAreLaid, value_seen, TextShowsMarks}
 use Rattle.messages.proofs.Laws.{unread, unread_start, unread_end, unread_zero, unread_cut, unread_field}
 use Rattle.messages.proofs.FieldLayout.{laid_is_read}
 

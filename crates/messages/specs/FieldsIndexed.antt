@@ -10,7 +10,7 @@ use Rattle.error.specs.Refusal.{number_of}
 use Rattle.messages.specs.declared.Field.{Field}
 use Rattle.messages.specs.declared.AuthRequest.TheVariants.{Request, Refused}
 use Rattle.messages.specs.Auth.{auth_of, auth_outcome}
-use Rattle.messages.specs.Fields.{fields_of, indexed, named}
+use Rattle.messages.specs.Fields.{fields_of, indexed}
 use Rattle.messages.specs.FieldLayout.{Laid}
 use Rattle.messages.specs.FieldsSent.{fifteen, last_value, value_given, text_of, value_marks}
 use Rattle.messages.specs.ErrorText.{error_text, error_marks}

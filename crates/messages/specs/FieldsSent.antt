@@ -1,6 +1,6 @@
 -- The fifteen fields of an error by the layout of the payload: of every list of letters and values that is sent, the last value of each known
 -- letter. SCOPE 2.4; 01, "Texts and positions". The letters are those of the PostgreSQL documentation, "Error and Notice Message Fields".
-use Rattle.std.specs.Prelude.{◌≡◌, refl, Bool, List, [], ◌∷◌, ◌++◌, map, ℕ, ◌+◌, ◌≤◌, length, get_or, eqb}
+use Rattle.std.specs.Prelude.{◌≡◌, refl, List, [], ◌∷◌, ◌++◌, map, ℕ, ◌+◌, ◌≤◌, length, get_or, eqb}
 use Rattle.std.proofs.Math.Option.{Option, some, none}
 use Prim.Native.Char.{code}
 use Rattle.wire.specs.Bytes.{pick}
@@ -94,7 +94,7 @@ pub record Cases : Type 0 where
   -- M FF FF, C FF, and D FF, which is not shown
   pub message_and_code : marks_shown (77 ∷ 0xFF ∷ 0xFF ∷ 0 ∷ 67 ∷ 0xFF ∷ 0 ∷ 68 ∷ 0xFF ∷ 0 ∷ 0 ∷ []) ≡ 3
   -- M FF FF, and M `a`, which is the last
-  pub last_message_lem : marks_shown (77 ∷ 0xFF ∷ 0xFF ∷ 0 ∷ 77 ∷ 97 ∷ 0 ∷ []) ≡ 0
+  pub last_message : marks_shown (77 ∷ 0xFF ∷ 0xFF ∷ 0 ∷ 77 ∷ 97 ∷ 0 ∷ []) ≡ 0
   -- D FF alone: `unknown server error`
   pub detail_alone : marks_shown (68 ∷ 0xFF ∷ 0 ∷ []) ≡ 0
   -- M EF BF BD
@@ -104,4 +104,4 @@ pub record Cases : Type 0 where
 -- each by computing the definitions
 pub cases : Cases
 unfolding error_marks fields_of last_of entries_of entries_from index_of marks_of marks_all parts_of row_of table matched
-cases = record { message_and_code = refl; last_message_lem = refl; detail_alone = refl; its_own_mark = refl; no_field = refl }
+cases = record { message_and_code = refl; last_message = refl; detail_alone = refl; its_own_mark = refl; no_field = refl }

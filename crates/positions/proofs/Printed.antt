@@ -8,7 +8,7 @@ use native.Mathlib.Omega.{arith}
 use lib.ListN.{length, take, set, length-append, length-take, length-set}
 use lib.Seq.{take_all, take-append-le, take-suc-set}
 use lib.Dec.{eqb, ltb}
-use borrow.Author.Tests.{eqb-true, eq-eqb, ne_eqb, lt-ltb, le-ltb, ltb-true, ltb-false}
+use borrow.Author.Tests.{eqb-true, ne_eqb, ltb-true, ltb-false}
 use Rattle.wire.proofs.Laws.{by_test}
 use Rattle.wire.specs.Find.{index_of}
 use Rattle.text.specs.Numeral.{decimal_text, numeral}

@@ -1,9 +1,9 @@
 -- Stored positions, one a line, and what is printed of them. SCOPE 11.6; 02, wish 6.
-use Rattle.std.specs.Prelude.{ℕ, ◌+◌, Bool, true, false, List, [], ◌∷◌, ◌++◌, length, take, set, ltb, eqb}
+use Rattle.std.specs.Prelude.{ℕ, ◌+◌, true, false, List, [], ◌∷◌, ◌++◌, length, take, set, ltb, eqb}
 use Rattle.wire.specs.Bytes.{pick}
 use Rattle.text.specs.Numeral.{decimal_text}
 use Rattle.lsn.specs.Position.{position_of, display_of}
-use Rattle.test_lines.specs.Line.{pieces, end_texts}
+use Rattle.test_lines.specs.Line.{end_texts}
 use Rattle.positions.specs.declared.stored.Held.{Held}
 
 -- a refusal's number, a space and the line as stored

@@ -1,10 +1,9 @@
 -- A query that is read is no query with more bytes after it, so no part of the query that is written is one; the words of a text, blank by blank.
 use mathlib.Core.Path.{◌≡◌, refl, sym, ap, ◌∙◌}
 use mathlib.Core.Bool.{Bool, true, false}
-use mathlib.Core.List.{List, [], ◌∷◌, ◌++◌, map, append_assoc, append-nil}
+use mathlib.Core.List.{List, [], ◌∷◌, ◌++◌, append_assoc}
 use mathlib.Core.Option.{Option, some, none}
-use Prim.Native.Nat.{ℕ, zero, suc, ◌+◌, ◌/◌, ◌%◌, ◌^◌, ◌≤◌, ◌<◌}
-use Prim.Native.Char.{code}
+use Prim.Native.Nat.{ℕ, zero, suc, ◌/◌, ◌%◌, ◌^◌, ◌≤◌}
 use native.Mathlib.Omega.{arith}
 use lib.ListN.{length}
 use lib.Dec.{ltb, eqb}
@@ -17,10 +16,9 @@ use Rattle.wire.proofs.Laws.{by_test, impossible}
 use Rattle.text.specs.Numeral.{glyph_of, numeral, hex_text}
 use Rattle.lsn.specs.declared.Lsn.{Lsn}
 use Rattle.lsn.specs.Position.{position_of, display_of}
-use Rattle.config.specs.OptionValue.{quoted, doubled, following, option_value}
+use Rattle.config.specs.OptionValue.{doubled, following, option_value}
 use Rattle.text.specs.Ascii.{ascii, on_first}
 use Rattle.config.specs.ReadBack.{with_byte, unquoted}
-use Rattle.frontend.specs.ReadBack.{query_of}
 use Rattle.frontend.proofs.ServerReads.{query_read_back, query_cut_at_zero}
 use Rattle.request.specs.Request.{start_replication}
 use Rattle.request.specs.ReadBack.{rest_after, word, next_by, options_from, Asked, asked_of, NoSpace}

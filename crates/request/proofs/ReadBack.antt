@@ -1,10 +1,9 @@
 -- The query that opens a stream, read back word by word.
-use mathlib.Core.Path.{◌≡◌, refl, ap, ◌∙◌}
+use mathlib.Core.Path.{◌≡◌, refl}
 use mathlib.Core.Bool.{Bool, true, false}
-use mathlib.Core.List.{List, [], ◌∷◌, ◌++◌, map, append_assoc}
-use mathlib.Core.Option.{Option, some, none}
-use Prim.Native.Nat.{ℕ, zero, suc, ◌+◌, ◌/◌, ◌%◌, ◌^◌, ◌≤◌, ◌<◌}
-use Prim.Native.Char.{code}
+use mathlib.Core.List.{List, [], ◌∷◌, ◌++◌, map}
+use mathlib.Core.Option.{some}
+use Prim.Native.Nat.{ℕ, zero, suc, ◌/◌, ◌%◌, ◌^◌, ◌≤◌}
 use native.Mathlib.Omega.{arith}
 use lib.ListN.{length}
 use lib.Dec.{ltb}
@@ -19,7 +18,7 @@ use Rattle.config.specs.OptionValue.{option_value}
 use Rattle.text.specs.Ascii.{ascii}
 use Rattle.config.specs.ReadBack.{unquoted, with_commas}
 use Rattle.config.proofs.ReadBack.{value_read_back}
-use Rattle.request.specs.Request.{names_part, messages_part, binary_part, last_part, start_replication}
+use Rattle.request.specs.Request.{start_replication}
 use Rattle.request.specs.ReadBack.{rest_after, word, options_from, asked_of, options, NoSpace, RequestReadBack}
 
 -- ---- words

@@ -2,7 +2,7 @@
 -- the slot ends the slot. PostgreSQL documentation, "Message Formats" (Query) and "Streaming Replication Protocol" (START_REPLICATION). SCOPE 5.2:
 -- the slot stands as it was lent.
 use Rattle.std.specs.Prelude.{◌≡◌, Bool, List, [], ◌∷◌, ◌++◌, map, ℕ, ◌+◌, ◌^◌, ◌<◌, length, eqb}
-use Rattle.std.proofs.Math.Option.{Option, some, none}
+use Rattle.std.proofs.Math.Option.{some, none}
 use Prim.Native.Char.{code}
 use Rattle.std.specs.Borrow.{Bor}
 use Rattle.wire.specs.Bytes.{pick}

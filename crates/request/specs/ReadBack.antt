@@ -1,6 +1,6 @@
 -- The query that opens a stream as a server reads it: PostgreSQL documentation, "Streaming Replication Protocol", START_REPLICATION SLOT
 -- slot_name LOGICAL XXX/XXX [ ( option_name [ option_value ] [, ...] ) ]. SCOPE 5.2; 01, "Events and confirmations".
-use Rattle.std.specs.Prelude.{◌≡◌, refl, Bool, true, false, List, [], ◌∷◌, ◌++◌, map, ℕ, zero, suc, ◌^◌, ◌<◌, length, eqb}
+use Rattle.std.specs.Prelude.{◌≡◌, refl, Bool, true, false, List, [], ◌∷◌, map, ℕ, zero, suc, ◌^◌, ◌<◌, length, eqb}
 use Rattle.std.proofs.Math.Option.{Option, some, none}
 use Prim.Native.Char.{code}
 use Rattle.std.specs.Borrow.{Bor}

@@ -1,24 +1,23 @@
 -- One law for every layout, in both directions.
 use mathlib.Core.Path.{◌≡◌, refl, sym, ap, ◌∙◌}
-use mathlib.Core.Bool.{Bool, true, false}
+use mathlib.Core.Bool.{true}
 use mathlib.Core.List.{List, [], ◌∷◌, ◌++◌}
-use mathlib.Core.Logic.{◌⊎◌, inl, inr}
-use mathlib.Core.Option.{some}
+use mathlib.Core.Logic.{inl, inr}
 use Prim.Native.Nat.{ℕ, ◌+◌, ◌<◌}
 use native.Mathlib.Omega.{arith}
 use lib.ListN.{length, drop}
 use lib.Dec.{eqb}
 use lib.Pow.{are_bytes}
-use borrow.Author.Tests.{eq-eqb, ne_eqb, eqb-true, eqb-false}
-use Rattle.wire.specs.Bytes.{pick, at, be_bytes}
+use borrow.Author.Tests.{eq-eqb, ne_eqb, eqb-true}
+use Rattle.wire.specs.Bytes.{be_bytes}
 use Rattle.wire.specs.Field.{field_at}
 use Rattle.wire.specs.Int.{int_at}
 use Rattle.wire.specs.Find.{index_of}
 use Rattle.wire.proofs.Laws.{by_test, impossible}
 use Rattle.wire.proofs.FieldLaws.{be_bytes_one}
-use Rattle.rows.specs.Layout.{Layout, Letters, number, integer, name, value, many, both, nothing, letter, no_other, or, Value, Choice, Read}
-use Rattle.rows.specs.Layout.{got, after, mapped, number_by, name_by, count_at, bytes_at, times_at, read_at, choose_at, all_bytes, bytes_of, letter_of}
-use Rattle.rows.specs.Layout.{under_of, All, Fits, ChoiceFits, Unlike, Proper, ProperLetters, Stands, WrittenIsRead, ReadIsWritten}
+use Rattle.rows.specs.Layout.{Letters, number, integer, name, value, many, both, nothing, letter, no_other, or, Choice}
+use Rattle.rows.specs.Layout.{got, mapped, number_by, count_at, bytes_at, times_at, read_at, choose_at, all_bytes, bytes_of, letter_of}
+use Rattle.rows.specs.Layout.{under_of, Fits, ChoiceFits, Unlike, ProperLetters, Stands, WrittenIsRead, ReadIsWritten}
 use Rattle.rows.proofs.Places.{by_after, by_told, number_some, split, join, none_stands, number_read, number_there, integer_read}
 use Rattle.rows.proofs.Places.{integer_there, count_read, count_there, bytes_read, bytes_there, name_read, name_back, times_read, times_there}
 

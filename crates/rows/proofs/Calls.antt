@@ -1,5 +1,5 @@
 -- Calls over words, from what the readers answer; and parts within the data, from the rows' own bytes.
-use mathlib.Core.Path.{◌≡◌, refl, sym, ap, ◌∙◌}
+use mathlib.Core.Path.{◌≡◌, refl, ap, ◌∙◌}
 use mathlib.Core.Bool.{true}
 use mathlib.Core.List.{List, [], ◌∷◌, ◌++◌}
 use Prim.Native.Nat.{ℕ, ◌+◌, ◌<◌, ◌≤◌}
@@ -11,7 +11,7 @@ use Rattle.wire.proofs.Laws.{length_be_bytes}
 use Rattle.wire.specs.Int.{int_bytes}
 use Rattle.rows.specs.declared.Which.{Which}
 use Rattle.rows.specs.declared.Which.TheVariants.{Key, Old}
-use Rattle.rows.specs.Layout.{Read, got, refused, mapped, all_bytes}
+use Rattle.rows.specs.Layout.{Read, got, refused, mapped}
 use Rattle.rows.specs.Rows.{Cell, null, unchanged, text, binary, Described, described, Row, relation, type, origin, insert, update, update_from}
 use Rattle.rows.specs.Rows.{delete, truncate, cell_bytes, described_bytes, row_bytes, which_letter, Said, row, no_row, refused_by, row_said}
 use Rattle.rows.specs.Head.{head_of, cell_at, column_at, described_at, description_at, identifier_at, answer_of}

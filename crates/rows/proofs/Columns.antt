@@ -1,5 +1,5 @@
 -- A column by its letter.
-use mathlib.Core.Path.{◌≡◌, refl, sym, ap, ◌∙◌}
+use mathlib.Core.Path.{◌≡◌, sym}
 use mathlib.Core.List.{List}
 use mathlib.Core.Logic.{inl, inr}
 use mathlib.Core.Option.{some, none}
@@ -7,10 +7,8 @@ use Prim.Native.Nat.{ℕ, ◌+◌}
 use Prim.Native.Char.{code}
 use native.Mathlib.Omega.{arith}
 use lib.ListN.{length}
-use borrow.Author.Tests.{eq-eqb, ne_eqb}
 use Rattle.wire.specs.Field.{field_at}
-use Rattle.rows.specs.Layout.{Layout, Letters, value, letter, nothing, or, no_other, Value, Read, got, refused, cut, wrong, mapped, read_at}
-use Rattle.rows.specs.Layout.{choose_at}
+use Rattle.rows.specs.Layout.{value, Read, got, refused, cut, wrong, mapped, read_at}
 use Rattle.rows.specs.Rows.{column_layout, cell_of}
 use Rattle.rows.specs.Head.{Span, ToldCell, told_null, told_unchanged, told_text, told_binary, cell_at, column_at}
 use Rattle.rows.proofs.Steps.{ended, ended_told, letter_got, letter_cut, choose_here, choose_next, choose_none, nothing_got}

@@ -1,29 +1,28 @@
 -- Data that end within the bytes of values: the field that is cut is the first bad one.
 use mathlib.Core.Path.{◌≡◌, refl, sym, ap, ◌∙◌}
-use mathlib.Core.Bool.{Bool, true, false}
-use mathlib.Core.List.{List, [], ◌∷◌, ◌++◌, append_assoc}
+use mathlib.Core.Bool.{false}
+use mathlib.Core.List.{List, [], ◌∷◌, ◌++◌}
 use mathlib.Core.Logic.{◌⊎◌, inl, inr, ⊎_elim}
-use mathlib.Core.Option.{Option, some, none}
+use mathlib.Core.Option.{none}
 use Prim.Native.Char.{code}
-use Prim.Native.Nat.{ℕ, ◌+◌, ◌-◌, ◌<◌, ◌≤◌, ◌^◌}
+use Prim.Native.Nat.{ℕ, ◌+◌, ◌-◌, ◌<◌}
 use native.Mathlib.Omega.{arith}
 use lib.ListN.{length, drop, length-append, length-drop}
 use lib.Seq.{drop-drop, drop-append_seam}
-use lib.Dec.{eqb, ltb}
 use borrow.Author.Tests.{eq-eqb, ne_eqb, lt-ltb}
 use Rattle.wire.specs.Bytes.{be_bytes}
 use Rattle.wire.specs.Field.{field_at}
-use Rattle.wire.specs.Int.{half, int_at, int_bytes, value as int_value}
-use Rattle.wire.specs.Find.{index_of, NoZero}
+use Rattle.wire.specs.Int.{value as int_value}
+use Rattle.wire.specs.Find.{NoZero}
 use Rattle.wire.proofs.Laws.{length_be_bytes}
 use Rattle.wire.proofs.FieldLaws.{field_cut, be_bytes_one}
 use Rattle.wire.proofs.FindLaws.{no_zero}
-use Rattle.rows.specs.Layout.{Layout, Letters, number, integer, name, value, many, both, nothing, letter, no_other, or, Value, Choice, Read}
-use Rattle.rows.specs.Layout.{got, cut, mapped, count_at, bytes_at, times_at, read_at, choose_at, all_bytes, bytes_of, letter_of, under_of, All, Fits}
-use Rattle.rows.specs.Layout.{ChoiceFits, Proper, ProperLetters, Stands, CutIsRefused}
-use Rattle.rows.specs.Rows.{Row, relation, type, origin, insert, update, update_from, delete, truncate, row_bytes, row_layout, row_of, refused_by}
-use Rattle.rows.specs.Rows.{boundary_letter, is_boundary, said_of, row_said}
-use Rattle.rows.specs.RowLayout.{RowFits, CutRowIsRefused}
+use Rattle.rows.specs.Layout.{Letters, number, integer, name, value, many, both, nothing, letter, no_other, or, Choice, Read}
+use Rattle.rows.specs.Layout.{got, cut, bytes_at, times_at, read_at, choose_at, all_bytes, bytes_of, letter_of, under_of, All, Fits}
+use Rattle.rows.specs.Layout.{ChoiceFits, ProperLetters, Stands, CutIsRefused}
+use Rattle.rows.specs.Rows.{Row, relation, type, origin, insert, update, update_from, delete, truncate, row_bytes, row_layout}
+use Rattle.rows.specs.Rows.{boundary_letter, is_boundary, row_said}
+use Rattle.rows.specs.RowLayout.{CutRowIsRefused}
 use Rattle.rows.proofs.BothWays.{other_letter, letter_below, written_is_read}
 use Rattle.rows.proofs.Places.{number_read, count_read}
 use Rattle.rows.proofs.Sent.{row_proper, row_fits, row_value, row_value_bytes}

@@ -1,13 +1,12 @@
 -- A description field by field.
-use mathlib.Core.Path.{◌≡◌, refl, sym, ap, ◌∙◌}
+use mathlib.Core.Path.{◌≡◌}
 use mathlib.Core.List.{List}
 use mathlib.Core.Option.{some, none}
 use Prim.Native.Nat.{ℕ, ◌+◌}
 use lib.ListN.{length}
-use lib.IntN.{ℤ}
 use Rattle.wire.specs.Field.{field_at}
-use Rattle.rows.specs.Layout.{Layout, number, integer, name, both, Value, Read, got, refused, cut, mapped, read_at}
-use Rattle.rows.specs.Rows.{described_layout, described_of}
+use Rattle.rows.specs.Layout.{Layout, number, name, both, Value, Read, got, refused, cut, mapped, read_at}
+use Rattle.rows.specs.Rows.{described_of}
 use Rattle.rows.specs.Head.{Span, ToldDescription, told_description, described_at, description_at, typed_layout}
 use Rattle.rows.proofs.Steps.{number_got, number_cut, both_got, both_refused, refused_back, got_back}
 

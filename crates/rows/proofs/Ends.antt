@@ -1,22 +1,21 @@
 -- Where what was read ends: after as many bytes as its values have, whatever the data are.
 use mathlib.Core.Path.{◌≡◌, refl, sym, ap, ◌∙◌}
-use mathlib.Core.Bool.{Bool, true, false}
 use mathlib.Core.List.{List, [], ◌∷◌, ◌++◌, map}
-use mathlib.Core.Logic.{◌⊎◌, inl, inr}
+use mathlib.Core.Logic.{inl, inr}
 use mathlib.Core.Option.{Option, some, none}
-use Prim.Native.Nat.{ℕ, zero, suc, ◌+◌, ◌<◌}
+use Prim.Native.Nat.{ℕ, zero, suc, ◌+◌}
 use native.Mathlib.Omega.{arith}
 use lib.ListN.{length, drop, length-append}
 use lib.Dec.{eqb}
 use Rattle.wire.specs.Bytes.{at, be_bytes}
 use Rattle.wire.specs.Field.{field_at}
-use Rattle.wire.specs.Int.{int_at, is_negative, int_bytes, value as int_value}
+use Rattle.wire.specs.Int.{int_at, is_negative, value as int_value}
 use Rattle.wire.specs.Find.{index_of}
 use Rattle.wire.proofs.Laws.{by_test, impossible, length_be_bytes}
 use Rattle.rows.specs.Layout.{Layout, Letters, number, integer, name, value, many, both, nothing, letter, no_other, or, Value, Choice, Read}
-use Rattle.rows.specs.Layout.{got, mapped, after, number_by, name_by, count_at, bytes_at, times_at, read_at, choose_at, all_bytes, bytes_of, letter_of}
+use Rattle.rows.specs.Layout.{got, mapped, number_by, name_by, count_at, bytes_at, times_at, read_at, choose_at, all_bytes, bytes_of}
 use Rattle.rows.specs.Layout.{under_of}
-use Rattle.rows.specs.Rows.{Cell, cell_bytes, column_layout, tuple_layout, cell_of, cells_of}
+use Rattle.rows.specs.Rows.{cell_bytes, column_layout, tuple_layout, cell_of, cells_of}
 use Rattle.rows.proofs.Places.{after_got, by_after, by_told, number_some, pick_got, bytes_there, name_there}
 
 count_ends : (s : List ℕ) (n i k j : ℕ) → count_at n s i ≡ got k j → j ≡ i + n

@@ -1,6 +1,5 @@
 -- What is handed out leads to the values of the row.
 use mathlib.Core.Path.{◌≡◌, refl, ap}
-use Prim.Native.Nat.{ℕ}
 use Rattle.rows.specs.Rows.{relation, insert, update, update_from, delete, truncate}
 use Rattle.rows.specs.Layout.{mapped}
 use Rattle.rows.specs.Head.{answer_of, cell_at, described_at, kind_of}

@@ -1,21 +1,19 @@
 -- A row's head field by field: what is told of fields that were read is told of the layout, and the first bad field gives the refusal.
-use mathlib.Core.Path.{◌≡◌, refl, sym, ap, ◌∙◌}
-use mathlib.Core.List.{List, [], ◌∷◌, ◌++◌, map}
+use mathlib.Core.Path.{◌≡◌, refl, ap, ◌∙◌}
+use mathlib.Core.List.{List, [], ◌∷◌, ◌++◌}
 use mathlib.Core.Logic.{inl, inr}
 use mathlib.Core.Option.{some, none}
 use Prim.Native.Char.{code}
 use Prim.Native.Nat.{ℕ, zero, suc, ◌+◌, ◌<◌, ◌≤◌}
 use native.Mathlib.Omega.{arith}
 use lib.ListN.{length, length-map, length-append}
-use Rattle.wire.specs.Bytes.{be_bytes}
 use Rattle.wire.specs.Field.{field_at}
 use Rattle.wire.specs.Int.{half}
-use Rattle.wire.proofs.Laws.{length_be_bytes, impossible}
-use Rattle.rows.specs.Layout.{Layout, Letters, number, name, many, both, nothing, letter, no_other, or, Value, Read, got, refused, cut, wrong}
+use Rattle.rows.specs.Layout.{Layout, Letters, number, name, many, both, nothing, letter, Value, Read, got, refused, cut, wrong}
 use Rattle.rows.specs.Layout.{mapped, times_at, read_at, choose_at, bytes_of, all_bytes}
-use Rattle.rows.specs.Rows.{Row, cell_bytes, column_layout, tuple_layout, described_layout, relation_layout, type_layout, origin_layout, new_layout}
+use Rattle.rows.specs.Rows.{cell_bytes, tuple_layout, described_layout, relation_layout, type_layout, origin_layout, new_layout}
 use Rattle.rows.specs.Rows.{insert_layout, update_layout, delete_layout, truncate_layout, cell_of, cells_of, described_of, new_of, relation_of, type_of}
-use Rattle.rows.specs.Rows.{origin_of, insert_of, update_of, delete_of, truncate_of, update_from, delete, update}
+use Rattle.rows.specs.Rows.{origin_of, insert_of, update_of, delete_of, truncate_of, update_from, delete}
 use Rattle.rows.specs.Head.{Span, Head, relation_head, type_head, origin_head, insert_head, update_head, update_from_head, delete_head}
 use Rattle.rows.specs.Head.{truncate_head, head_of, Answer, head, refusal, head_told}
 use Rattle.rows.specs.declared.Which.{Which}

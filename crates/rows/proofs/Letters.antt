@@ -1,21 +1,20 @@
 -- Data by their first letter.
 use mathlib.Core.Path.{◌≡◌, refl, sym, ap, ◌∙◌}
-use mathlib.Core.Bool.{Bool, true, false}
+use mathlib.Core.Bool.{true, false}
 use mathlib.Core.List.{List, [], ◌∷◌}
 use mathlib.Core.Logic.{inl, inr}
-use mathlib.Core.Option.{some, none}
+use mathlib.Core.Option.{some}
 use Prim.Native.Char.{code}
-use Prim.Native.Nat.{ℕ, ◌+◌, ◌<◌, ◌≤◌}
+use Prim.Native.Nat.{ℕ}
 use native.Mathlib.Omega.{arith}
 use lib.ListN.{length, get_or}
-use Rattle.wire.specs.Bytes.{pick}
 use Rattle.wire.specs.Field.{field_at}
 use Rattle.wire.proofs.FieldLaws.{field_whole, field_cut, be_one}
-use Rattle.rows.specs.Layout.{Layout, Letters, letter, or, no_other, Value, Choice, Read, got, refused, mapped, read_at, choose_at}
-use Rattle.rows.specs.Rows.{Row, Said, relation_layout, type_layout, origin_layout, insert_layout, update_layout, delete_layout, truncate_layout}
+use Rattle.rows.specs.Layout.{Layout, Letters, or, Choice, Read, got, refused, read_at, choose_at}
+use Rattle.rows.specs.Rows.{Row, relation_layout, type_layout, origin_layout, insert_layout, update_layout, delete_layout, truncate_layout}
 use Rattle.rows.specs.Rows.{row_letters, row_layout, relation_of, type_of, origin_of, insert_of, update_of, delete_of, truncate_of, row_of}
-use Rattle.rows.specs.Rows.{boundary_letter, is_boundary, said_of, row_said}
-use Rattle.rows.specs.Head.{Head, head_of, Answer, head, none as no_answer, refusal, answer_of, head_told}
+use Rattle.rows.specs.Rows.{boundary_letter, said_of, row_said}
+use Rattle.rows.specs.Head.{Head, head_of, Answer, none as no_answer, refusal, answer_of, head_told}
 use Rattle.rows.proofs.Heads.{head_told_lem}
 use Rattle.rows.proofs.Steps.{letter_got, letter_cut, choose_here, choose_next, choose_none}
 

@@ -8,7 +8,7 @@ use lib.ListN.{length, take, drop, replicate}
 use lib.Seq.{take_all}
 use lib.Pow.{are_bytes}
 use borrow.Author.Tests.{lt-ltb}
-use Rattle.wire.specs.Bytes.{at, be, be_from}
+use Rattle.wire.specs.Bytes.{be, be_from}
 use Rattle.wire.specs.Int.{half}
 use Rattle.wire.proofs.FieldLaws.{first_byte, part_bytes, halves}
 

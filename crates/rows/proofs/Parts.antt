@@ -1,5 +1,5 @@
 -- The parts that answers name hold what was read.
-use mathlib.Core.Path.{◌≡◌, refl, sym, ap, ◌∙◌}
+use mathlib.Core.Path.{◌≡◌, sym, ap, ◌∙◌}
 use mathlib.Core.Bool.{true}
 use mathlib.Core.List.{List, [], ◌∷◌, ◌++◌, append_assoc}
 use Prim.Native.Char.{code}
@@ -12,7 +12,7 @@ use lib.Seq.{drop-drop, drop-append_seam, take-append_seam}
 use Rattle.wire.specs.Bytes.{at, be_bytes}
 use Rattle.wire.specs.Int.{int_bytes}
 use Rattle.wire.proofs.Laws.{length_be_bytes}
-use Rattle.rows.specs.Layout.{got, read_at, Stands, all_bytes}
+use Rattle.rows.specs.Layout.{got, read_at, all_bytes}
 use Rattle.rows.specs.Rows.{Cell, text, binary, Described, described, relation, type, origin, cell_bytes, described_bytes, row_bytes, column_layout}
 use Rattle.rows.specs.Rows.{described_layout, cell_of, described_of, row, row_said}
 use Rattle.rows.specs.Head.{column_at, description_at}

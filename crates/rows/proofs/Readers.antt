@@ -1,21 +1,16 @@
 -- What the readers answer: from the places that a head names, the row's values one after the other; anywhere, a place further on.
-use mathlib.Core.Path.{◌≡◌, refl, sym, ap, ◌∙◌}
-use mathlib.Core.Bool.{Bool, true}
+use mathlib.Core.Path.{◌≡◌, refl, ap, ◌∙◌}
 use mathlib.Core.List.{List, [], ◌∷◌, ◌++◌, append_assoc}
-use mathlib.Core.Logic.{inl, inr}
-use mathlib.Core.Option.{some, none}
 use Prim.Native.Char.{code}
-use Prim.Native.Nat.{ℕ, zero, suc, ◌+◌, ◌-◌, ◌<◌, ◌≤◌, ◌^◌}
+use Prim.Native.Nat.{ℕ, ◌+◌, ◌<◌, ◌≤◌, ◌^◌}
 use native.Mathlib.Omega.{arith}
-use lib.ListN.{length, drop, length-append, length-drop}
+use lib.ListN.{length, drop, length-append}
 use lib.Seq.{drop-append_seam}
-use lib.Pow.{are_bytes}
 use Rattle.wire.specs.Bytes.{be_bytes}
 use Rattle.wire.proofs.Laws.{length_be_bytes}
-use Rattle.rows.specs.Layout.{number, Value, Read, got, mapped, read_at, all_bytes, bytes_of, All, Fits, Stands}
-use Rattle.rows.specs.Rows.{Cell, null, unchanged, text, binary, Described, described, Row, relation, type, origin, insert, update, update_from}
+use Rattle.rows.specs.Layout.{number, Read, got, all_bytes, bytes_of, All, Fits, Stands}
+use Rattle.rows.specs.Rows.{Cell, Described, Row, relation, type, origin, insert, update, update_from}
 use Rattle.rows.specs.Rows.{delete, truncate, cell_bytes, tuple_bytes, described_bytes, row_bytes, which_letter, column_layout, described_layout}
-use Rattle.rows.specs.Rows.{cell_of, described_of, row, row_said}
 use Rattle.rows.specs.Head.{column_at, description_at, identifier_at}
 use Rattle.rows.specs.RowLayout.{CellFits, DescribedFits, RowFits, InTurn, ColumnsFrom, ReadersOf, ReadersAnswer}
 use Rattle.rows.proofs.BothWays.{written_is_read}

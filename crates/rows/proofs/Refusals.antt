@@ -4,7 +4,7 @@ use mathlib.Core.Bool.{Bool, true, false}
 use mathlib.Core.List.{List, [], ◌∷◌, ◌++◌, append_assoc}
 use mathlib.Core.Logic.{◌⊎◌, inl, inr}
 use mathlib.Core.Option.{Option, some, none}
-use Prim.Native.Nat.{ℕ, zero, suc, ◌+◌, ◌-◌, ◌<◌, ◌≤◌, min}
+use Prim.Native.Nat.{ℕ, zero, suc, ◌+◌, ◌-◌, ◌≤◌}
 use native.Mathlib.Omega.{arith}
 use lib.ListN.{length, take, drop, length-append, length-take, length-drop}
 use lib.Seq.{take-append-le, drop-append-le}
@@ -18,9 +18,9 @@ use Rattle.wire.specs.Int.{half, is_negative}
 use Rattle.wire.proofs.FieldLaws.{field_within}
 use Rattle.wire.proofs.FindLaws.{found_at, found_below, zero_at}
 use Rattle.wire.proofs.Laws.{by_test, impossible}
-use Rattle.rows.specs.Layout.{Layout, Letters, number, integer, name, value, many, both, nothing, letter, no_other, or, Value, Choice, Read}
-use Rattle.rows.specs.Layout.{got, refused, cut, wrong, after, mapped, number_by, name_by, count_at, bytes_at, times_at, read_at, choose_at}
-use Rattle.rows.specs.Rows.{Row, row_layout, row_of, Said, row, no_row, refused_by, boundary_letter, is_boundary, said_of, row_said}
+use Rattle.rows.specs.Layout.{Layout, Letters, number, integer, name, value, many, both, nothing, letter, no_other, or, Value, Read}
+use Rattle.rows.specs.Layout.{got, refused, cut, after, mapped, number_by, name_by, count_at, bytes_at, times_at, read_at, choose_at}
+use Rattle.rows.specs.Rows.{row_layout, row_of, no_row, refused_by, is_boundary, said_of, row_said}
 use Rattle.rows.specs.Refusals.{RefusalsAreTwo, WrongLetterCounts}
 
 -- ---- the two refusals

@@ -1,24 +1,22 @@
 -- Rows and their bytes, both ways, by the law of layouts.
-use mathlib.Core.Path.{◌≡◌, refl, sym, ap, ◌∙◌}
+use mathlib.Core.Path.{◌≡◌, refl, ap, ◌∙◌}
 use mathlib.Core.Bool.{Bool, true, false}
-use mathlib.Core.List.{List, [], ◌∷◌, ◌++◌, map, append_assoc}
-use mathlib.Core.Logic.{◌⊎◌, inl, inr}
+use mathlib.Core.List.{List, [], ◌∷◌, ◌++◌, map}
+use mathlib.Core.Logic.{inl, inr}
 use Prim.Native.Char.{code}
-use Prim.Native.Nat.{ℕ, ◌+◌, ◌<◌, ◌≤◌, ◌^◌}
+use Prim.Native.Nat.{ℕ}
 use native.Mathlib.Omega.{arith}
-use lib.ListN.{length, drop, length-append, length-map}
+use lib.ListN.{length, drop, length-map}
 use lib.Seq.{drop-append_seam}
-use lib.Pow.{are_bytes}
 use Rattle.wire.specs.Bytes.{pick, be_bytes}
 use Rattle.wire.proofs.Laws.{impossible}
-use Rattle.rows.specs.Layout.{Layout, Letters, number, integer, name, value, many, both, nothing, letter, no_other, or, Value, Read, got}
-use Rattle.rows.specs.Layout.{refused, read_at, all_bytes, bytes_of, All, Fits, Proper, Stands}
+use Rattle.rows.specs.Layout.{both, letter, no_other, or, Value, Read, got}
+use Rattle.rows.specs.Layout.{refused, read_at, bytes_of, All, Fits, Proper, Stands}
 use Rattle.rows.specs.Rows.{Cell, null, unchanged, text, binary, Described, described, Row, relation, type, origin, insert, update, update_from}
 use Rattle.rows.specs.Rows.{delete, truncate, cell_bytes, tuple_bytes, described_bytes, row_bytes, column_layout, tuple_layout, described_layout}
-use Rattle.rows.specs.Rows.{new_layout, update_layout, delete_layout, row_layout, cell_of, cells_of, described_of, new_of, row_of, Said, row, no_row}
-use Rattle.rows.specs.Rows.{refused_by, is_boundary, said_of, row_said}
+use Rattle.rows.specs.Rows.{new_layout, row_layout, cell_of, cells_of, described_of, new_of, row_of, Said, row, no_row}
+use Rattle.rows.specs.Rows.{is_boundary, said_of, row_said}
 use Rattle.rows.specs.RowLayout.{CellFits, TupleFits, DescribedFits, RowFits, SentIsRead, ReadIsSent}
-use Rattle.rows.specs.declared.Which.{Which}
 use Rattle.rows.specs.declared.Which.TheVariants.{Key, Old}
 use Rattle.rows.proofs.BothWays.{written_is_read, read_is_written}
 use Rattle.rows.proofs.Ends.{cell_bytes_lem, all_map}

@@ -1,12 +1,12 @@
 -- How a layout is read field by field: after each field that was read the next one is, and the first bad one ends the reading.
 use mathlib.Core.Path.{◌≡◌, refl, sym, ap, ◌∙◌}
-use mathlib.Core.List.{List, [], ◌∷◌}
+use mathlib.Core.List.{List, ◌∷◌}
 use mathlib.Core.Logic.{inl, inr}
-use mathlib.Core.Option.{Option, some, none}
+use mathlib.Core.Option.{some, none}
 use Prim.Native.Nat.{ℕ, suc, ◌+◌, ◌-◌, ◌<◌, ◌≤◌, min}
 use native.Mathlib.Omega.{arith}
 use lib.ListN.{length, drop, length-take, length-drop}
-use lib.Dec.{eqb, ltb}
+use lib.Dec.{ltb}
 use lib.IntN.{ℤ}
 use borrow.Author.Tests.{le-leb, lt-leb, le-ltb, lt-ltb, ltb-true, ltb-false, eq-eqb, ne_eqb}
 use Rattle.wire.specs.Bytes.{at}
@@ -16,8 +16,8 @@ use Rattle.wire.proofs.FindLaws.{found_below}
 use Rattle.wire.proofs.Laws.{by_test, impossible}
 use Rattle.wire.specs.Int.{half, int_at}
 use Rattle.rows.proofs.Places.{name_there, told_got}
-use Rattle.rows.specs.Layout.{Layout, Letters, number, integer, name, value, many, both, nothing, letter, no_other, or, Value, Choice, Read}
-use Rattle.rows.specs.Layout.{got, refused, cut, wrong, after, mapped, number_by, count_at, bytes_at, times_at, read_at, choose_at}
+use Rattle.rows.specs.Layout.{Layout, Letters, number, integer, name, value, many, both, nothing, letter, no_other, or, Value, Read}
+use Rattle.rows.specs.Layout.{got, refused, cut, wrong, mapped, count_at, bytes_at, times_at, read_at, choose_at}
 
 left_short : (a k : ℕ) → k < half 4 → min a 2147483647 < k → a < k
 left_short a k h l = omega (arith, h, l)

@@ -1,14 +1,12 @@
 -- What was read ends in the data, and each reader goes on.
 use mathlib.Core.Path.{◌≡◌, refl, sym, ap, ◌∙◌}
-use mathlib.Core.Bool.{Bool, true, false}
 use mathlib.Core.List.{List, [], ◌∷◌, ◌++◌}
-use mathlib.Core.Logic.{◌⊎◌, inl, inr}
+use mathlib.Core.Logic.{inl, inr}
 use mathlib.Core.Option.{Option, some, none}
 use Prim.Native.Nat.{ℕ, zero, suc, ◌+◌, ◌-◌, ◌<◌, ◌≤◌}
 use native.Mathlib.Omega.{arith}
 use lib.ListN.{length, drop, length-append, length-drop}
 use lib.Dec.{eqb, ltb}
-use lib.IntN.{ℤ}
 use borrow.Author.Tests.{ltb-false}
 use Rattle.wire.specs.Bytes.{at, be_bytes}
 use Rattle.wire.specs.Field.{field_at}
@@ -18,8 +16,8 @@ use Rattle.wire.proofs.Laws.{by_test, impossible, length_be_bytes}
 use Rattle.wire.proofs.FieldLaws.{field_within, int_within}
 use Rattle.wire.proofs.FindLaws.{found_below}
 use Rattle.rows.specs.Layout.{Layout, Letters, number, integer, name, value, many, both, nothing, letter, no_other, or, Value, Choice, Read}
-use Rattle.rows.specs.Layout.{got, mapped, after, number_by, name_by, count_at, bytes_at, times_at, read_at, choose_at, bytes_of}
-use Rattle.rows.specs.Rows.{Cell, Described, described, cell_bytes, described_bytes, column_letters, column_layout, described_layout, cell_of}
+use Rattle.rows.specs.Layout.{got, mapped, number_by, name_by, count_at, bytes_at, times_at, read_at, choose_at, bytes_of}
+use Rattle.rows.specs.Rows.{Cell, Described, cell_bytes, described_bytes, column_letters, column_layout, described_layout, cell_of}
 use Rattle.rows.specs.Rows.{described_of}
 use Rattle.rows.specs.Head.{column_at, description_at, identifier_at}
 use Rattle.rows.specs.RowLayout.{ReaderLaws}

@@ -1,11 +1,10 @@
 -- What the answers say. Data are answered by a row's head: its numbers, where its names stand, how many columns, descriptions or identifiers it has
 -- and where the first of them stands. Each of these is then read at its place, and the answer has the place of the next.
-use Rattle.std.specs.Prelude.{List, true, false, ℕ, ◌+◌, length, ℤ}
+use Rattle.std.specs.Prelude.{List, ℕ, ◌+◌, length, ℤ}
 use Rattle.error.specs.Refusal.{protocol}
-use Rattle.rows.specs.Layout.{Layout, number, integer, both, Value, Read, got, refused, cut, mapped, read_at, all_bytes}
+use Rattle.rows.specs.Layout.{Layout, number, integer, both, Read, got, refused, cut, mapped, read_at, all_bytes}
 use Rattle.rows.specs.Rows.{Cell, null, unchanged, text, binary, Described, described, Row, relation, type, origin, insert, update, update_from}
 use Rattle.rows.specs.Rows.{delete, truncate, cell_bytes, column_layout, described_layout, cell_of, described_of, Said, row, no_row, refused_by}
-use Rattle.rows.specs.Rows.{row_said}
 use Rattle.rows.specs.declared.Refusal.{Refusal}
 use Rattle.rows.specs.declared.Refusal.TheVariants.{FieldCut, UnknownLetter}
 use Rattle.rows.specs.declared.Which.{Which}

@@ -4,7 +4,7 @@ use Rattle.std.specs.Prelude.{◌≡◌, true, List, [], ◌∷◌, ◌++◌, �
 use Rattle.std.proofs.Math.Pow.{are_bytes}
 use Rattle.wire.specs.Bytes.{be_bytes}
 use Rattle.rows.specs.Layout.{got, refused}
-use Rattle.rows.specs.Rows.{Cell, Described, Row, cell_bytes, described_bytes, row_bytes, row, no_row, refused_by, row_said}
+use Rattle.rows.specs.Rows.{cell_bytes, described_bytes, row_bytes, row, no_row, refused_by, row_said}
 use Rattle.rows.specs.RowLayout.{CellFits, DescribedFits, RowFits}
 use Rattle.rows.specs.Head.{column_at, description_at, identifier_at}
 

@@ -1,10 +1,10 @@
 -- What data say, byte by byte: the smallest data of each refusal, and of each message what is read. SCOPE 3.13.
-use Rattle.std.specs.Prelude.{◌≡◌, List, [], ◌∷◌, ◌++◌, ℕ, negsuc}
+use Rattle.std.specs.Prelude.{◌≡◌, List, [], ◌∷◌, ℕ, negsuc}
 use Prim.Native.Char.{code}
 use Rattle.rows.specs.Layout.{got, refused}
 use Rattle.rows.specs.Rows.{null, unchanged, text, binary, described, relation, type, origin, insert, update, update_from, delete, truncate}
 use Rattle.rows.specs.Rows.{row, no_row, refused_by, row_said}
-use Rattle.rows.specs.Head.{head, relation_head, update_from_head, truncate_head, answer_of, column_at, identifier_at}
+use Rattle.rows.specs.Head.{head, update_from_head, answer_of, column_at, identifier_at}
 use Rattle.rows.specs.declared.Which.TheVariants.{Key, Old}
 
 -- an Insert, an Update, a Delete of relation 1 up to its tuple's letter

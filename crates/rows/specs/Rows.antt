@@ -3,7 +3,6 @@
 -- Each stands here twice: as the bytes that are sent, and as a layout that is read. That the two agree is proved.
 use Rattle.std.specs.Prelude.{Bool, true, false, List, [], ◌∷◌, ◌++◌, map, ℕ, length, ℤ, eqb}
 use Rattle.std.proofs.Common.{inl, inr}
-use Rattle.std.proofs.Math.Option.{Option, some, none}
 use Prim.Native.Char.{code}
 use Rattle.wire.specs.Bytes.{pick, be_bytes}
 use Rattle.wire.specs.Int.{int_bytes}

@@ -1,13 +1,6 @@
 -- The messages written and those to come are the whole stream.
-use Prim.Native.Nat.{ℕ, ◌+◌, ◌-◌, ◌≤◌}
-use mathlib.Core.Path.{◌≡◌, refl}
-use native.Mathlib.Omega.{arith}
-use lib.ListN.{length}
-use borrow.Author.Rules.{rules}
-use Rattle.wire.proofs.Pieces.{Filling, filling_start, filling_next, filling_end, filling_room}
-use Rattle.wire.proofs.Laws.{placed_fits}
-use Rattle.load.specs.Load.{stream_of, made_of, bytes_of}
-use Rattle.load.proofs.Laws.{stream_some, stream_none}
+use Rattle.wire.proofs.Pieces.{Filling}
+use Rattle.load.specs.Load.{stream_of}
 use Rattle.load.proofs.fill.Given as goal
 
 abbrev pub invariant-loop-left : goal.invariant-loop-left

@@ -1,13 +1,8 @@
 -- What was measured and what is to come is the whole stream.
-use Prim.Native.Nat.{ℕ, suc, ◌+◌, ◌-◌, ◌≤◌, ◌<◌}
-use mathlib.Core.Path.{◌≡◌, refl, sym, ap, ◌∙◌}
-use native.Mathlib.Omega.{arith}
-use lib.ListN.{length, length-append}
-use borrow.Author.Rules.{rules}
-use borrow.Author.Tests.{le-leb, lt-leb}
-use Rattle.error.specs.Writer.{counted}
-use Rattle.load.specs.Load.{stream_of, made_of, bytes_of, messages_of, all_bytes}
-use Rattle.load.proofs.Laws.{stream_left, stream_none}
+use Prim.Native.Nat.{◌+◌, ◌≤◌}
+use mathlib.Core.Path.{◌≡◌}
+use lib.ListN.{length}
+use Rattle.load.specs.Load.{stream_of}
 use Rattle.load.proofs.measure.Given as goal
 
 abbrev pub invariant-loop-left : goal.invariant-loop-left

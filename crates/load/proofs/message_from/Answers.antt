@@ -1,7 +1,6 @@
 -- One draw after the other; which message they are by the first.
 use mathlib.Core.Path.{◌∙◌}
 use Rattle.load.proofs.Laws.{keep_alive_made, other_made, begin_made, commit_made}
-use borrow.Author.Rules.{rules}
 use Rattle.load.proofs.message_from.Goals as goal
 
 pub returns-then-kind-eq0 : goal.returns-then-kind-eq0

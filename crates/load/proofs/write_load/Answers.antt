@@ -1,12 +1,8 @@
 -- The seed is tested, the stream is measured, and where it has room it is filled in.
-use Prim.Native.Nat.{◌≤◌}
-use mathlib.Core.Path.{◌∙◌}
 use native.Mathlib.Omega.{arith}
-use lib.ListN.{length}
 use borrow.Author.Tests.{eq-eqb, ne_eqb}
-use borrow.Author.Rules.{rules}
 use Rattle.error.proofs.Laws.{no_room, wrote, counted_fits, counted_over}
-use Rattle.load.specs.Load.{loading, stream_of}
+use Rattle.load.specs.Load.{loading}
 use Rattle.load.proofs.write_load.Goals as goal
 
 pub returns-then-seed-eq0 : goal.returns-then-seed-eq0

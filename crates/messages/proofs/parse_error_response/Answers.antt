@@ -1,5 +1,4 @@
 -- The text of the fields that are read.
-use borrow.Author.Rules.{rules}
 use Rattle.messages.proofs.parse_error_response.Goals as goal
 
 pub returns : goal.returns

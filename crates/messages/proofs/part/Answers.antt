@@ -4,7 +4,6 @@ use Prim.Native.Nat.{◌≤◌, ◌+◌, ◌-◌}
 use native.Mathlib.Omega.{arith}
 use lib.ListN.{drop_of_length-le, length, drop, length-drop}
 use lib.Seq.{take-nil, take_all}
-use borrow.Author.Rules.{rules}
 use Rattle.wire.proofs.Laws.{tail_whole}
 use Rattle.messages.proofs.part.Goals as goal
 

@@ -4,7 +4,6 @@ use mathlib.Core.List.{List}
 use Prim.Native.Nat.{ℕ, ◌≤◌, ◌+◌}
 use native.Mathlib.Omega.{arith}
 use lib.ListN.{length}
-use borrow.Author.Rules.{rules}
 use Rattle.wire.specs.Bytes.{placed}
 use Rattle.wire.proofs.Pieces.{filling_start, filling_next, filling_last}
 use Rattle.error.specs.Writer.{writing}

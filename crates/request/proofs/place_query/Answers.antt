@@ -9,7 +9,6 @@ use Rattle.frontend.specs.Frontend.{query}
 use Rattle.lsn.specs.Position.{display_of}
 use Rattle.request.specs.Request.{start_replication, slot_part, position_part, names_part}
 use Rattle.request.proofs.Laws.{length_placed, length_request, pieces}
-use borrow.Author.Rules.{rules}
 use Rattle.request.proofs.place_query.Goals as goal
 
 pub overflow_sub-n : goal.overflow_sub-n
@@ -19,25 +18,17 @@ overflow_sub-n c =
 
 pub returns : goal.returns
 returns c =
-    let names-front = c.before.before.before.before in
-    let position = names-front.before.before.before.before.before in
-    let position-front = position.before.before.before.before in
-    let slot = position-front.before.before.before.before.before in
-    let slot-front = slot.before.before.before.before in
-    let length-field = slot-front.before.before.before.before.before in
-    let letter = length-field.before.before.before.before in
-    let start = letter.before.before.before.before in
-    let a = start.args in
+    let a = c.args in
     let h : 0 + length (query (start_replication a.binary a.slot.now a.publications.now a.position)) ≤ length a.out.now =
-    omega (arith, start.requires.0, start.requires.1) in
-    let f₀ = filling_start (pieces a.binary a.slot.now a.publications.now a.position a.n start.requires.0) in
-    let f₁ = filling_next h (be_bytes 1 81) f₀ letter.write-u8.ensures in
-    let f₂ = filling_next h (be_bytes 4 (a.n - 1)) f₁ length-field.write-be.ensures in
-    let f₃ = filling_next h slot_part f₂ slot-front.place.ensures in
-    let f₄ = filling_next h a.slot.now f₃ slot.place2.ensures in
-    let f₅ = filling_next h position_part f₄ position-front.place3.ensures in
-    let f₆ = filling_next h (display_of a.position.0) f₅ position.place4.ensures in
-    let f₇ = filling_next h names_part f₆ names-front.place5.ensures in
+    omega (arith, c.requires.0, c.requires.1) in
+    let f₀ = filling_start (pieces a.binary a.slot.now a.publications.now a.position a.n c.requires.0) in
+    let f₁ = filling_next h (be_bytes 1 81) f₀ c.write_u8-a.ensures in
+    let f₂ = filling_next h (be_bytes 4 (a.n - 1)) f₁ c.write_be-b.ensures in
+    let f₃ = filling_next h slot_part f₂ c.place-c.ensures in
+    let f₄ = filling_next h a.slot.now f₃ c.place-d.ensures in
+    let f₅ = filling_next h position_part f₄ c.place-e.ensures in
+    let f₆ = filling_next h (display_of a.position.0) f₅ c.place-f.ensures in
+    let f₇ = filling_next h names_part f₆ c.place-g.ensures in
     let f₈ = filling_next h (option_value a.publications.now) f₇ c.place-h.ensures in
     filling_last h f₈ c.place_end.ensures
 

@@ -1,6 +1,6 @@
 -- 25, then 4, then the query. Three ways out need that the inputs are short enough, which two tests say together; and the sum that the code
 -- makes is the query's length.
-use mathlib.Core.Path.{◌≡◌, sym, ◌∙◌}
+use mathlib.Core.Path.{◌≡◌, sym}
 use Prim.Native.Nat.{◌+◌, ◌≤◌}
 use native.Mathlib.Omega.{arith}
 use lib.ListN.{length}
@@ -10,20 +10,9 @@ use Rattle.error.proofs.Laws.{too_long, no_room, wrote_placed, counted_fits, cou
 use Rattle.frontend.specs.Frontend.{query}
 use Rattle.request.specs.Request.{start_replication}
 use Rattle.request.proofs.Laws.{length_end, length_position, length_request}
-use borrow.Author.Rules.{rules}
 use Rattle.request.proofs.start_replication.Goals as goal
-use Rattle.request.proofs.start_replication.Lts as places
-use Rattle.request.proofs.start_replication.Reads.{Pre, Post}
 
-abbrev start : (places.After-enum_told Pre Post) → places.Start Pre Post
-start c = c.before.before.before.before.before.before
-
--- the inputs together are within 25's bound
-inputs_fit : (c : places.After-enum_told Pre Post) → length (start c).args.slot.now + total (start c).args.publications.now ≤ input_limit
-inputs_fit c =
-    let t = counted_fits _ _ _ c.inputs_len.ensures c.in-Fits.is in
-    omega (arith, c.if-slot-gt-INPUT_LIMIT.false)
-
+-- `i` is that the inputs together are within 25's bound, `s` that the sum is the query's length
 pub returns-then-slot-gt-INPUT_LIMIT : goal.returns-then-slot-gt-INPUT_LIMIT
 returns-then-slot-gt-INPUT_LIMIT c = too_long _ _ _ (omega arith)
 
@@ -34,26 +23,30 @@ returns-in_default c =
 
 pub returns-in_default-count : goal.returns-in_default-count
 returns-in_default-count c =
-    let fits = c.before.before.before in
-    let a = (start fits).args in
+    let a = c.args in
+    let i : length a.slot.now + total a.publications.now ≤ input_limit =
+    let t = counted_fits _ _ _ c.inputs_len.ensures c.in-Fits.is in omega (arith, c.if-slot-gt-INPUT_LIMIT.false)
+    in
     let f = counted_over _ _ c.count.ensures c.in_default-count.is in
     let l = length_request a.binary a.slot.now a.publications.now a.position in
-    no_room _ _ _ (inputs_fit fits) (omega arith)
+    no_room _ _ _ i (omega arith)
 
 pub request_len-n-requires : goal.request_len-n-requires
 request_len-n-requires c =
-    let fits = c.before.before.before in
-    let a = (start fits).args in
+    let a = c.args in
+    let i : length a.slot.now + total a.publications.now ≤ input_limit =
+    let t = counted_fits _ _ _ c.inputs_len.ensures c.in-Fits.is in omega (arith, c.if-slot-gt-INPUT_LIMIT.false)
+    in
     let f = counted_fits _ _ _ c.count.ensures c.in-Fits-count.is in
-    omega (arith, length_position a.position.0, length_end a.binary, inputs_fit fits, c.end_len.ensures, c.text_len.ensures, (start fits).well_formed)
+    omega (arith, length_position a.position.0, length_end a.binary, i, c.end_len.ensures, c.text_len.ensures, c.well_formed)
 
--- the sum is the query's length
-sum_is : (c : places.After-request_len Pre Post)
-    → let a = (start c.before.before.before.before.before.before.before).args in
-    length (query (start_replication a.binary a.slot.now a.publications.now a.position))
-    ≡ c.request_len-n.result
-sum_is c =
-    let a = (start c.before.before.before).args in
+pub returns-then-out-n : goal.returns-then-out-n
+returns-then-out-n c =
+    let a = c.args in
+    let i : length a.slot.now + total a.publications.now ≤ input_limit =
+    let t = counted_fits _ _ _ c.inputs_len.ensures c.in-Fits.is in omega (arith, c.if-slot-gt-INPUT_LIMIT.false)
+    in
+    let s : length (query (start_replication a.binary a.slot.now a.publications.now a.position)) ≡ c.request_len-n.result =
     let f = counted_fits _ _ _ c.count.ensures c.in-Fits-count.is in
     omega (
       arith,
@@ -62,18 +55,38 @@ sum_is c =
       c.end_len.ensures,
       c.text_len.ensures,
     )
-
-pub returns-then-out-n : goal.returns-then-out-n
-returns-then-out-n c =
-    let before-inputs = c.before.before.before.before.before.before.before.before in
-    no_room _ _ _ (inputs_fit before-inputs) (omega (arith, c.if-out-n.true, sum_is c.before))
+    in
+    no_room _ _ _ i (omega (arith, c.if-out-n.true, s))
 
 pub place_query-requires : goal.place_query-requires
-place_query-requires c = (sym (sum_is c.before.before), omega (arith, c.if-out-n.false))
+place_query-requires c =
+    let a = c.args in
+    let s : length (query (start_replication a.binary a.slot.now a.publications.now a.position)) ≡ c.request_len-n.result =
+    let f = counted_fits _ _ _ c.count.ensures c.in-Fits-count.is in
+    omega (
+      arith,
+      length_request a.binary a.slot.now a.publications.now a.position,
+      c.request_len-n.ensures,
+      c.end_len.ensures,
+      c.text_len.ensures,
+    )
+    in
+    (sym s, omega (arith, c.if-out-n.false))
 
 pub returns : goal.returns
 returns c =
-    let sum = c.before.before.before.before.before in
-    let before-inputs = sum.before.before.before.before.before.before.before in
-    wrote_placed _ _ _ (inputs_fit before-inputs) (sum_is sum)
-    (omega (arith, c.if-out-n.false)) c.place_query.ensures
+    let a = c.args in
+    let i : length a.slot.now + total a.publications.now ≤ input_limit =
+    let t = counted_fits _ _ _ c.inputs_len.ensures c.in-Fits.is in omega (arith, c.if-slot-gt-INPUT_LIMIT.false)
+    in
+    let s : length (query (start_replication a.binary a.slot.now a.publications.now a.position)) ≡ c.request_len-n.result =
+    let f = counted_fits _ _ _ c.count.ensures c.in-Fits-count.is in
+    omega (
+      arith,
+      length_request a.binary a.slot.now a.publications.now a.position,
+      c.request_len-n.ensures,
+      c.end_len.ensures,
+      c.text_len.ensures,
+    )
+    in
+    wrote_placed _ _ _ i s (omega (arith, c.if-out-n.false)) c.place_query.ensures

@@ -1,6 +1,5 @@
 -- One of the three letters.
 use borrow.Author.Tests.{eq-eqb, ne_eqb}
-use borrow.Author.Rules.{rules}
 use Rattle.rows.proofs.is_boundary.Goals as goal
 
 pub returns-then-letter-eq66 : goal.returns-then-letter-eq66

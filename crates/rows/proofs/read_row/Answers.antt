@@ -2,7 +2,6 @@
 use mathlib.Core.Path.{sym, ◌∙◌}
 use Rattle.rows.proofs.Letters.{no_data, boundary, relation_row, type_row, origin_row, insert_row, update_row, delete_row, truncate_row}
 use Rattle.rows.proofs.Letters.{other_letter}
-use borrow.Author.Rules.{rules}
 use Rattle.rows.proofs.read_row.Goals as goal
 
 pub returns-then-bytes-eq0 : goal.returns-then-bytes-eq0

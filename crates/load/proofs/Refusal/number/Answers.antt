@@ -1,4 +1,3 @@
-use borrow.Author.Rules.{rules}
 use Rattle.load.proofs.Refusal.number.Goals as goal
 
 pub returns-in-Writer : goal.returns-in-Writer

@@ -1,19 +1,15 @@
 -- Header, the head of the XLogData, and the letters.
-use Prim.Native.Nat.{ℕ, ◌+◌, ◌≤◌, ◌<◌}
-use mathlib.Core.List.{List, ◌∷◌, ◌++◌}
+use Prim.Native.Nat.{ℕ, ◌+◌, ◌≤◌}
+use mathlib.Core.List.{◌∷◌}
 use mathlib.Core.Path.{sym}
 use mathlib.Core.List.{append-nil}
 use native.Mathlib.Omega.{arith}
 use lib.ListN.{length, replicate}
-use lib.IntN.{pos}
-use borrow.Author.Rules.{rules}
-use Rattle.wire.proofs.Pieces.{Filling, filling_start, filling_next, filling_last, filling_room}
-use Rattle.replication.specs.CopyData.{keep_alive}
-use Rattle.pgoutput.specs.Boundary.{begin_bytes, commit_bytes}
-use Rattle.load.specs.Load.{bit, bytes_of}
+use Rattle.wire.proofs.Pieces.{filling_start, filling_next, filling_last, filling_room}
+use Rattle.load.specs.Load.{bytes_of}
 use Rattle.load.specs.Code.{header, xlog_head}
-use Rattle.load.specs.declared.Message.TheVariants.{KeepAlive, Begin, Data, Commit}
-use Rattle.load.proofs.Laws.{data_whole, len_data, length_header, length_xlog, length_letters}
+use Rattle.load.specs.declared.Message.TheVariants.{Data}
+use Rattle.load.proofs.Laws.{data_whole, len_data, length_xlog, length_letters}
 use Rattle.load.proofs.place.data_message.Goals as goal
 
 pub place_xlog_head-b-requires : goal.place_xlog_head-b-requires

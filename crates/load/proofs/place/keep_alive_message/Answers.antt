@@ -1,19 +1,16 @@
 -- Header and keepalive.
-use Prim.Native.Nat.{ℕ, ◌+◌, ◌≤◌, ◌<◌}
-use mathlib.Core.List.{List, ◌∷◌, ◌++◌}
+use Prim.Native.Nat.{◌+◌, ◌≤◌}
 use mathlib.Core.Path.{sym}
 use mathlib.Core.List.{append-nil}
 use native.Mathlib.Omega.{arith}
-use lib.ListN.{length, replicate}
+use lib.ListN.{length}
 use lib.IntN.{pos}
-use borrow.Author.Rules.{rules}
-use Rattle.wire.proofs.Pieces.{Filling, filling_start, filling_next, filling_last, filling_room}
+use Rattle.wire.proofs.Pieces.{filling_start, filling_next, filling_last, filling_room}
 use Rattle.replication.specs.CopyData.{keep_alive}
-use Rattle.pgoutput.specs.Boundary.{begin_bytes, commit_bytes}
 use Rattle.load.specs.Load.{bit, bytes_of}
-use Rattle.load.specs.Code.{header, xlog_head}
-use Rattle.load.specs.declared.Message.TheVariants.{KeepAlive, Begin, Data, Commit}
-use Rattle.load.proofs.Laws.{keep_alive_whole, len_keep_alive, length_header, length_xlog, length_keep_alive}
+use Rattle.load.specs.Code.{header}
+use Rattle.load.specs.declared.Message.TheVariants.{KeepAlive}
+use Rattle.load.proofs.Laws.{keep_alive_whole, len_keep_alive, length_keep_alive}
 use Rattle.load.proofs.place.keep_alive_message.Goals as goal
 
 pub place_keep_alive-requires : goal.place_keep_alive-requires

@@ -1,5 +1,4 @@
 -- By the message.
-use borrow.Author.Rules.{rules}
 use Rattle.load.proofs.Laws.{keep_alive_room, begin_room, data_room, commit_room}
 use Rattle.load.proofs.place.message.Goals as goal
 

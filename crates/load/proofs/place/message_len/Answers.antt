@@ -1,6 +1,5 @@
 -- By the message.
 use mathlib.Core.Path.{sym}
-use borrow.Author.Rules.{rules}
 use Rattle.load.proofs.Laws.{len_keep_alive, len_begin, len_data, len_commit}
 use Rattle.load.proofs.place.message_len.Goals as goal
 

@@ -1,15 +1,11 @@
 -- The letter, the end, the time and the reply, one after the other.
 use Prim.Native.Nat.{◌+◌, ◌≤◌}
-use mathlib.Core.List.{◌∷◌}
 use native.Mathlib.Omega.{arith}
-use lib.ListN.{length, replicate}
+use lib.ListN.{length}
 use lib.IntN.{pos}
-use borrow.Author.Rules.{rules}
 use Rattle.wire.proofs.Pieces.{filling_start, filling_next, filling_last}
 use Rattle.replication.specs.CopyData.{keep_alive}
-use Rattle.pgoutput.specs.Boundary.{begin_bytes, commit_bytes}
 use Rattle.load.specs.Load.{bit}
-use Rattle.load.specs.Code.{header, xlog_head}
 use Rattle.load.proofs.Laws.{keep_alive_pieces, length_keep_alive}
 use Rattle.load.proofs.place.place_keep_alive.Goals as goal
 

@@ -4,7 +4,6 @@ use mathlib.Core.List.{◌∷◌}
 use native.Mathlib.Omega.{arith}
 use mathlib.Core.Path.{sym, ap, ◌∙◌}
 use lib.ListN.{length, replicate, length-replicate}
-use borrow.Author.Rules.{rules}
 use Rattle.wire.proofs.Pieces.{filling_start, filling_next, filling_last}
 use Rattle.load.proofs.Laws.{letters_pieces, length_letters, take_letters}
 use Rattle.load.proofs.place.place_letters.Goals as goal

@@ -1,4 +1,3 @@
-use borrow.Author.Rules.{rules}
 use Rattle.load.proofs.words.event_words.Goals as goal
 
 pub returns-in-KeepAlive : goal.returns-in-KeepAlive

@@ -1,6 +1,5 @@
 -- The array has the indices below 15.
 use borrow.Author.Tests.{lt-ltb, le-ltb}
-use borrow.Author.Rules.{rules}
 use Rattle.messages.proofs.ErrorFields.field.Goals as goal
 
 pub returns-then-i-lt15 : goal.returns-then-i-lt15

@@ -1,19 +1,16 @@
 -- What is unread at the place, entered into the fields so far, gives the fields of the payload.
 use mathlib.Core.Option.{some, none}
-use mathlib.Core.Path.{◌≡◌, refl, sym, ◌∙◌}
-use Prim.Native.Nat.{◌<◌, ◌+◌, ◌-◌}
+use mathlib.Core.Path.{◌≡◌, refl}
+use Prim.Native.Nat.{ℕ, ◌<◌, ◌+◌, ◌-◌}
+use mathlib.Core.List.{List}
 use native.Mathlib.Omega.{arith}
-use lib.ListN.{length, drop, length-drop}
-use borrow.Author.Rules.{rules}
+use lib.ListN.{length, take, drop, length-drop}
 use Rattle.wire.specs.Find.{index_of, found_of}
 use Rattle.wire.proofs.FieldLaws.{told}
 use Rattle.wire.proofs.Laws.{tail_whole}
 use Rattle.wire.proofs.FindLaws.{found_below}
-use Rattle.messages.specs.Fields.{letters, fields_of}
-use Rattle.messages.proofs.Laws.{unread, after, after_start, unread_zero, unread_cut, unread_end, ended, turn}
+use Rattle.messages.proofs.Laws.{after_start, unread_zero, unread_cut, unread_end, ended, turn}
 use Rattle.messages.proofs.ErrorFields.parse.Goals as goal
-use Rattle.messages.proofs.ErrorFields.parse.Lts as places
-use Rattle.messages.proofs.ErrorFields.parse.Reads.{Pre, Post}
 
 pub loop-at-init : goal.loop-at-init
 loop-at-init c = (refl, rw c.absent-none.ensures (after_start c.args.payload.now))
@@ -30,34 +27,28 @@ returns-in_default c =
     ended s c.loop-at.r.fields c.loop-at.at c.loop-at.invariant.0 (unread_cut s c.loop-at.at (omega arith) c.if-letter-eq0.false e) c.loop-at.invariant.1
 
 -- the zero byte that ends the value stands in the payload
-zero_found : (c : (places.After-with Pre Post) invariant-loop decreases-loop) →
-    let l = c.before.before.before.before.before.before.before.before.before in
-    let s = l.before.before.before.args.payload.now in
-    let len = c.before.before.len.given.0.0 in
-    (index_of 0 (drop (l.loop.at + 1) s) ≡ some len) × (l.loop.at + 1 + len < length s)
-zero_found c =
-    let f = c.before.before.before.before in
-    let l = f.before.before.before.before.before in
-    let s = l.before.before.before.args.payload.now in
-    let len = c.before.before.len.given.0.0 in
-    let e : index_of 0 (drop (l.loop.at + 1) s) ≡ some len = rw (tail_whole s (l.loop.at + 1)) at (told found_of f.find-zero.ensures c.before.before.len.given.1) in
-    let h = found_below 0 (drop (l.loop.at + 1) s) len e in
-    let k = length-drop (l.loop.at + 1) s in
+zero_found : (s : List ℕ) (i len : ℕ) → i < length s → index_of 0 (take (length s - (i + 1)) (drop (i + 1) s)) ≡ some len
+    → (index_of 0 (drop (i + 1) s) ≡ some len) × (i + 1 + len < length s)
+zero_found s i len h t =
+    let e : index_of 0 (drop (i + 1) s) ≡ some len = rw (tail_whole s (i + 1)) at t in
+    let b = found_below 0 (drop (i + 1) s) len e in
+    let k = length-drop (i + 1) s in
     (e, omega arith)
 
 pub overflow_add-at : goal.overflow_add-at
-overflow_add-at c = omega (arith, (zero_found c).1)
+overflow_add-at c = let z = zero_found c.args.payload.now c.loop-at.at c.in-At.len (omega arith) (told found_of c.find_zero.ensures c.in-At.is) in omega (arith, z.1)
 
 pub overflow_add-at-in-loop-at : goal.overflow_add-at-in-loop-at
-overflow_add-at-in-loop-at c = omega (arith, (zero_found c).1)
+overflow_add-at-in-loop-at c = let z = zero_found c.args.payload.now c.loop-at.at c.in-At.len (omega arith) (told found_of c.find_zero.ensures c.in-At.is) in omega (arith, z.1)
 
 pub loop-at-smaller : goal.loop-at-smaller
-loop-at-smaller c = omega (arith, (zero_found c).1)
+loop-at-smaller c = let z = zero_found c.args.payload.now c.loop-at.at c.in-At.len (omega arith) (told found_of c.find_zero.ensures c.in-At.is) in omega (arith, z.1)
 
 pub loop-at-preserved : goal.loop-at-preserved
 loop-at-preserved c =
     let s = c.args.payload.now in
-    turn s c.loop-at.r.fields c.with-r.result.fields c.loop-at.at c.in-At.len (omega arith) c.if-letter-eq0.false (zero_found c).0 c.loop-at.invariant.0 c.loop-at.invariant.1 c.with-r.ensures
+    let z = zero_found c.args.payload.now c.loop-at.at c.in-At.len (omega arith) (told found_of c.find_zero.ensures c.in-At.is) in
+    turn s c.loop-at.r.fields c.with-r.result.fields c.loop-at.at c.in-At.len (omega arith) c.if-letter-eq0.false z.0 c.loop-at.invariant.0 c.loop-at.invariant.1 c.with-r.ensures
 
 pub returns : goal.returns
 returns c =

@@ -17,7 +17,7 @@ loop-k-init c =
 
 pub loop-k-preserved : goal.loop-k-preserved
 loop-k-preserved c =
-    let a = l.before.before.args in
+    let a = c.args in
     let ew = c.word_at-word.ensures in
     let ex : c.len_of-at.result ≡ len_of c.word_at-word.result = c.len_of-at.ensures in
     let ey = c.placed_word-moved.ensures in

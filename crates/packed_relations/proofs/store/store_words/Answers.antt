@@ -50,8 +50,8 @@ loop-k-preserved c =
     let g = given a.bytes.now a.n c.loop-k.k c.loop-k.at _ _ _ _ _ (rw c.in-Of.is at c.description_at-d.ensures) in
     let e = described_next a.bytes.now a.n c.loop-k.k c.loop-k.at (omega arith) _ _ g.read in
     let w = name_short _ g.name _ _ _ (rw e at c.loop-k.invariant.1) in
-    let b = all_bytes a.bytes.now (λ i. omega (arith, c.shared_slice_known-1.given i)) in
-    let st = rw (name_there g b) at q.Store-word.ensures in
+    let b = all_bytes a.bytes.now (λ i. omega (arith, c.type_inv.bytes i)) in
+    let st = rw (name_there g b) at c.store_word.ensures in
     let n = ap (λ (x : ℕ × ℕ). x.1) g.stands in (
       omega arith,
       w.1,

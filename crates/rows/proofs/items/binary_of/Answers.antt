@@ -1,5 +1,4 @@
 -- A value in binary format, or the refusal.
-use borrow.Author.Rules.{rules}
 use Rattle.rows.proofs.items.binary_of.Goals as goal
 
 pub returns-in-At : goal.returns-in-At

@@ -1,13 +1,9 @@
 -- A length that is not negative, and so many bytes.
-use mathlib.Core.Option.{some}
-use mathlib.Core.Path.{◌≡◌, sym}
-use Prim.Native.Nat.{◌+◌, ◌≤◌}
-use lib.ListN.{length}
-use Rattle.wire.specs.Field.{field_at, u32_of}
+use mathlib.Core.Path.{sym}
+use Rattle.wire.specs.Field.{u32_of}
 use Rattle.wire.proofs.FieldLaws.{told as said, field_within}
 use Rattle.rows.proofs.Steps.{value_cut, value_over, value_fits}
 use native.Mathlib.Omega.{arith}
-use borrow.Author.Rules.{rules}
 use Rattle.rows.proofs.items.bytes_at.Goals as goal
 
 pub returns-in_default : goal.returns-in_default

@@ -1,13 +1,9 @@
 -- By the letter: what stands under it.
-use mathlib.Core.Option.{some}
-use mathlib.Core.Path.{◌≡◌, sym, ◌∙◌}
-use Prim.Native.Nat.{◌+◌, ◌≤◌}
-use lib.ListN.{length}
-use Rattle.wire.specs.Field.{field_at, u8_of}
+use mathlib.Core.Path.{sym}
+use Rattle.wire.specs.Field.{u8_of}
 use Rattle.wire.proofs.FieldLaws.{told as said, field_within}
 use Rattle.rows.proofs.Columns.{column_cut, column_null, column_unchanged, column_text, column_binary, column_wrong}
 use native.Mathlib.Omega.{arith}
-use borrow.Author.Rules.{rules}
 use Rattle.rows.proofs.items.column_at.Goals as goal
 
 pub returns-in_default : goal.returns-in_default

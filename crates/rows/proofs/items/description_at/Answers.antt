@@ -1,15 +1,9 @@
 -- The flags, the name, and what stands after them.
-use mathlib.Core.Option.{some}
-use mathlib.Core.Path.{◌≡◌, sym}
-use Prim.Native.Nat.{◌+◌, ◌≤◌}
-use lib.ListN.{length}
-use Rattle.wire.specs.Field.{field_at, u8_of}
+use mathlib.Core.Path.{sym}
+use Rattle.wire.specs.Field.{u8_of}
 use Rattle.wire.proofs.FieldLaws.{told as said, field_within}
-use Rattle.rows.specs.Layout.{name, read_at}
-use Rattle.rows.specs.Head.{name_by as nameSaid}
 use Rattle.rows.proofs.Descriptions.{flags_cut, name_cut, described_typed}
 use native.Mathlib.Omega.{arith}
-use borrow.Author.Rules.{rules}
 use Rattle.rows.proofs.items.description_at.Goals as goal
 
 pub returns-in_default : goal.returns-in_default

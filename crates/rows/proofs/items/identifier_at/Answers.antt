@@ -4,7 +4,6 @@ use Rattle.wire.proofs.FieldLaws.{told as said, field_within}
 use Rattle.rows.proofs.Steps.{number_got, number_cut}
 use mathlib.Core.Path.{sym}
 use native.Mathlib.Omega.{arith}
-use borrow.Author.Rules.{rules}
 use Rattle.rows.proofs.items.identifier_at.Goals as goal
 
 pub returns-in_default : goal.returns-in_default

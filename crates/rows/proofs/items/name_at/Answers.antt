@@ -1,13 +1,10 @@
 -- A name ends before the first zero byte.
-use mathlib.Core.Option.{some, none}
-use mathlib.Core.Path.{◌≡◌, sym}
-use Rattle.wire.specs.Find.{found_of, index_of}
+use mathlib.Core.Path.{sym}
+use Rattle.wire.specs.Find.{found_of}
 use Rattle.wire.proofs.FieldLaws.{told as said}
 use Rattle.reader.proofs.Laws.{skipped_none}
 use Rattle.rows.proofs.Steps.{name_got, name_cut, name_within}
-use lib.ListN.{drop}
 use native.Mathlib.Omega.{arith}
-use borrow.Author.Rules.{rules}
 use Rattle.rows.proofs.items.name_at.Goals as goal
 
 pub returns-in_default : goal.returns-in_default

@@ -1,5 +1,4 @@
 -- A value that is text, or the refusal.
-use borrow.Author.Rules.{rules}
 use Rattle.rows.proofs.items.text_of.Goals as goal
 
 pub returns-in-At : goal.returns-in-At

@@ -2,16 +2,13 @@
 use mir.Syntax.{w32}
 use mir.Val.{SFits}
 use mir.ValLaws.{to_z-of_z}
-use mathlib.Core.Option.{some}
-use mathlib.Core.Path.{◌≡◌, sym}
-use Prim.Native.Nat.{◌+◌, ◌≤◌}
-use lib.ListN.{length}
-use Rattle.wire.specs.Field.{field_at, u32_of, i32_of}
+use mathlib.Core.Path.{◌≡◌}
+use Prim.Native.Nat.{◌+◌}
+use Rattle.wire.specs.Field.{u32_of, i32_of}
 use Rattle.wire.proofs.FieldLaws.{told as said, field_within, int_within}
-use Rattle.rows.specs.Layout.{number, integer, read_at, got}
+use Rattle.rows.specs.Layout.{number, integer}
 use Rattle.rows.proofs.Steps.{number_got, number_cut, integer_got, integer_cut, both_got, both_refused, pair_got}
 use native.Mathlib.Omega.{arith}
-use borrow.Author.Rules.{rules}
 use Rattle.rows.proofs.items.typed.Goals as goal
 
 pub returns-in_default : goal.returns-in_default

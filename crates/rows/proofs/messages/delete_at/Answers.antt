@@ -1,12 +1,9 @@
 -- By the letter after the relation.
-use mathlib.Core.Option.{some}
-use mathlib.Core.Path.{◌≡◌}
 use Rattle.wire.proofs.FieldLaws.{told as said}
-use Rattle.wire.specs.Field.{field_at, u8_of, u32_of}
+use Rattle.wire.specs.Field.{u8_of, u32_of}
 use Rattle.rows.specs.Rows.{delete_of}
 use Rattle.rows.specs.Head.{head_of}
 use Rattle.rows.proofs.Heads.{first_cut, letter_missing, delete_key, delete_old, delete_wrong}
-use borrow.Author.Rules.{rules}
 use Rattle.rows.proofs.messages.delete_at.Goals as goal
 
 pub returns-in_default : goal.returns-in_default

@@ -1,12 +1,9 @@
 -- The relation and the new tuple.
-use mathlib.Core.Option.{some}
-use mathlib.Core.Path.{◌≡◌}
 use Rattle.wire.proofs.FieldLaws.{told as said}
-use Rattle.wire.specs.Field.{field_at, u32_of}
+use Rattle.wire.specs.Field.{u32_of}
 use Rattle.rows.specs.Rows.{new_layout, insert_of}
 use Rattle.rows.specs.Head.{head_of}
 use Rattle.rows.proofs.Heads.{first_cut, insert_whole}
-use borrow.Author.Rules.{rules}
 use Rattle.rows.proofs.messages.insert_at.Goals as goal
 
 pub returns-in_default : goal.returns-in_default

@@ -1,13 +1,10 @@
 -- The position and a name.
-use mathlib.Core.Option.{some}
-use mathlib.Core.Path.{◌≡◌}
 use Rattle.wire.proofs.FieldLaws.{told as said}
-use Rattle.wire.specs.Field.{field_at, u64_of}
+use Rattle.wire.specs.Field.{u64_of}
 use Rattle.rows.specs.Layout.{name}
 use Rattle.rows.specs.Rows.{origin_of}
 use Rattle.rows.specs.Head.{head_of}
 use Rattle.rows.proofs.Heads.{first_cut, last_missing, origin_whole}
-use borrow.Author.Rules.{rules}
 use Rattle.rows.proofs.messages.origin_at.Goals as goal
 
 pub returns-in_default : goal.returns-in_default

@@ -1,5 +1,4 @@
 -- The columns that were counted, or the refusal.
-use borrow.Author.Rules.{rules}
 use Rattle.rows.proofs.messages.related.Goals as goal
 
 pub returns-in-Of : goal.returns-in-Of

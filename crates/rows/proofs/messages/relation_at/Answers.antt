@@ -1,14 +1,11 @@
 -- The identifier, two names, the replica identity, and the columns.
-use mathlib.Core.Option.{some}
-use mathlib.Core.Path.{◌≡◌}
 use Rattle.wire.proofs.FieldLaws.{told as said, field_within}
 use native.Mathlib.Omega.{arith}
-use Rattle.wire.specs.Field.{field_at, u8_of, u32_of}
+use Rattle.wire.specs.Field.{u8_of, u32_of}
 use Rattle.rows.specs.Layout.{number, name, many, both, nothing}
 use Rattle.rows.specs.Rows.{described_layout, relation_of}
 use Rattle.rows.specs.Head.{head_of}
 use Rattle.rows.proofs.Heads.{first_cut, name_missing, second_missing, identity_missing, relation_whole}
-use borrow.Author.Rules.{rules}
 use Rattle.rows.proofs.messages.relation_at.Goals as goal
 
 pub returns-in_default : goal.returns-in_default

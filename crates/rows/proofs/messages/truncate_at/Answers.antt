@@ -1,10 +1,7 @@
 -- A count that is not negative, the option bits, and so many identifiers.
-use mathlib.Core.Option.{some}
-use mathlib.Core.Path.{◌≡◌}
 use Rattle.wire.proofs.FieldLaws.{told as said}
-use Rattle.wire.specs.Field.{field_at, u8_of, u32_of}
+use Rattle.wire.specs.Field.{u8_of, u32_of}
 use Rattle.rows.proofs.Heads.{truncate_cut, truncate_negative, options_missing, truncate_whole}
-use borrow.Author.Rules.{rules}
 use Rattle.rows.proofs.messages.truncate_at.Goals as goal
 
 pub returns-in_default : goal.returns-in_default

@@ -1,5 +1,4 @@
 -- The identifiers that were passed, or the refusal.
-use borrow.Author.Rules.{rules}
 use Rattle.rows.proofs.messages.truncated.Goals as goal
 
 pub returns-in-At : goal.returns-in-At

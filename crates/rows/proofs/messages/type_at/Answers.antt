@@ -1,13 +1,10 @@
 -- The identifier and two names.
-use mathlib.Core.Option.{some}
-use mathlib.Core.Path.{◌≡◌}
 use Rattle.wire.proofs.FieldLaws.{told as said}
-use Rattle.wire.specs.Field.{field_at, u32_of}
+use Rattle.wire.specs.Field.{u32_of}
 use Rattle.rows.specs.Layout.{name, both}
 use Rattle.rows.specs.Rows.{type_of}
 use Rattle.rows.specs.Head.{head_of}
 use Rattle.rows.proofs.Heads.{first_cut, name_missing, type_missing, type_whole}
-use borrow.Author.Rules.{rules}
 use Rattle.rows.proofs.messages.type_at.Goals as goal
 
 pub returns-in_default : goal.returns-in_default

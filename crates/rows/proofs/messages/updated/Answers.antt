@@ -1,5 +1,4 @@
 -- The tuple that was counted, or the refusal.
-use borrow.Author.Rules.{rules}
 use Rattle.rows.proofs.messages.updated.Goals as goal
 
 pub returns-in-Of : goal.returns-in-Of

@@ -1,6 +1,5 @@
 -- The old tuple, then the new one after it.
 use Rattle.rows.proofs.Heads.{old_refused, from_whole}
-use borrow.Author.Rules.{rules}
 use Rattle.rows.proofs.messages.updated_from.Goals as goal
 
 pub returns-in-Of : goal.returns-in-Of

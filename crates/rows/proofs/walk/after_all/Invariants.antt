@@ -1,11 +1,9 @@
 -- What is left to pass, from the place reached, ends where the whole walk does.
-use Rattle.rows.specs.Layout.{read_at, times_at, Value}
+use Rattle.rows.specs.Layout.{read_at, times_at}
 use Rattle.rows.specs.Head.{layout_of}
-use Rattle.rows.proofs.Steps.{ended, walk_next, walk_stop, walk_end}
+use Rattle.rows.proofs.Steps.{ended}
 use Prim.Native.Nat.{◌≤◌, ◌-◌}
-use mathlib.Core.Path.{◌≡◌, refl, sym, ◌∙◌}
-use native.Mathlib.Omega.{arith}
-use borrow.Author.Rules.{rules}
+use mathlib.Core.Path.{◌≡◌}
 use Rattle.rows.proofs.walk.after_all.Given as goal
 
 abbrev pub invariant-loop-k : goal.invariant-loop-k

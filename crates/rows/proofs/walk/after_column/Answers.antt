@@ -1,15 +1,11 @@
 -- By the letter: how far it goes.
-use mathlib.Core.Option.{some}
-use mathlib.Core.Path.{◌≡◌, refl}
+use mathlib.Core.Path.{refl}
 use Rattle.rows.specs.Layout.{mapped}
 use Rattle.rows.specs.Head.{told_text, told_binary, bytes_by}
-use Prim.Native.Nat.{◌+◌, ◌≤◌}
-use lib.ListN.{length}
-use Rattle.wire.specs.Field.{field_at, u8_of}
+use Rattle.wire.specs.Field.{u8_of}
 use Rattle.wire.proofs.FieldLaws.{told as said, field_within}
 use Rattle.rows.proofs.Columns.{column_cut, column_null, column_unchanged, column_text, column_binary, column_wrong, column_ended, value_ended}
 use native.Mathlib.Omega.{arith}
-use borrow.Author.Rules.{rules}
 use Rattle.rows.proofs.walk.after_column.Goals as goal
 
 pub returns-in_default : goal.returns-in_default

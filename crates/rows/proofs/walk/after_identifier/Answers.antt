@@ -1,5 +1,4 @@
 -- The place after it, or the refusal.
-use borrow.Author.Rules.{rules}
 use Rattle.rows.proofs.walk.after_identifier.Goals as goal
 
 pub returns-in-Of : goal.returns-in-Of

@@ -1,10 +1,9 @@
 -- By what is repeated: the place after it.
-use Rattle.rows.specs.Layout.{read_at, number, mapped}
+use Rattle.rows.specs.Layout.{read_at}
 use Rattle.rows.specs.Rows.{described_layout, described_of}
 use Rattle.rows.specs.Head.{described_at}
 use Rattle.rows.proofs.Steps.{ended_told}
-use mathlib.Core.Path.{◌∙◌, ap}
-use borrow.Author.Rules.{rules}
+use mathlib.Core.Path.{◌∙◌}
 use Rattle.rows.proofs.walk.after_one.Goals as goal
 
 pub returns-in-Column : goal.returns-in-Column

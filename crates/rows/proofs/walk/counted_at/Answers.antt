@@ -1,12 +1,9 @@
 -- A count that is not negative, and so many.
-use mathlib.Core.Option.{some}
-use mathlib.Core.Path.{◌≡◌}
 use Rattle.wire.proofs.FieldLaws.{told as said, field_within}
 use native.Mathlib.Omega.{arith}
-use Rattle.wire.specs.Field.{field_at, u16_of}
+use Rattle.wire.specs.Field.{u16_of}
 use Rattle.rows.specs.Head.{layout_of}
 use Rattle.rows.proofs.Heads.{counted_cut, counted_negative, counted_whole}
-use borrow.Author.Rules.{rules}
 use Rattle.rows.proofs.walk.counted_at.Goals as goal
 
 pub returns-in_default : goal.returns-in_default

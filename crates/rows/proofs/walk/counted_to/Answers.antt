@@ -1,5 +1,4 @@
 -- The place after the last one, or the refusal.
-use borrow.Author.Rules.{rules}
 use Rattle.rows.proofs.walk.counted_to.Goals as goal
 
 pub returns-in-At : goal.returns-in-At

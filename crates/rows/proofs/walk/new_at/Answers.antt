@@ -1,11 +1,8 @@
 -- By the letter: the tuple, or a wrong letter.
-use mathlib.Core.Option.{some}
-use mathlib.Core.Path.{◌≡◌}
 use Rattle.wire.proofs.FieldLaws.{told as said, field_within}
 use native.Mathlib.Omega.{arith}
-use Rattle.wire.specs.Field.{field_at, u8_of}
+use Rattle.wire.specs.Field.{u8_of}
 use Rattle.rows.proofs.Heads.{new_cut, new_here, new_wrong}
-use borrow.Author.Rules.{rules}
 use Rattle.rows.proofs.walk.new_at.Goals as goal
 
 pub returns-in_default : goal.returns-in_default

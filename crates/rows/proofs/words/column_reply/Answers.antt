@@ -1,4 +1,3 @@
-use borrow.Author.Rules.{rules}
 use Rattle.rows.proofs.words.column_reply.Goals as goal
 
 pub returns-in-Null : goal.returns-in-Null

@@ -1,4 +1,3 @@
-use borrow.Author.Rules.{rules}
 use Rattle.rows.proofs.words.identifier_reply.Goals as goal
 
 pub returns-in-Of : goal.returns-in-Of

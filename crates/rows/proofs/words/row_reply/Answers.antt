@@ -1,4 +1,3 @@
-use borrow.Author.Rules.{rules}
 use Rattle.rows.proofs.words.row_reply.Goals as goal
 
 pub returns-in-Relation : goal.returns-in-Relation

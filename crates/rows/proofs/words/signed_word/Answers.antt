@@ -4,7 +4,6 @@ use mathlib.Core.Path.{ap, ◌∙◌}
 use native.Mathlib.Omega.{arith}
 use Rattle.wire.proofs.Signed.{widened}
 use Rattle.wire.specs.Int.{value}
-use borrow.Author.Rules.{rules}
 use Rattle.rows.proofs.words.signed_word.Goals as goal
 
 pub overflow_cast-modifier : goal.overflow_cast-modifier

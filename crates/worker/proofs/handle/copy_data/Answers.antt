@@ -1,5 +1,5 @@
 -- The server's time is a signed field: it is read back as it was since it fits.
-use Rattle.std.proofs.Common.{◌∙◌, w64, rules}
+use Rattle.std.proofs.Common.{◌∙◌, w64}
 use mir.ValLaws.{to_z-of_z}
 use Rattle.worker.specs.Answer.{lent}
 use Rattle.worker.proofs.handle.copy_data.Goals as goal
@@ -9,7 +9,7 @@ returns-in-KeepAlive c = λ u.
     c.keep_alive.ensures u _ ∙ rw (
       c.with_wal_end-next.ensures,
       c.in-KeepAlive.is,
-      to_z-of_z w64 c.in-KeepAlive.server_time (record { sfits = c.known_told-1.given.1.0.1 }),
+      to_z-of_z w64 c.in-KeepAlive.server_time (record { sfits = c.in-KeepAlive.known_told-1-own.given.1.0.1 }),
     )
 
 pub returns-in-XLogData : goal.returns-in-XLogData
@@ -17,7 +17,7 @@ returns-in-XLogData c = λ u.
     c.xlog_data.ensures u _ ∙ rw (
       c.with_wal_end-next-in-XLogData.ensures,
       c.in-XLogData.is,
-      to_z-of_z w64 c.in-XLogData.server_time (record { sfits = c.known_told-in-XLogData-1.given.1.1.0.1 }),
+      to_z-of_z w64 c.in-XLogData.server_time (record { sfits = c.in-XLogData.known_told-in-XLogData-1-own.given.1.1.0.1 }),
     )
 
 pub returns-in-Refused : goal.returns-in-Refused

@@ -1,8 +1,7 @@
 -- Signed fields are read back as they were since they fit.
-use Rattle.std.proofs.Common.{drop, sym, ◌∙◌, arith, length-drop, length-take, w64, rules}
+use Rattle.std.proofs.Common.{drop, sym, ◌∙◌, arith, length-drop, length-take, w64}
 use mir.ValLaws.{to_z-of_z}
 use Rattle.pgoutput.proofs.LayoutMessage.{parts_within}
-
 -- prefix and content lie within the payload, so that their places fit
 use Rattle.worker.proofs.handle.event_at.Goals as goal
 
@@ -23,7 +22,7 @@ returns-in-Begin c =
     c.begin.ensures ∙ rw (
       ← c.boundary_at.ensures,
       c.in-Begin.is,
-      to_z-of_z w64 c.in-Begin.commit_time (record { sfits = c.known_told-1.given.1.0.1 }),
+      to_z-of_z w64 c.in-Begin.commit_time (record { sfits = c.in-Begin.known_told-1-own.given.1.0.1 }),
     )
 
 pub returns-in-Commit : goal.returns-in-Commit
@@ -31,7 +30,7 @@ returns-in-Commit c =
     c.commit.ensures ∙ rw (
       ← c.boundary_at.ensures,
       c.in-Commit.is,
-      to_z-of_z w64 c.in-Commit.commit_time (record { sfits = c.known_told-in-Commit-1.given.1.1.0.1 }),
+      to_z-of_z w64 c.in-Commit.commit_time (record { sfits = c.in-Commit.known_told-in-Commit-1-own.given.1.1.0.1 }),
     )
 
 pub returns-in-Message : goal.returns-in-Message
@@ -43,7 +42,7 @@ returns-in-NotBoundary c =
     ∙ rw (
       ← c.boundary_at.ensures,
       c.in-NotBoundary.is,
-      to_z-of_z w64 c.args.server-time c.ranges.server-time,
+      to_z-of_z w64 c.args.server_time c.ranges.server_time,
     )
 
 pub returns-in-Refused : goal.returns-in-Refused

@@ -1,4 +1,4 @@
-use Rattle.std.proofs.Common.{◌∙◌, w64, rules}
+use Rattle.std.proofs.Common.{◌∙◌, w64}
 use mir.ValLaws.{to_z-of_z}
 use Rattle.worker.specs.Answer.{lent}
 use Rattle.worker.proofs.handle.keep_alive.Goals as goal
@@ -9,11 +9,11 @@ returns-then-reply c = λ u p.
     ∙ rw (
       c.with_reply.ensures,
       c.offers-offered.ensures,
-      to_z-of_z w64 c.args.server-time c.ranges.server-time,
+      to_z-of_z w64 c.args.server_time c.ranges.server_time,
       c.if-reply.true,
     )
 
 pub returns : goal.returns
 returns c = λ u p.
     c.moved.ensures (lent u p _)
-    ∙ rw (c.offers-offered.ensures, to_z-of_z w64 c.args.server-time c.ranges.server-time, c.if-reply.false)
+    ∙ rw (c.offers-offered.ensures, to_z-of_z w64 c.args.server_time c.ranges.server_time, c.if-reply.false)

@@ -1,4 +1,4 @@
-use Rattle.std.proofs.Common.{◌∙◌, rules}
+use Rattle.std.proofs.Common.{◌∙◌}
 use Rattle.worker.proofs.Laws.{having_same}
 use Rattle.worker.proofs.wait.waiting_read.Goals as goal
 
@@ -9,4 +9,4 @@ returns c =
     (c.having.ensures _ a.payload.now _ ∙ having_same _ _ (c.waiting_by-stepped.ensures a.unread.now a.payload.now))
 
 pub shape_of-payload : goal.shape_of-payload
-shape_of-payload c = c.read-x.auto.1.1.1.1.0
+shape_of-payload c = c.read-x.auto.payload
