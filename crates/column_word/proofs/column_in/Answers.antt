@@ -1,12 +1,10 @@
-use Prim.Native.Nat.{ℕ, ◌/◌, ◌%◌}
+use Prim.Native.Nat.{ℕ}
 use mathlib.Core.Path.{◌≡◌}
 use mathlib.Core.Bool.{Bool}
 use Rattle.column_word.specs.declared.Column.{Column}
 use native.Mathlib.Omega.{arith}
-use borrow.Author.Rules.{rules}
 use Rattle.column_word.specs.Bits.{bits, unpacked}
 use Rattle.column_word.specs.Word.{column_in}
-
 -- columns of equal numbers
 use Rattle.column_word.proofs.column_in.Goals as goal
 
