@@ -1,9 +1,6 @@
 -- By whether the data are a Relation.
-use borrow.Author.Rules.{rules}
 use native.Mathlib.Omega.{arith}
-use mathlib.Core.Path.{◌≡◌, sym, ap, ◌∙◌}
 use Rattle.rows.specs.Rows.{row_said}
-use Rattle.relations.specs.Memory.{described_from}
 use Rattle.relations.proofs.Leaves.{all_bytes}
 use Rattle.relations.proofs.Messages.{relation_told}
 use Rattle.packed_relations.specs.Packed.{packed, words_of}

@@ -1,9 +1,8 @@
 -- By the slot, the count and the index.
-use borrow.Author.Rules.{rules}
 use native.Mathlib.Omega.{arith}
-use mathlib.Core.Path.{◌≡◌, ap, ◌∙◌}
+use mathlib.Core.Path.{ap, ◌∙◌}
 use mathlib.Core.Option.{some}
-use Prim.Native.Nat.{ℕ, ◌≤◌}
+use Prim.Native.Nat.{ℕ}
 use Rattle.relations.proofs.Leaves.{count_small}
 use Rattle.column_word.specs.Word.{column_in}
 use Rattle.packed_relations.specs.Packed.{words_of, room_in, told_of}

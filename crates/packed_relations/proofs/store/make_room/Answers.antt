@@ -1,13 +1,8 @@
 -- The lengths, then the test, then the bytes and the places.
-use mathlib.Core.Path.{◌≡◌, refl, sym, ap, ◌∙◌}
-use mathlib.Core.Bool.{true, false}
+use mathlib.Core.Path.{◌≡◌, sym, ◌∙◌}
 use Prim.Native.Nat.{ℕ, ◌+◌, ◌*◌, ◌-◌, ◌≤◌, ◌<◌, min}
 use native.Mathlib.Omega.{arith}
-use borrow.Author.Tests.{not-true, not-false}
-use lib.ListN.{length}
-use Rattle.packed_relations.specs.Packed.{lie_in}
 use Rattle.packed_relations.proofs.Leaves.{lie_fits, made_not, made}
-use borrow.Author.Rules.{rules}
 use Rattle.packed_relations.proofs.store.make_room.Goals as goal
 
 pub slot_lens-place-requires : goal.slot_lens-place-requires
@@ -50,23 +45,23 @@ returns-then-not-lie_in c =
     let a = c.args in (
       made_not a.held a.slot a.new a.counts.now a.words.now a.names.now _ _ _ _ _ _ c.least-slots.ensures c.least-next.ensures
           c.slot_lens-place.ensures.0 c.slot_lens-own.ensures.0 c.slot_lens-later.ensures.0 c.least-room.ensures
-          (sym (not-true _ c.if-not-lie_in.true) ∙ c.lie_in.ensures),
+          (sym c.if-not-lie_in.true ∙ c.lie_in.ensures),
       omega (arith, c.slot_lens-place.ensures.1, c.requires.0),
     )
 
 pub move_names-requires : goal.move_names-requires
 move_names-requires c =
-    let f = lie_fits _ _ _ _ _ (sym (not-false _ c.if-not-lie_in.false) ∙ c.lie_in.ensures) in
+    let f = lie_fits _ _ _ _ _ (sym c.if-not-lie_in.false ∙ c.lie_in.ensures) in
     (omega (arith, f.0, c.least-room.ensures), omega (arith, f.1, c.least-room.ensures))
 
 pub overflow_add-place : goal.overflow_add-place
 overflow_add-place c =
-    let f = lie_fits _ _ _ _ _ (sym (not-false _ c.if-not-lie_in.false) ∙ c.lie_in.ensures) in
+    let f = lie_fits _ _ _ _ _ (sym c.if-not-lie_in.false ∙ c.lie_in.ensures) in
     omega (arith, f.0, c.least-room.ensures)
 
 pub overflow_add-place-2 : goal.overflow_add-place-2
 overflow_add-place-2 c =
-    let f = lie_fits _ _ _ _ _ (sym (not-false _ c.if-not-lie_in.false) ∙ c.lie_in.ensures) in
+    let f = lie_fits _ _ _ _ _ (sym c.if-not-lie_in.false ∙ c.lie_in.ensures) in
     omega (arith, f.1, c.least-room.ensures)
 
 pub overflow_sub-slots-2 : goal.overflow_sub-slots-2
@@ -75,12 +70,12 @@ overflow_sub-slots-2 c =
 
 pub overflow_add-place-3 : goal.overflow_add-place-3
 overflow_add-place-3 c =
-    let f = lie_fits _ _ _ _ _ (sym (not-false _ c.if-not-lie_in.false) ∙ c.lie_in.ensures) in
+    let f = lie_fits _ _ _ _ _ (sym c.if-not-lie_in.false ∙ c.lie_in.ensures) in
     omega (arith, f.1, c.least-room.ensures)
 
 pub place_slots-requires : goal.place_slots-requires
 place_slots-requires c =
-    let f = lie_fits _ _ _ _ _ (sym (not-false _ c.if-not-lie_in.false) ∙ c.lie_in.ensures) in (
+    let f = lie_fits _ _ _ _ _ (sym c.if-not-lie_in.false ∙ c.lie_in.ensures) in (
       omega (arith, c.least-next.ensures, c.least-slots.ensures),
       omega (arith, f.1, c.least-room.ensures, c.least-next.ensures, c.least-slots.ensures),
     )
@@ -90,7 +85,7 @@ returns c =
     let a = c.args in (
       made a.held a.slot a.new a.counts.now a.words.now a.names.now _ _ _ _ _ _ c.least-slots.ensures c.least-next.ensures
           c.slot_lens-place.ensures.0 c.slot_lens-own.ensures.0 c.slot_lens-later.ensures.0 c.least-room.ensures
-          (sym (not-false _ c.if-not-lie_in.false) ∙ c.lie_in.ensures)
+          (sym c.if-not-lie_in.false ∙ c.lie_in.ensures)
           c.move_names.ensures c.place_slots.ensures,
       omega (arith, c.slot_lens-place.ensures.1, c.requires.0),
     )
