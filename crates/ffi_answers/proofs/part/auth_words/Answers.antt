@@ -1,7 +1,6 @@
 use Rattle.wire.specs.Field.{unsigned}
 use mir.Syntax.{w32}
 use mir.ValLaws.{to_z-of_z}
-use borrow.Author.Rules.{rules}
 use Rattle.ffi_answers.proofs.part.auth_words.Goals as goal
 
 pub returns-in-Request : goal.returns-in-Request
