@@ -44,6 +44,7 @@ fn files(folder: &Path, extension: &str) -> Vec<PathBuf> {
     let mut all: Vec<PathBuf> = entries.map(|entry| entry.expect("an entry").path()).collect();
     all.sort();
     let below = |path: PathBuf| match path.is_dir() {
+        true if path.ends_with("out") => Vec::new(),
         true => files(&path, extension),
         false => Vec::from_iter(path.extension().is_some_and(|x| x == extension).then_some(path)),
     };

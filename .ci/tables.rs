@@ -8,11 +8,11 @@ use std::path::{Path, PathBuf};
 /// Of each crate its files of Rattle and of proofs, with their contents.
 type Crates = BTreeMap<String, Vec<(PathBuf, String)>>;
 
-/// The files below a folder with one of the extensions, with their contents.
+/// The files below a folder with one of the extensions, with their contents, without what is built and kept.
 fn files(folder: &Path, extensions: &[&str], into: &mut Vec<(PathBuf, String)>) {
     let Ok(entries) = fs::read_dir(folder) else { return };
     for path in entries.map(|entry| entry.expect("a folder's entry").path()) {
-        if path.is_dir() && !path.ends_with("target") {
+        if path.is_dir() && !path.ends_with("target") && !path.ends_with("out") {
             files(&path, extensions, into);
         } else if path.extension().is_some_and(|x| extensions.iter().any(|e| x == *e)) {
             into.push((path.clone(), fs::read_to_string(&path).expect("a text")));

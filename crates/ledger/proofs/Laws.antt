@@ -41,11 +41,11 @@ pub accepted_after : (p cap mark : ℕ) (es : List (ℕ × ℕ)) (c : Call) (h :
 accepted_after p cap mark es c h a =
     by_test (eqb (answers_in p es cap mark c h) 0) (λ t. rw t (answers_taken p cap mark es c h (eqb-true _ _ t), a)) (λ t. rw t a)
 
-accepted_calls : (p cap mark : ℕ) (es : List (ℕ × ℕ)) (cs : List Call) (h : History) → Accepted p es cap h
+accepted_calls : (p cap : ℕ) (es : List (ℕ × ℕ)) (cs : List Call) (mark : ℕ) (h : History) → Accepted p es cap h
     → Accepted p es cap (read_by p es cap cs (mark, h)).1
 unfolding read_by
-accepted_calls p cap mark es [] h a = a
-accepted_calls p cap mark es (c ∷ cs) h a = accepted_calls p cap _ es cs _ (accepted_after p cap mark es c h a)
+accepted_calls p cap es [] mark h a = a
+accepted_calls p cap es (c ∷ cs) mark h a = accepted_calls p cap es cs _ _ (accepted_after p cap mark es c h a)
 
 -- ---- an entry's end is above S before it, where it is above the start
 
@@ -166,7 +166,7 @@ never_falls p f es (does_all q) h w =
 pub answer_laws : AnswerLaws
 answer_laws =
     record {
-      accepted = λ p cap es cs. accepted_calls p cap 0 es cs [] tt;
+      accepted = λ p cap es cs. accepted_calls p cap es cs 0 [] tt;
       done_before = done_before;
       undone_holds = undone_below;
       at_most_stable = at_most;

@@ -12,8 +12,8 @@ use Rattle.touched.proofs.with_relations.Given as goal
 abbrev pub invariant-loop-k : goal.invariant-loop-k
 invariant-loop-k l =
     (l.k ≤ l.n)
-    × (with_all (entries_of l.identifiers l.files) (identifiers_at «data» l.n l.from) l.initial.touched
-    ≡ with_all (entries_of l.identifiers l.files) (identifiers_at «data» (l.n - l.k) l.place) l.touched)
+    × (with_all (entries_of l.identifiers l.files) (identifiers_at l.«data» l.n l.from) l.initial.touched
+    ≡ with_all (entries_of l.identifiers l.files) (identifiers_at l.«data» (l.n - l.k) l.place) l.touched)
 
 abbrev pub decreases-loop-k : goal.decreases-loop-k
 decreases-loop-k l = l.n - l.k
