@@ -4,7 +4,6 @@ use mathlib.Core.Path.{refl, sym}
 use Prim.Native.Nat.{ℕ, ◌<◌}
 use native.Mathlib.Omega.{arith}
 use lib.ListN.{get_or}
-use borrow.Author.Rules.{rules}
 use Rattle.touched.proofs.after_row.Goals as goal
 
 pub returns-in-Insert : goal.returns-in-Insert
