@@ -127,7 +127,8 @@ fn look(path: &Path, held: &Held, wrong: &mut Vec<String>) -> usize {
     let text = read(path);
     let mut looked = 0;
     // A definition that stands among a crate's proofs is held by no list.
-    let ours = |line: &&str| line.strip_prefix("use Rattle.").and_then(|rest| rest.split_once(".proofs.")).is_some_and(|(krate, _)| specs(krate).is_dir());
+    let ours =
+        |line: &&str| line.strip_prefix("use Rattle.").and_then(|rest| rest.split_once(".proofs.")).is_some_and(|(krate, _)| specs(krate).is_dir());
     let proofs = text.lines().filter(ours);
     wrong.extend(proofs.map(|line| format!("{}: `{line}`", path.display())));
     for u in text.lines().filter_map(used).filter(|u| !READING.contains(&&*u.krate)) {
