@@ -85,60 +85,56 @@ install_packages() { # packages
 with_used() { # crate
     awk -v crate="$1" -F ': *' 'function add(n,   of, i, k) { if (n in done || !(n in uses)) return; done[n]; print n; k = split(uses[n], of, " ")
         for (i = 1; i <= k; i++) add(of[i]) }
-        !/^#/ { uses[$1] = $2 } END { add(crate) }' "$top/crates.txt"
+        !/^#/ { split($1, name, " "); uses[name[1]] = $2 } END { add(crate) }' "$top/crates.txt"
 }
-# Whether the archive is there and no source of it is newer.
-up_to_date() { # crate
-    local archive=$top/target/staticlib/lib$1.a crates
-    [ -f "$archive" ] || return 1
+# Where rt puts what it makes of a crate: an archive, or a program.
+archive_of() { echo "$top/crates/$1/out/lib$1.a"; }
+program_of() { echo "$top/crates/$1/out/$1"; }
+# Whether what was made of a crate is there and no source of it is newer.
+up_to_date() { # crate, what was made
+    local crates
+    [ -f "$2" ] || return 1
     mapfile -t crates < <(with_used "$1")
-    [ -z "$(cd "$top/crates" && find ../crates.txt "${crates[@]}" -newer "$archive" -type f -print -quit)" ]
+    [ -z "$(cd "$top/crates" && find ../crates.txt "${crates[@]}" -name out -prune -o -newer "$2" -type f -print -quit)" ]
 }
-# Lines of rt: a crate is proved, or was before.
-proved=0
+# Lines of rt: it begins with a crate, of which it says first how many jobs the check gets.
+begun=0
 show_proof() {
-    local words='^rt: ([a-z0-9_]+) proved \((.*)\)$'
+    local words='^rt: chose --jobs [0-9]+ for ([a-z0-9_]+)$'
     [[ $1 =~ $words ]] || return 0
-    proved=$((proved + 1))
-    if [[ ${BASH_REMATCH[2]} != unchanged* ]]; then
-        told="proved $proved of $total: ${BASH_REMATCH[1]} (${BASH_REMATCH[2]})"
-    elif [ -t 1 ]; then
-        told="proved $proved of $total"
-    fi
-    [ "$proved" -lt "$((total - 1))" ] || told="${told:-proved $proved of $total}; now the last, $last"
+    begun=$((begun + 1))
+    told="proving ${BASH_REMATCH[1]}, the ${begun}. crate of at most $total"
 }
-# Proves a crate of Rattle and writes its archive. What it uses is proved first, two crates at a time and more where there are more processors; the
-# last one has a processor to itself, and the other runs the command.
-prove_archive() { # crate, command that is run beside the last proof, whatever it answers
-    local last=$1 crates total
+# Proves a crate of Rattle and all that it uses, and writes its archive. What is proved already is not proved again.
+prove_archive() { # crate, command that is run beside the proof, whatever it answers
+    local crate=$1 total
     shift
-    mapfile -t crates < <(with_used "$last")
-    total=${#crates[@]}
-    proved=0
-    watch 'proving' show_proof "$top/prove" "${crates[@]:1}" || return
+    total=$(with_used "$crate" | wc -l)
+    begun=0
     if [ $# -gt 0 ]; then
         setsid "$@" > /dev/null 2>&1 < /dev/null &
         beside=$!
     fi
-    watch "proved $((total - 1)) of $total; now the last, $last" quietly env -C "$top" rt staticlib "$last" || return
+    watch 'proving' show_proof env -C "$top/crates/$crate" rt lib || return
     [ -z "$beside" ] || wait "$beside" || true
     beside=''
 }
 # The archive of a crate is proved where that is not done yet. One of a folder that RUFFLESQUASH_LIB names is taken as it is.
 make_archive() { # crate, what it is called, command as for prove_archive
-    local crate=$1 what=$2 archive=$top/target/staticlib/lib$1.a at=$SECONDS
+    local crate=$1 what=$2 archive at=$SECONDS
+    archive=$(archive_of "$crate")
     shift 2
     if [ -n "${RUFFLESQUASH_LIB:-}" ] && { [ "$crate" = "$library" ] || [ -f "$RUFFLESQUASH_LIB/lib$crate.a" ]; }; then
         [ -f "$RUFFLESQUASH_LIB/lib$crate.a" ] || die "$RUFFLESQUASH_LIB/lib$crate.a is missing (RUFFLESQUASH_LIB names its folder)"
         say "$what is $RUFFLESQUASH_LIB/lib$crate.a (RUFFLESQUASH_LIB)"
         return
     fi
-    if up_to_date "$crate"; then
+    if up_to_date "$crate" "$archive"; then
         say "$what is proved already"
         return
     fi
     command -v rt > /dev/null || die "rt is missing: the Rattle toolchain, which proves and builds $what"
-    say "proving $what, $(with_used "$crate" | wc -l) crates: some 7 minutes on two processors, less where a part is proved already"
+    say "proving $what, $(with_used "$crate" | wc -l) crates: some minutes, less where a part is proved already"
     : > "$log"
     # Nothing is to be built over an archive that is stale.
     rm -f "$archive"
@@ -150,6 +146,22 @@ make_archive() { # crate, what it is called, command as for prove_archive
     say "$what is proved ($((SECONDS - at)) s)"
 }
 make_library() { make_archive "$library" 'the library' "$@"; } # command as for prove_archive
+# A program of Rattle is proved and built where that is not done yet. `rt run` builds it and then runs it, here on no input.
+make_program() { # crate
+    local program said=$top/target/program.log
+    program=$(program_of "$1")
+    ! up_to_date "$1" "$program" || return 0
+    command -v rt > /dev/null || die "rt is missing: the Rattle toolchain, which proves and builds $1"
+    [ -f "$top/crates/$1/src/main.rt" ] || die "there is no program $1 in crates/"
+    rm -f "$program"
+    touch "$top/target/begun_program"
+    (cd "$top/crates/$1" && rt run) > /dev/null 2> "$said" < /dev/null || true
+    if ! grep -q "^rt: running out/$1" "$said" || [ ! -f "$program" ]; then
+        tail -n 20 "$said" >&2
+        die "$1 was not built; the whole log is ${said#"$top/"}"
+    fi
+    touch -r "$top/target/begun_program" "$program"
+}
 
 # Lines of cargo.
 show_build() {

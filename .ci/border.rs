@@ -191,12 +191,12 @@ fn groups(path: &str) -> Answer<Vec<Group>> {
         let wrong = |what: &str| format!("{path}: {what}: {line}");
         if line.is_empty() && headed {
             all.push(heading(&above));
-        } else if line.starts_with("pub const ") || line == "#[no_mangle]" {
+        } else if line.starts_with("pub const ") || line == "#[unsafe(no_mangle)]" {
             let group = all.last_mut().ok_or_else(|| wrong("no group before"))?;
             if headed || comment.is_empty() && !group.inside() {
                 return Err(wrong("no comment of its own before"));
             }
-            match line.strip_prefix("#[no_mangle]") {
+            match line.strip_prefix("#[unsafe(no_mangle)]") {
                 Some(_) => group.functions.push(function(rest[line.len()..].trim_start(), comment).ok_or_else(|| wrong("no function after"))?),
                 None => group.constants.push(constant(line, comment).ok_or_else(|| wrong("no constant"))?),
             }
@@ -205,10 +205,10 @@ fn groups(path: &str) -> Answer<Vec<Group>> {
     Ok(all)
 }
 
-/// The files below a folder with one of the extensions.
+/// The files below a folder with one of the extensions, without what rt keeps.
 fn files(folder: &Path, extensions: &[&str], into: &mut Vec<PathBuf>) {
     for path in fs::read_dir(folder).into_iter().flatten().flatten().map(|entry| entry.path()) {
-        if path.is_dir() {
+        if path.is_dir() && !path.ends_with("out") {
             files(&path, extensions, into);
         } else if path.extension().is_some_and(|x| extensions.iter().any(|e| x == *e)) {
             into.push(path);
@@ -240,7 +240,7 @@ impl Border {
         files(Path::new("crates"), &["rt"], &mut all);
         for path in all.iter().filter_map(|path| path.to_str()) {
             let text = || fs::read_to_string(path).unwrap_or_default();
-            if path.starts_with(EXPORT) && !modules.iter().any(|module| module == path) && text().contains("#[no_mangle]") {
+            if path.starts_with(EXPORT) && !modules.iter().any(|module| module == path) && text().contains("#[unsafe(no_mangle)]") {
                 return Err(format!("{path} exports a function, and .ci/border.rs does not list it"));
             }
             if path.ends_with("/layout.rt") && !LISTS.contains(&path) {

@@ -41,7 +41,9 @@ fn floors() -> Vec<Floor> {
     for block in text.split("\n\n").skip(1) {
         let title = block.lines().next().and_then(|line| line.strip_prefix("# ")).expect("a heading for each floor");
         let parts = block.lines().filter_map(|line| line.split_once(':')).filter(|(name, _)| !name.starts_with('#'));
-        let one = |(name, uses): (&str, &str)| Crate { name: name.into(), uses: uses.split_whitespace().map(String::from).collect() };
+        // What a static library's line says after its name is left out.
+        let bare = |name: &str| name.split_whitespace().next().unwrap_or("").to_string();
+        let one = |(name, uses): (&str, &str)| Crate { name: bare(name), uses: uses.split_whitespace().map(String::from).collect() };
         found.push(Floor { title: title.into(), crates: parts.map(one).collect() });
     }
     found
@@ -52,6 +54,8 @@ fn files(folder: &Path) -> Vec<PathBuf> {
     for entry in fs::read_dir(folder).into_iter().flatten() {
         let path = entry.expect("an entry").path();
         match path.is_dir() {
+            // What rt keeps of a crate is none of its files.
+            true if path.ends_with("out") => {}
             true => found.extend(files(&path)),
             false => found.push(path),
         }
@@ -88,7 +92,7 @@ fn cited(name: &str) -> BTreeSet<String> {
             continue;
         }
         let text = read(&path);
-        found.extend(text.split("Rattle·").skip(1).filter_map(|rest| rest.split(|c| !is_name(c)).next()).map(String::from));
+        found.extend(text.split("Rattle.").skip(1).filter_map(|rest| rest.split(|c| !is_name(c)).next()).map(String::from));
         if is("rt") {
             let (names, own) = paths_in(&text);
             found.extend(names);
@@ -98,13 +102,18 @@ fn cited(name: &str) -> BTreeSet<String> {
     found.into_iter().filter(|used| !modules.contains(used) && used != name).collect()
 }
 
-/// The crates whose types a crate's code names in its `use` lines.
+/// The `use` items of a source, each without its first word and its semicolon.
+fn uses_in(text: &str) -> Vec<String> {
+    let items = text.split("\nuse ").skip(1).map(|rest| rest.split(';').next().unwrap_or(""));
+    items.map(|item| item.split_whitespace().collect::<Vec<_>>().join(" ")).collect()
+}
+
+/// The crates whose types a crate's code names in its `use` items.
 fn types_in(name: &str) -> BTreeSet<String> {
     let sources = files(&Path::new("crates").join(name).join("src"));
-    let texts: Vec<String> = sources.iter().map(|path| read(path)).collect();
-    let paths = texts.iter().flat_map(|text| text.lines()).filter_map(|line| line.strip_prefix("use ")).filter_map(|line| line.strip_suffix(';'));
-    let is_type = |path: &&str| path.rsplit("::").next().is_some_and(|last| last.starts_with(char::is_uppercase));
-    paths.filter(is_type).filter_map(|path| path.split("::").next()).map(String::from).collect()
+    let items: Vec<String> = sources.iter().flat_map(|path| uses_in(&format!("\n{}", read(path)))).collect();
+    let is_type = |item: &&String| item.split("::").last().is_some_and(|names| names.split(['{', '}', ',', ' ']).any(|w| w.starts_with(char::is_uppercase)));
+    items.iter().filter(is_type).filter_map(|item| item.split("::").next()).map(String::from).collect()
 }
 
 /// The crates whose types may reach a crate's code through those that it cites.

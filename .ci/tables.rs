@@ -8,11 +8,11 @@ use std::path::{Path, PathBuf};
 /// Of each crate its files of Rattle and of proofs, with their contents.
 type Crates = BTreeMap<String, Vec<(PathBuf, String)>>;
 
-/// The files below a folder with one of the extensions, with their contents.
+/// The files below a folder with one of the extensions, with their contents, without what is built and kept.
 fn files(folder: &Path, extensions: &[&str], into: &mut Vec<(PathBuf, String)>) {
     let Ok(entries) = fs::read_dir(folder) else { return };
     for path in entries.map(|entry| entry.expect("a folder's entry").path()) {
-        if path.is_dir() && !path.ends_with("target") {
+        if path.is_dir() && !path.ends_with("target") && !path.ends_with("out") {
             files(&path, extensions, into);
         } else if path.extension().is_some_and(|x| extensions.iter().any(|e| x == *e)) {
             into.push((path.clone(), fs::read_to_string(&path).expect("a text")));
@@ -28,7 +28,9 @@ fn read(page: &str) -> String {
 fn uses() -> BTreeMap<String, Vec<String>> {
     let list = read("crates.txt");
     let split = list.lines().filter(|line| !line.starts_with('#')).filter_map(|line| line.split_once(':'));
-    let all: BTreeMap<String, Vec<String>> = split.map(|(name, of)| (name.to_string(), of.split_whitespace().map(String::from).collect())).collect();
+    // What a static library's line says after its name is left out.
+    let bare = |name: &str| name.split_whitespace().next().unwrap_or("").to_string();
+    let all: BTreeMap<String, Vec<String>> = split.map(|(name, of)| (bare(name), of.split_whitespace().map(String::from).collect())).collect();
     let here: BTreeSet<String> = all.keys().cloned().collect();
     all.into_iter().map(|(name, of)| (name, of.into_iter().filter(|x| here.contains(x)).collect())).collect()
 }

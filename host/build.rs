@@ -1,4 +1,4 @@
-//! Links the proved archive, which `rt staticlib` makes in target/staticlib; RUFFLESQUASH_LIB names another folder that holds it.
+//! Links the proved archive, which `rt lib` in crates/ffi_export makes in its out/; RUFFLESQUASH_LIB names another folder that holds it.
 use std::path::PathBuf;
 use std::{env, fs, process};
 
@@ -8,7 +8,7 @@ const LIBRARY: &str = "ffi_export";
 const INTERFACE: &[u8] = b"rufflesquash_abi";
 
 fn fail(archive: &str, what: &str) -> ! {
-    eprintln!("{archive} {what}: run `rt staticlib {LIBRARY}` in the repository");
+    eprintln!("{archive} {what}: run `rt lib` in crates/{LIBRARY} of the repository");
     process::exit(1);
 }
 
@@ -16,7 +16,7 @@ fn main() {
     let here = PathBuf::from(env::var("CARGO_MANIFEST_DIR").expect("cargo sets it"));
     let folder = match env::var("RUFFLESQUASH_LIB") {
         Ok(folder) => PathBuf::from(folder),
-        Err(_) => here.with_file_name("target").join("staticlib"),
+        Err(_) => here.with_file_name("crates").join(LIBRARY).join("out"),
     };
     let archive = folder.join(format!("lib{LIBRARY}.a"));
     let name = archive.display().to_string();

@@ -14,7 +14,7 @@ impl fmt::Display for WrongArchive {
         let (ours, archive) = (ffi::ABI, self.archive);
         write!(
             f,
-            "libffi_export.a has interface {archive}, this crate {ours}: build it anew with `rt staticlib ffi_export`, from the crate's own sources"
+            "libffi_export.a has interface {archive}, this crate {ours}: build it anew with `rt lib` in crates/ffi_export, from the crate's own sources"
         )
     }
 }
@@ -52,7 +52,7 @@ mod tests {
         assert_eq!(check_archive(), Ok(()));
         for other in [0, ffi::ABI - 1, ffi::ABI + 1, u64::MAX] {
             let line = compared(other).unwrap_err().to_string();
-            assert!(line.contains(&format!("interface {other}, this crate {}", ffi::ABI)) && line.contains("rt staticlib ffi_export"), "{line}");
+            assert!(line.contains(&format!("interface {other}, this crate {}", ffi::ABI)) && line.contains("`rt lib` in crates/ffi_export"), "{line}");
         }
     }
 }

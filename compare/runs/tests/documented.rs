@@ -24,7 +24,7 @@ fn answer(mut side: impl Leaves, kind: u8, room: usize, input: &[u8]) -> String 
 
 /// The program `test_leaves`.
 fn project_in(kind: u8, room: usize, input: &[u8]) -> String {
-    let beside = PathBuf::from(env!("CARGO_MANIFEST_DIR")).join("../../target/bin/test_leaves");
+    let beside = PathBuf::from(env!("CARGO_MANIFEST_DIR")).join("../../crates/test_leaves/out/test_leaves");
     answer(Program { path: std::env::var_os("LEAVES").map_or(beside, PathBuf::from) }, kind, room, input)
 }
 

@@ -1,5 +1,5 @@
 -- Where a message is at hand and its four steps apply, they do one by one what is done at once.
-use Rattle.std.proofs.Common.{◌≡◌, ℕ, ◌+◌, ◌-◌, ◌<◌, ◌≤◌, min, Bool, true, false, eqb, ltb, List, [], ◌∷◌, length, get_or, take, drop, ℤ, sym, refl, ap, ◌∙◌, arith, length-drop, take-append-drop, length-take-le, take_all, get_or-take, drop-drop, take_at, ltb-false, ltb-true, le-ltb, lt-ltb, eq-eqb, eqb-true, le-leb, leb-false}
+use Rattle.std.proofs.Common.{◌≡◌, ℕ, ◌+◌, ◌-◌, ◌<◌, ◌≤◌, min, Bool, true, false, eqb, ltb, List, [], ◌∷◌, length, get_or, take, drop, ℤ, sym, refl, ap, ◌∙◌, arith, length-drop, take-append-drop, length-take-le, take_all, get_or-take, take_at, ltb-false, ltb-true, le-ltb, lt-ltb, eqb-true, le-leb, leb-false}
 use lib.ListN.{get_or-append}
 use lib.Seq.{drop-append-le}
 use borrow.Author.Tests.{eqb-false, not-true}
@@ -9,7 +9,7 @@ use Rattle.wire.proofs.Laws.{by_test, impossible, length_put, tail_whole}
 use Rattle.frames.specs.Message.{length_field}
 use Rattle.frames.proofs.Front.{length_field_append}
 use Rattle.framing.specs.declared.MessageReader.{MessageReader}
-use Rattle.framing.specs.Read.{Said, whole, fresh, at_byte, Result, after_taking, limit_of, payload_of, judged_of, header_of, read_of}
+use Rattle.framing.specs.Read.{whole, fresh, at_byte, Result, after_taking, limit_of, payload_of, judged_of, header_of, read_of}
 use Rattle.frames.specs.Tag.{is_copy_data}
 use Rattle.framing.proofs.Laws as L
 use Rattle.lsn.specs.declared.Lsn.{Lsn}
@@ -30,8 +30,8 @@ use Rattle.worker.specs.declared.State.TheVariants.{Opening, Turn, Drain, Readin
 use Rattle.worker.specs.Answer.{lent}
 use Rattle.worker.specs.Events.{data_gives}
 use Rattle.worker.specs.Events as E
-use Rattle.worker.specs.Run.{lsn, whole_of, run, with_state, with_reader, with_drained, with_whole, with_metrics, accepted}
-use Rattle.worker.specs.Step.{Outcome, Lent, handing, moved, having, is_ended, bad_moment, reaches, reading_by, reading_of, drain_of, given_of, copy_data_by, handling_of, first_offer_by, offering_of, offers, offers_at, is_stopped_at, step_in, step_of}
+use Rattle.worker.specs.Run.{lsn, whole_of, with_state, with_reader, with_drained, with_whole, with_metrics, accepted}
+use Rattle.worker.specs.Step.{Outcome, Lent, handing, moved, having, is_ended, bad_moment, reaches, reading_by, reading_of, drain_of, given_of, copy_data_by, handling_of, first_offer_by, offering_of, offers, is_stopped_at, step_in, step_of}
 use Rattle.advance.specs.declared.at_hand.AtHand.{AtHand}
 use Rattle.advance.specs.Advance.{tells, lent_after, after, twice, advance_of}
 use Rattle.advance.specs.AtHand.{at_hand, within, whole_at, by_given, by_copy_data, copy_data_at_hand, at_hand_of, is_drain, is_free, is_between, has_room_for, applies_of, handed_run, handed_of, HandsOnAtOnce, OthersAreLeft}

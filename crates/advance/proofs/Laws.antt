@@ -1,5 +1,5 @@
 -- A payload by its letter, and an XLogData by its fields.
-use Rattle.std.proofs.Common.{◌≡◌, ℕ, ◌+◌, ◌-◌, ◌<◌, ◌≤◌, eqb, ltb, List, [], ◌∷◌, length, get_or, drop, ℤ, sym, refl, ap, ◌∙◌, arith, length-drop, drop-drop, ltb-false, ltb-true, le-ltb, lt-ltb, eq-eqb, ne_eqb}
+use Rattle.std.proofs.Common.{◌≡◌, ℕ, ◌+◌, ◌-◌, ◌<◌, ◌≤◌, eqb, ltb, List, [], ◌∷◌, length, get_or, drop, ℤ, sym, refl, arith, length-drop, drop-drop, ltb-false, ltb-true, le-ltb, lt-ltb, eq-eqb, ne_eqb}
 use mathlib.Core.Option.{some, none}
 use Rattle.wire.specs.Bytes.{at, be}
 use Rattle.wire.specs.Field.{field_at}
@@ -8,7 +8,6 @@ use Rattle.wire.proofs.Laws.{by_test, impossible}
 use Rattle.wire.proofs.FieldLaws.{field_whole, int_whole, int_within}
 use Rattle.replication.specs.CopyData.{xlog_of, keep_alive_of, copy_data_of}
 use Rattle.replication.specs.CopyData as C
-use Rattle.advance.specs.declared.at_hand.AtHand.{AtHand}
 use Rattle.advance.specs.AtHand.{nothing, by_copy_data, copy_data_at_hand}
 
 -- a field that is cut, and one that is not

@@ -1,13 +1,12 @@
 -- Steps made together are steps one after another.
-use Rattle.std.proofs.Common.{◌≡◌, ℕ, ◌+◌, ◌<◌, ◌≤◌, Bool, true, false, eqb, ltb, List, drop, sym, refl, ap, ◌∙◌, arith, drop-drop, ltb-false, ltb-true, eq-eqb, eqb-true}
-use Rattle.wire.specs.Bytes.{pick}
+use Rattle.std.proofs.Common.{◌≡◌, ℕ, ◌+◌, ◌<◌, true, false, eqb, ltb, List, drop, sym, refl, ap, ◌∙◌, arith, drop-drop, ltb-false, ltb-true, eq-eqb, eqb-true}
 use Rattle.wire.proofs.Laws.{by_test, impossible}
 use Rattle.worker.specs.declared.Input.{Input}
 use Rattle.worker.specs.declared.Run.{Run}
 use Rattle.worker.specs.Answer.{lent}
 use Rattle.worker.specs.Events as E
 use Rattle.worker.specs.Step.{Lent, Outcome, step_of}
-use Rattle.advance.specs.Advance.{is_nothing, tells, lent_after, after, twice, advance_of}
+use Rattle.advance.specs.Advance.{is_nothing, tells, lent_after, after, twice}
 use Rattle.advance.specs.Steps.{Quiet, Several, one, more, UpTo, AdvanceIsSteps}
 
 -- ---- quiet is to tell nothing

@@ -1,8 +1,8 @@
 -- The parts of an answered event lie in the payload buffer, and an event whose parts do is answered as it is.
 use mathlib.Core.Path.{◌≡◌, refl}
-use Prim.Native.Nat.{ℕ, ◌-◌, min}
+use Prim.Native.Nat.{ℕ, min}
 use native.Mathlib.Omega.{arith}
-use Rattle.worker.specs.Events.{Said, nothing, keep_alive, begin, commit, message, xlog_data, stopped_at}
+use Rattle.worker.specs.Events.{nothing, keep_alive, begin, commit, message, xlog_data, stopped_at}
 use Rattle.ffi_words.specs.Step.{length_in, PartWithin, ClippedIsWithin, WithinIsUnchanged}
 
 part_within : (n from len : ℕ) → PartWithin n (min from n) (length_in n from len)

@@ -24,7 +24,7 @@ use Rattle.worker.specs.declared.State.TheVariants.{Opening, Turn, Drain, Readin
 use Rattle.worker.specs.declared.Whole.{Whole}
 use Rattle.worker.specs.Events.{said_by}
 use Rattle.worker.specs.Run.{state_number, last_status, whole_of, offer, run}
-use Rattle.ffi_words.specs.Words.{flag_of, byte_of, state_of, event_of, event_with_parts, event_words, settings_of, settings_words, HeaderFits, EventFits, CellRoundTrip, ReaderRoundTrip, RoundTrip}
+use Rattle.ffi_words.specs.Words.{flag_of, byte_of, state_of, event_of, event_with_parts, event_words, settings_of, settings_words, EventFits, CellRoundTrip, ReaderRoundTrip, RoundTrip}
 
 flag_back : (b : Bool) → flag_of (flag_word b) ≡ b
 flag_back true = refl

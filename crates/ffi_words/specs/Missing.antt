@@ -1,5 +1,5 @@
 -- Words are lent as arrays of a fixed length, and every list is read: words that are not there count as 0. SCOPE 9.1.
-use Rattle.std.specs.Prelude.{◌≡◌, List, [], ℕ, replicate}
+use Rattle.std.specs.Prelude.{◌≡◌, [], replicate}
 use Rattle.ffi_words.specs.Words.{settings_of, reader_of, cell_of, run_of, header_words, seven_of}
 
 pub record MissingWords : Type 0 where

@@ -2,20 +2,20 @@
 use mathlib.Core.Path.{◌≡◌, refl, sym, ap, ◌∙◌}
 use mathlib.Core.Bool.{Bool, true, false}
 use mathlib.Core.List.{List, [], ◌∷◌, ◌++◌, append-nil}
-use mathlib.Core.Logic.{◌⊎◌, inl, inr}
+use mathlib.Core.Logic.{inl, inr}
 use Prim.Native.Nat.{ℕ, ◌≤◌, ◌<◌, max}
 use native.Mathlib.Omega.{arith}
 use lib.ListN.{length}
-use lib.Dec.{eqb, ltb, leb}
+use lib.Dec.{eqb, leb}
 use borrow.Author.Tests.{le-leb, lt-leb, lt-ltb, le-ltb, eqb-true, eqb-false, leb-true, leb-false}
 use Rattle.wire.specs.Bytes.{pick}
 use Rattle.wire.proofs.Laws.{by_test, impossible}
 use Rattle.touched.specs.Touched.{has_no_file}
 use Rattle.ledger.specs.declared.Entry.{Entry}
 use Rattle.ledger.specs.Ledger.{entry, bit_for, undone_for}
-use Rattle.ledger.specs.History.{Event, keepalive, begin, commit, message, other, stopped, Call, streams, tells, does, does_all, History}
+use Rattle.ledger.specs.History.{keepalive, begin, commit, message, other, stopped, Call, streams, tells, does, does_all, History}
 use Rattle.ledger.specs.History.{start_in, open_in, seen_in, stable_in, largest_in, done_in, touches_in, entries_in, entries_after, held_in, held_now, undone_now}
-use Rattle.ledger.specs.History.{first_undone, from_held, answer_in, entry_refusal, event_refusal, refusal_in}
+use Rattle.ledger.specs.History.{first_undone, answer_in, entry_refusal, refusal_in}
 use Rattle.ledger.specs.Stands.{answers_in, history_after, read_by}
 use Rattle.ledger.specs.Laws.{Accepted, Covered, EntryIn, Within, AnswerLaws, KeepaliveLaws, RefusalLaws}
 use Rattle.ledger.proofs.ListLaws.{first_held}
@@ -41,11 +41,11 @@ pub accepted_after : (p cap mark : ℕ) (es : List (ℕ × ℕ)) (c : Call) (h :
 accepted_after p cap mark es c h a =
     by_test (eqb (answers_in p es cap mark c h) 0) (λ t. rw t (answers_taken p cap mark es c h (eqb-true _ _ t), a)) (λ t. rw t a)
 
-accepted_calls : (p cap mark : ℕ) (es : List (ℕ × ℕ)) (cs : List Call) (h : History) → Accepted p es cap h
+accepted_calls : (p cap : ℕ) (es : List (ℕ × ℕ)) (cs : List Call) (mark : ℕ) (h : History) → Accepted p es cap h
     → Accepted p es cap (read_by p es cap cs (mark, h)).1
 unfolding read_by
-accepted_calls p cap mark es [] h a = a
-accepted_calls p cap mark es (c ∷ cs) h a = accepted_calls p cap _ es cs _ (accepted_after p cap mark es c h a)
+accepted_calls p cap es [] mark h a = a
+accepted_calls p cap es (c ∷ cs) mark h a = accepted_calls p cap es cs _ _ (accepted_after p cap mark es c h a)
 
 -- ---- an entry's end is above S before it, where it is above the start
 
@@ -166,7 +166,7 @@ never_falls p f es (does_all q) h w =
 pub answer_laws : AnswerLaws
 answer_laws =
     record {
-      accepted = λ p cap es cs. accepted_calls p cap 0 es cs [] tt;
+      accepted = λ p cap es cs. accepted_calls p cap es cs 0 [] tt;
       done_before = done_before;
       undone_holds = undone_below;
       at_most_stable = at_most;

@@ -1,30 +1,30 @@
 -- The packed memory beside the former one: a step of the one is a step of the other.
 use mathlib.Core.Path.{◌≡◌, refl, sym, ap, subst, ◌∙◌}
 use mathlib.Core.Bool.{Bool, true, false}
-use mathlib.Core.List.{List, [], ◌∷◌, map}
-use mathlib.Core.Option.{Option, some, none}
+use mathlib.Core.List.{List, [], ◌∷◌}
+use mathlib.Core.Option.{some, none}
 use mathlib.Core.Logic.{◌⊎◌, inl, inr}
-use Prim.Native.Nat.{ℕ, zero, suc, ◌+◌, ◌*◌, ◌-◌, ◌<◌, ◌≤◌, ◌^◌, min, max}
+use Prim.Native.Nat.{ℕ, ◌+◌, ◌*◌, ◌<◌, ◌≤◌, min}
 use native.Mathlib.Omega.{arith}
-use lib.ListN.{length, take, drop, get_or, replicate, length-take, length-append, length-replicate}
+use lib.ListN.{length, take, drop, replicate, length-take, length-append, length-replicate}
 use lib.Seq.{take-append_seam}
 use lib.Dec.{eqb, leb, ltb}
 use lib.Pow.{are_bytes}
-use borrow.Author.Tests.{leb-true, leb-false, le-leb, lt-leb, ltb-true, ltb-false}
+use borrow.Author.Tests.{leb-false, lt-leb, ltb-true, ltb-false}
 use Rattle.wire.specs.Bytes.{pick}
 use Rattle.wire.proofs.Laws.{impossible, by_test}
 use Rattle.rows.specs.Layout.{All}
-use Rattle.rows.specs.Rows.{Described, described, Row, relation, type, origin, insert, update, update_from, delete, truncate, Said, row, no_row, refused_by, row_said}
+use Rattle.rows.specs.Rows.{Described, Row, relation, type, origin, insert, update, update_from, delete, truncate, Said, row, no_row, refused_by, row_said}
 use Rattle.rows.specs.RowLayout.{DescribedFits, RowFits}
 use Rattle.rows.specs.Head.{Answer, head, head_of, answer_of, refusal}
 use Rattle.rows.proofs.Sent.{read_is_sent}
 use Rattle.relations.specs.Cache.{fits, judged, answered}
-use Rattle.relations.specs.Memory.{Memory, held_ids, slot_in, count_at, count_in, cache_of, relations_from, judged_by, stored as former_stored, leaves as former_leaves, message_of as former_message, emptied as former_emptied}
-use Rattle.relations.specs.Answers.{Told, related_of, column_told as former_told}
-use Rattle.relations.specs.Laws.{Sized, named, nth, column_among, answers_on as former_answers, memory_after as former_after}
-use Rattle.relations.proofs.Held.{place_most, slot_unfound, length_relations}
+use Rattle.relations.specs.Memory.{Memory, held_ids, slot_in, count_at, count_in, cache_of, judged_by, stored as former_stored, leaves as former_leaves, message_of as former_message, emptied as former_emptied}
+use Rattle.relations.specs.Answers.{related_of, column_told as former_told}
+use Rattle.relations.specs.Laws.{named, answers_on as former_answers, memory_after as former_after}
+use Rattle.relations.proofs.Held.{slot_unfound, length_relations}
 use Rattle.relations.proofs.Theorems.{emptied_sized, emptied_holds, lookups}
-use Rattle.packed_relations.specs.Packed.{Packed, words_of, packed, emptied, common, room_in, new_lens, has_room_for, judged_in, leaves, message_of, told_among, column_told}
+use Rattle.packed_relations.specs.Packed.{Packed, emptied, common, room_in, new_lens, has_room_for, judged_in, leaves, message_of, told_among, column_told}
 use Rattle.packed_relations.specs.Laws.{answers_on, memory_after, AllBytes, NoneCrowded, Roomy, cache_names, AnswersAlike, LookupsAlike, NamesLie, BehindStays, Crowded, Uncrowded, ToldWithin, RefusedLeavesAll}
 use Rattle.packed_relations.proofs.Leaves.{same_answered}
 use Rattle.packed_relations.proofs.Says.{SlotsSay, slots_look, ids_of}

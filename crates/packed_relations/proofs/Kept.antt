@@ -1,25 +1,24 @@
 -- A Relation that is stored: the words and names say what is held then.
 use mathlib.Core.Path.{◌≡◌, refl, sym, ap, subst, ◌∙◌}
-use mathlib.Core.Bool.{Bool, true, false}
-use mathlib.Core.List.{List, [], ◌∷◌, ◌++◌, map, append_assoc, append-nil}
+use mathlib.Core.Bool.{true, false}
+use mathlib.Core.List.{List, [], ◌∷◌, ◌++◌, map, append_assoc}
 use mathlib.Core.Logic.{◌⊎◌, inl, inr}
-use Prim.Native.Nat.{ℕ, zero, suc, ◌+◌, ◌*◌, ◌-◌, ◌<◌, ◌≤◌, ◌^◌, min, max}
+use Prim.Native.Nat.{ℕ, suc, ◌+◌, ◌*◌, ◌-◌, ◌<◌, ◌≤◌, min}
 use native.Mathlib.Omega.{arith}
-use lib.ListN.{length, take, drop, get_or, set, length-take, length-drop, length-append, length-set, length-map}
+use lib.ListN.{length, take, drop, get_or, set, length-take, length-drop, length-append, length-map}
 use lib.Seq.{get_or-set_same, get_or-set_other, take_at, drop_at, take-append-le, take-take, drop-append_seam}
-use lib.IntN.{ℤ}
-use lib.Dec.{eqb, leb}
+use lib.Dec.{leb}
 use borrow.Author.Tests.{le-leb, lt-leb, leb-true}
-use Rattle.wire.specs.Bytes.{pick, at, put, placed}
-use Rattle.wire.proofs.Laws.{impossible, by_test, put_none, put_next, length_put}
+use Rattle.wire.specs.Bytes.{at, put, placed}
+use Rattle.wire.proofs.Laws.{impossible, put_none, put_next, length_put}
 use Rattle.rows.specs.Layout.{All}
 use Rattle.rows.specs.Rows.{Described, described}
 use Rattle.rows.specs.RowLayout.{DescribedFits}
-use Rattle.relations.specs.Cache.{Column, column_of, Cache, superseded, is_key, names_fit, fits}
+use Rattle.relations.specs.Cache.{Column, column_of, Cache, is_key, names_fit, fits}
 use Rattle.column_word.specs.Word.{word_of}
 use Rattle.relations.specs.Memory.{Memory, held_ids, slot_in, relations_from, cache_of, count_at, place_of, stored as former_stored}
 use Rattle.relations.specs.Laws.{Sized}
-use Rattle.relations.proofs.Leaves.{fits_few, name_short}
+use Rattle.relations.proofs.Leaves.{fits_few}
 use Rattle.relations.proofs.Held.{length_relations, stored_sized, stored_supersedes}
 use Rattle.packed_relations.specs.Packed.{Words, Packed, words_of, packed, room_in, held_slots, next_slot, lens_before, own_lens, later_lens, new_lens, slot_lens, lie_in, has_room_for, word_column, place_slots, moved, store_words, stored}
 use Rattle.packed_relations.specs.Laws.{column_names, cache_names}

@@ -1,11 +1,11 @@
 -- Bytes moved within a list, one at a time.
-use mathlib.Core.Path.{◌≡◌, refl, sym, ap, ◌∙◌}
+use mathlib.Core.Path.{◌≡◌, sym, ap, ◌∙◌}
 use mathlib.Core.List.{List, [], ◌∷◌, ◌++◌, append_assoc}
-use Prim.Native.Nat.{ℕ, zero, suc, ◌+◌, ◌-◌, ◌<◌, ◌≤◌, min}
+use Prim.Native.Nat.{ℕ, suc, ◌+◌, ◌-◌, ◌<◌, ◌≤◌}
 use native.Mathlib.Omega.{arith}
 use native.Mathlib.Numerals.{add-one}
 use lib.ListN.{length, take, drop, get_or, set, length-take, length-drop, length-append, take-append-drop}
-use lib.Seq.{take-suc, drop-cons, get_or-drop, get_or-take, get_or-append-add, set_at, take_at, take-append-le, drop-drop}
+use lib.Seq.{take-suc, drop-cons, get_or-drop, get_or-take, get_or-append-add, set_at, take_at, drop-drop}
 use Rattle.wire.specs.Bytes.{at, put}
 use Rattle.wire.proofs.Laws.{put_none}
 

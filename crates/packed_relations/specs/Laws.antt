@@ -5,7 +5,7 @@ use Rattle.std.proofs.Math.Pow.{are_bytes}
 use Rattle.rows.specs.Rows.{Described, relation, Said, row, row_said}
 use Rattle.rows.specs.Head.{Answer, head, head_of, refusal}
 use Rattle.relations.specs.Cache.{Column, column, Cache}
-use Rattle.relations.specs.Memory.{Memory, cache_of, count_in, message_of as former_message, emptied as former_emptied}
+use Rattle.relations.specs.Memory.{cache_of, count_in, message_of as former_message, emptied as former_emptied}
 use Rattle.relations.specs.Answers.{column_told as former_told}
 use Rattle.relations.specs.Laws.{Within, named, answers_on as former_answers, memory_after as former_after}
 use Rattle.packed_relations.specs.Packed.{Packed, emptied, common, message_of, column_told}

@@ -1,5 +1,5 @@
 -- Packed columns, stored, moved and told, on literal words and messages. Document 02, wish 12.
-use Rattle.std.specs.Prelude.{◌≡◌, true, false, List, [], ◌∷◌, ℕ}
+use Rattle.std.specs.Prelude.{◌≡◌, true, false, [], ◌∷◌}
 use Rattle.rows.specs.Rows.{row_said}
 use Rattle.rows.specs.RowCases.{a_relation}
 use Rattle.rows.specs.Head.{refusal}

@@ -1,5 +1,5 @@
 -- What a caller sees of the packed memory after any messages, by the laws of the plain one. Document 02, wish 12; SCOPE 17.
-use Rattle.std.specs.Prelude.{◌≡◌, true, List, [], ℕ, ◌≤◌, length}
+use Rattle.std.specs.Prelude.{◌≡◌, true, List, ℕ, ◌≤◌, length}
 use Rattle.std.proofs.Math.Option.{none}
 use Rattle.std.proofs.Math.Pow.{are_bytes}
 use Rattle.rows.specs.Rows.{row_said}

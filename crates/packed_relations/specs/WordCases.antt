@@ -1,5 +1,5 @@
 -- Words of a relation cache literally; what each word means over all values stands in crate `thm_word_meaning`. SCOPE 9.10.
-use Rattle.std.specs.Prelude.{◌≡◌, refl, true, false, List, [], ◌∷◌, ℕ}
+use Rattle.std.specs.Prelude.{◌≡◌, refl, true, false, [], ◌∷◌}
 use Rattle.std.proofs.Math.Option.{some, none}
 use Rattle.packed_relations.specs.Words.{count_reply, column_words}
 

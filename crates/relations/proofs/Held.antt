@@ -1,21 +1,21 @@
 -- The memory stands for the relations that are held: what is looked up in the one is looked up in the other, and a Relation that is stored
 -- supersedes.
 use mathlib.Core.Path.{◌≡◌, refl, sym, ap, ◌∙◌}
-use mathlib.Core.Bool.{Bool, true, false}
-use mathlib.Core.List.{List, [], ◌∷◌, ◌++◌, map}
-use mathlib.Core.Option.{Option, some, none}
-use Prim.Native.Nat.{ℕ, zero, suc, ◌+◌, ◌*◌, ◌-◌, ◌<◌, ◌≤◌, min, max}
+use mathlib.Core.Bool.{true}
+use mathlib.Core.List.{List, [], ◌∷◌, map}
+use mathlib.Core.Option.{some, none}
+use Prim.Native.Nat.{ℕ, zero, suc, ◌+◌, ◌*◌, ◌<◌, ◌≤◌, min, max}
 use native.Mathlib.Omega.{arith}
-use lib.ListN.{length, take, drop, get_or, set, length-take, length-set, length-map}
+use lib.ListN.{length, take, get_or, set, length-take, length-set}
 use lib.Seq.{get_or-set_same, get_or-set_other}
 use lib.Dec.{eqb, leb, ltb}
-use borrow.Author.Tests.{lt-ltb, le-ltb, ltb-true, ltb-false, le-leb, lt-leb, leb-true, leb-false}
+use borrow.Author.Tests.{ltb-true, ltb-false, lt-leb}
 use Rattle.wire.specs.Bytes.{pick}
 use Rattle.wire.proofs.Laws.{impossible, by_test}
-use Rattle.rows.specs.Rows.{Described, described}
-use Rattle.relations.specs.Cache.{Column, column_of, Cache, columns_of, superseded, counted, is_full, names_fit, fits}
-use Rattle.relations.specs.Memory.{Columns, Memory, memory, place_of, held_ids, slot_in, column_in, columns_from, count_at, relations_from, cache_of, count_in, store_from, stored}
-use Rattle.relations.specs.Laws.{Sized, SizedColumns}
+use Rattle.rows.specs.Rows.{Described}
+use Rattle.relations.specs.Cache.{Column, column_of, columns_of, superseded, counted, is_full, names_fit, fits}
+use Rattle.relations.specs.Memory.{Columns, Memory, place_of, held_ids, slot_in, columns_from, count_at, relations_from, cache_of, count_in, store_from, stored}
+use Rattle.relations.specs.Laws.{Sized}
 use Rattle.relations.proofs.Leaves.{fits_few}
 use Rattle.relations.proofs.Stored.{store_sized, store_before, store_behind, store_there, columns_same}
 

@@ -1,21 +1,19 @@
 -- One message: what its data say decides the answer and what the memory is after it.
-use mathlib.Core.Path.{◌≡◌, refl, sym, ap, ◌∙◌}
-use mathlib.Core.Bool.{Bool, true, false}
+use mathlib.Core.Path.{◌≡◌, refl, sym, ap}
+use mathlib.Core.Bool.{true}
 use mathlib.Core.List.{List, [], ◌∷◌}
-use mathlib.Core.Option.{Option, some, none}
-use Prim.Native.Nat.{ℕ, zero, suc, ◌+◌}
+use mathlib.Core.Option.{some, none}
+use Prim.Native.Nat.{ℕ, ◌+◌}
 use lib.ListN.{length}
-use lib.Dec.{eqb, leb}
+use lib.Dec.{eqb}
 use lib.Pow.{are_bytes}
-use Rattle.wire.specs.Bytes.{pick}
 use Rattle.wire.proofs.Laws.{impossible, by_test}
-use Rattle.rows.specs.Layout.{got}
 use Rattle.rows.specs.Rows.{Described, Row, relation, type, origin, insert, update, update_from, delete, truncate, Said, row, no_row, refused_by, row_said}
 use Rattle.rows.specs.RowLayout.{InTurn}
-use Rattle.rows.specs.Head.{Answer, head, refusal, head_of, answer_of, description_at}
+use Rattle.rows.specs.Head.{head, head_of, answer_of, description_at}
 use Rattle.rows.proofs.Readers.{readers_answer}
-use Rattle.relations.specs.Cache.{judged, answered}
-use Rattle.relations.specs.Memory.{Memory, memory, slot_in, count_in, judged_by, leaves, message_of, described_from}
+use Rattle.relations.specs.Cache.{judged}
+use Rattle.relations.specs.Memory.{Memory, count_in, judged_by, leaves, message_of, described_from}
 use Rattle.relations.specs.Answers.{answer_as, related_of, head_judged}
 
 -- a row that changes nothing

@@ -19,7 +19,7 @@ use Rattle.rows.specs.Rows.{no_row, refused_by, row_said}
 use Rattle.rows.specs.Head.{Answer, head, none as no_answer, refusal, head_of, answer_of}
 use Rattle.rows.proofs.Sent.{sent_is_read}
 use Rattle.rows.proofs.Tells.{first_byte}
-use Rattle.relations.specs.Cache.{Column, column, column_of, is_key, Cache, columns_of, superseded, counted, is_full, names_fit, fits}
+use Rattle.relations.specs.Cache.{Column, column_of, is_key, Cache, columns_of, superseded, counted, is_full, names_fit, fits}
 use Rattle.relations.specs.Cache.{matches, first_of, judged, judged_in, after, took}
 use Rattle.relations.specs.Memory.{Memory, held_ids, cache_of, message_of, emptied}
 use Rattle.relations.specs.Laws.{Sized, memory_after, cache_after, nth, column_among}

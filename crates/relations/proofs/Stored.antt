@@ -1,18 +1,18 @@
 -- What is stored in the columns, and what stays of the others.
 use mathlib.Core.Path.{◌≡◌, refl, sym, ap, ◌∙◌}
-use mathlib.Core.Bool.{Bool, true, false}
+use mathlib.Core.Bool.{true}
 use mathlib.Core.List.{List, [], ◌∷◌, ◌++◌, map, append_assoc}
-use Prim.Native.Nat.{ℕ, zero, suc, ◌+◌, ◌*◌, ◌-◌, ◌<◌, ◌≤◌, min, max}
+use Prim.Native.Nat.{ℕ, zero, suc, ◌+◌, ◌*◌, ◌-◌, ◌<◌, ◌≤◌, min}
 use native.Mathlib.Omega.{arith}
-use lib.ListN.{length, take, drop, get_or, set, length-take, length-drop, length-append, length-set}
+use lib.ListN.{length, take, drop, get_or, length-take, length-drop, length-append, length-set}
 use lib.Seq.{drop-append-le, take-append-le, drop-append-add, drop-append_seam, take-append_seam, drop-drop, get_or-set_same, get_or-set_other}
 use lib.Dec.{eqb, leb}
 use borrow.Author.Tests.{eqb-true, eqb-false, le-leb, leb-true, leb-false}
-use Rattle.wire.specs.Bytes.{pick, at, put, placed}
-use Rattle.wire.proofs.Laws.{part_of_front, length_put, impossible, by_test}
+use Rattle.wire.specs.Bytes.{at, put, placed}
+use Rattle.wire.proofs.Laws.{part_of_front, length_put, by_test}
 use Rattle.rows.specs.Rows.{Described, described}
-use Rattle.relations.specs.Cache.{Column, column, column_of, is_key, names_fit}
-use Rattle.relations.specs.Memory.{Columns, columns, column_in, columns_from, store_column, store_from}
+use Rattle.relations.specs.Cache.{column, column_of, is_key, names_fit}
+use Rattle.relations.specs.Memory.{Columns, column_in, columns_from, store_column, store_from}
 use Rattle.relations.specs.Laws.{SizedColumns}
 use Rattle.relations.proofs.Leaves.{name_short}
 

@@ -1,21 +1,21 @@
 -- What the cache is for, over any list of messages.
 use mathlib.Core.Path.{◌≡◌, refl, sym, ap, ◌∙◌}
-use mathlib.Core.Bool.{Bool, true, false}
+use mathlib.Core.Bool.{Bool}
 use mathlib.Core.List.{List, [], ◌∷◌, map}
 use mathlib.Core.Option.{Option, some, none}
-use Prim.Native.Nat.{ℕ, zero, suc, ◌+◌, ◌*◌, ◌<◌, ◌≤◌, min}
+use Prim.Native.Nat.{ℕ, zero, suc, ◌+◌, ◌*◌, ◌<◌, ◌≤◌}
 use native.Mathlib.Omega.{arith}
-use lib.ListN.{length, get_or, length-take, length-replicate}
+use lib.ListN.{length, length-take, length-replicate}
 use lib.Dec.{eqb, leb, ltb}
-use borrow.Author.Tests.{eq-eqb, eqb-true, eqb-false, lt-leb, le-leb, leb-true, leb-false, ltb-true, ltb-false}
-use Rattle.wire.specs.Bytes.{pick, at}
+use borrow.Author.Tests.{eq-eqb, eqb-true, eqb-false, lt-leb, leb-true, leb-false, ltb-true, ltb-false}
+use Rattle.wire.specs.Bytes.{pick}
 use Rattle.wire.proofs.Laws.{impossible, by_test}
-use Rattle.rows.specs.Rows.{Described, Row, relation, type, origin, insert, update, update_from, delete, truncate, Said, row, no_row, refused_by, row_said}
-use Rattle.rows.specs.Head.{Answer, head, refusal, answer_of}
-use Rattle.relations.specs.Cache.{Column, column, column_of, Cache, columns_of, superseded, counted, is_full, fits, matches, first_of, judged, answered, judged_in, after, took}
-use Rattle.relations.specs.Memory.{Columns, Memory, slot_in, column_in, columns_from, count_at, cache_of, count_in, stored, judged_by, leaves, message_of, emptied, held_ids, relations_from}
-use Rattle.relations.specs.Answers.{Told, column_told, column_span, told_among}
-use Rattle.relations.specs.Laws.{Sized, SizedColumns, answers_on, memory_after, said_on, cache_after, StandsFor, FromEmpty, RefusedLeavesAll, named, Within, nth, column_among, Lookups, last_of, LastNotRefused, Matched, AnsweredRowsMatch, Taken, TakenIsAnswered}
+use Rattle.rows.specs.Rows.{Row, relation, type, origin, insert, update, update_from, delete, truncate, Said, row, no_row, refused_by, row_said}
+use Rattle.rows.specs.Head.{Answer, refusal, answer_of}
+use Rattle.relations.specs.Cache.{Column, column_of, Cache, columns_of, superseded, counted, is_full, fits, matches, first_of, judged, answered, judged_in, after, took}
+use Rattle.relations.specs.Memory.{Columns, Memory, slot_in, column_in, columns_from, count_at, cache_of, count_in, judged_by, leaves, message_of, emptied, held_ids, relations_from}
+use Rattle.relations.specs.Answers.{column_told, told_among}
+use Rattle.relations.specs.Laws.{Sized, answers_on, memory_after, said_on, cache_after, StandsFor, FromEmpty, RefusedLeavesAll, named, Within, nth, column_among, Lookups, last_of, LastNotRefused, Matched, AnsweredRowsMatch, Taken, TakenIsAnswered}
 use Rattle.relations.proofs.Held.{same_count, same_full, slot_found, slot_unfound, stored_sized, stored_supersedes}
 
 -- ---- one message

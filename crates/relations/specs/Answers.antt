@@ -3,7 +3,7 @@ use Rattle.std.specs.Prelude.{Bool, ℕ, ◌+◌, ◌*◌, min, eqb, leb, get_or
 use Rattle.std.proofs.Math.Option.{Option, some, none}
 use Rattle.wire.specs.Bytes.{pick}
 use Rattle.error.specs.Refusal.{usage, protocol}
-use Rattle.rows.specs.Head.{Head, Span, span_of, relation_head, type_head, origin_head, insert_head, update_head, update_from_head, delete_head, truncate_head, head, none as no_head, refusal, answer_by as row_by, Answer as RowAnswer}
+use Rattle.rows.specs.Head.{Span, span_of, relation_head, type_head, origin_head, insert_head, update_head, update_from_head, delete_head, truncate_head, head, none as no_head, refusal, answer_by as row_by, Answer as RowAnswer}
 use Rattle.relations.specs.declared.Refusal.{Refusal}
 use Rattle.relations.specs.declared.Refusal.TheVariants.{CacheFull, TooLarge, Unmatched, NoRoom}
 use Rattle.relations.specs.declared.Answer.{Answer}

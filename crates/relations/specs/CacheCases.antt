@@ -1,10 +1,9 @@
 -- The cache on literal messages. Document 02, wish 4.
 use Rattle.std.specs.Prelude.{◌≡◌, true, false, List, [], ◌∷◌, ℕ, zero, suc, replicate, negsuc}
-use Rattle.std.proofs.Math.Option.{some, none}
-use Rattle.rows.specs.Rows.{Described, described, Row, relation, insert, update_from, truncate, Cell, null, Said, row, refused_by, row_said}
+use Rattle.rows.specs.Rows.{Described, described, relation, insert, update_from, truncate, null, row, refused_by, row_said}
 use Rattle.rows.specs.RowCases.{a_relation}
 use Rattle.rows.specs.declared.Which.TheVariants.{Key}
-use Rattle.relations.specs.Cache.{Column, column, is_key, Cache, columns_of, judged_in, took}
+use Rattle.relations.specs.Cache.{column, is_key, Cache, judged_in, took}
 
 -- n columns with names of k bytes
 abbrev pub wide : ℕ → ℕ → List Described

@@ -1,12 +1,12 @@
 -- The lent memory of a relation cache, and what one call leaves of it. Column c of the relation in slot r has number 32 r + c; the name of column i
 -- stands from byte 63 i on, and what is behind it in its 63 bytes stays as it was. SCOPE 17.
-use Rattle.std.specs.Prelude.{Bool, true, false, List, [], ◌∷◌, map, ℕ, zero, suc, ◌+◌, ◌*◌, min, max, length, take, get_or, set, replicate, eqb, leb, ltb}
+use Rattle.std.specs.Prelude.{List, [], ◌∷◌, ℕ, zero, suc, ◌*◌, min, max, length, take, get_or, set, replicate, eqb, leb, ltb}
 use Rattle.std.proofs.Math.Option.{Option, some, none}
 use Rattle.wire.specs.Bytes.{pick, at, placed}
 use Rattle.rows.specs.Layout.{Read, got, refused}
-use Rattle.rows.specs.Rows.{Described, described, Row, relation, type, origin, insert, update, update_from, delete, truncate, Said, row, no_row, refused_by, row_said}
+use Rattle.rows.specs.Rows.{Described, described, Row, relation, type, origin, insert, update, update_from, delete, truncate, Said, row, no_row, refused_by}
 use Rattle.rows.specs.Head.{Answer, answer_of, description_at}
-use Rattle.relations.specs.Cache.{Column, column, is_key, Cache, judged, answered, matches, fits}
+use Rattle.relations.specs.Cache.{Column, column, is_key, Cache, judged, answered}
 
 -- the columns: of each its type, its flags, its name's length; and the names
 pub record Columns : Type 0 where

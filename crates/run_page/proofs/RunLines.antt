@@ -5,12 +5,11 @@ use Prim.Native.Nat.{ℕ}
 use Rattle.page.specs.PageLines.{LineOf, Lines, state_shown}
 use Rattle.page.proofs.PageLines.{page_has_lines}
 use Rattle.text.specs.Ascii.{ascii}
-use Rattle.worker.specs.declared.Run.{Run}
 use Rattle.worker.specs.declared.State.{State}
 use Rattle.worker.specs.declared.State.TheVariants.{Opening, Turn, Drain, Reading, Waiting, Handling, Offering, Ended}
 use Rattle.worker.specs.Run.{state_number}
 use Rattle.run_page.specs.RunPage.{shown_by}
-use Rattle.run_page.specs.RunLines.{capitals, Numbers64, RunLines, RunHasLines}
+use Rattle.run_page.specs.RunLines.{capitals, RunLines, RunHasLines}
 
 name_is : (s : State) → state_shown (state_number s) ≡ capitals s
 name_is Opening = refl

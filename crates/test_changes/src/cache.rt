@@ -2,6 +2,7 @@
 use crate::words;
 use relations::{Answer, Column, Count};
 use rows::Row;
+use std::io::Stdout;
 use test_lines::fields;
 
 // What a message is told as: the relation of its row, nothing, or a refusal's number.
@@ -120,6 +121,7 @@ fn one(
 
 // The messages in turn. What is told of one is printed before the next, since a line can be longer than its input.
 fn each(
+    stdout: Stdout,
     line: &mut [u8],
     held: &mut u64,
     ids: &mut [u32; 64],
@@ -148,7 +150,7 @@ fn each(
             names,
             &input[begin..end],
         );
-        test_lines::print(line, used);
+        test_lines::print(stdout, line, used);
         from = 0;
         at = end;
     }
@@ -156,7 +158,7 @@ fn each(
 }
 
 // The length of what is left of the line to print, which begins with its kind; 0 where a message is cut, and nothing is printed.
-pub(crate) fn line_of(line: &mut [u8], input: &[u8]) -> usize {
+pub(crate) fn line_of(stdout: Stdout, line: &mut [u8], input: &[u8]) -> usize {
     if !is_whole(input) {
         return 0;
     }
@@ -166,6 +168,7 @@ pub(crate) fn line_of(line: &mut [u8], input: &[u8]) -> usize {
     let mut columns = [0u64; 2048];
     let mut names = [0u8; 129024];
     let n = each(
+        stdout,
         line,
         &mut held,
         &mut ids,

@@ -7,7 +7,8 @@ mod words;
 
 ghost use Rattle.std.specs.Prelude.{◌≡◌, length};
 
-use test_lines::fields;
+use std::io::{Stdin, Stdout};
+use test_lines::{fields, streams};
 use wire::store::least;
 
 // The longest input of a record.
@@ -54,8 +55,8 @@ fn is_bounded(h: Head) -> bool {
 }
 
 // Whether the input went so far.
-fn read_whole(s: &mut [u8]) -> bool {
-    let got = io::read_full(0, s);
+fn read_whole(stdin: Stdin, s: &mut [u8]) -> bool {
+    let got = streams::read_full(stdin, s);
     got == s.len()
 }
 
@@ -68,7 +69,7 @@ fn ended(line: &mut [u8], at: usize) -> usize {
 }
 
 // The length of the line of a record whose input was read, or 0 where its kind is unknown. A line begins with its kind.
-fn line_of(kind: u8, input: &[u8], line: &mut [u8]) -> usize {
+fn line_of(stdout: Stdout, kind: u8, input: &[u8], line: &mut [u8]) -> usize {
     let head = [kind];
     wire::store::place(line, 0, &head);
     if kind == b'i' {
@@ -76,73 +77,79 @@ fn line_of(kind: u8, input: &[u8], line: &mut [u8]) -> usize {
         return test_lines::end(line, n);
     }
     if kind == b'j' {
-        let m = touched_files::after_events(line, input);
+        let m = touched_files::after_events(stdout, line, input);
         return ended(line, m);
     }
     if kind == b'h' {
-        return cache::line_of(line, input);
+        return cache::line_of(stdout, line, input);
     }
     0
 }
 
 // The same where the input is still to be read.
-fn with_input(h: Head, input: &mut [u8], line: &mut [u8]) -> usize {
+fn with_input(stdin: Stdin, stdout: Stdout, h: Head, input: &mut [u8], line: &mut [u8]) -> usize {
     let n = least(h.input, input.len());
-    if !read_whole(&mut input[0..n]) {
+    if !read_whole(stdin, &mut input[0..n]) {
         return 0;
     }
-    line_of(h.kind, &input[0..n], line)
+    line_of(stdout, h.kind, &input[0..n], line)
 }
 
 // The length of the line of a record whose head was read, or 0 where it is malformed.
-fn answer(head: &[u8], input: &mut [u8], line: &mut [u8]) -> usize {
+fn answer(stdin: Stdin, stdout: Stdout, head: &[u8], input: &mut [u8], line: &mut [u8]) -> usize {
     let h = head_of(head);
     if !is_bounded(h) {
         return 0;
     }
-    with_input(h, input, line)
+    with_input(stdin, stdout, h, input, line)
 }
 
 // A malformed record ends the program.
-fn bad() -> bool {
-    io::write_all(1, b"BAD\n");
+fn bad(stdout: Stdout) -> bool {
+    streams::write_all(stdout, b"BAD\n");
     false
 }
 
 // A line of no byte is that of a malformed record.
-fn told(line: &[u8], n: usize) -> bool {
+fn told(stdout: Stdout, line: &[u8], n: usize) -> bool {
     if n == 0 {
-        return bad();
+        return bad(stdout);
     }
-    test_lines::print(line, n)
+    test_lines::print(stdout, line, n)
 }
 
 // One record; whether to go on.
-fn one_record(head: &mut [u8], input: &mut [u8], line: &mut [u8]) -> bool {
-    let got = io::read_full(0, head);
+fn one_record(
+    stdin: Stdin,
+    stdout: Stdout,
+    head: &mut [u8],
+    input: &mut [u8],
+    line: &mut [u8],
+) -> bool {
+    let got = streams::read_full(stdin, head);
     if got == 0 {
         return false;
     }
     if got < head.len() {
-        return bad();
+        return bad(stdout);
     }
-    let n = answer(head, input, line);
-    told(line, n)
+    let n = answer(stdin, stdout, head, input, line);
+    told(stdout, line, n)
 }
 
 // Records are counted down, since nothing says that an input ends.
-fn run(head: &mut [u8], input: &mut [u8], line: &mut [u8]) {
+fn run(stdin: Stdin, stdout: Stdout, head: &mut [u8], input: &mut [u8], line: &mut [u8]) {
     let mut records: u64 = u64::MAX;
     while records > 0 {
-        let go = one_record(head, input, line);
+        let go = one_record(stdin, stdout, head, input, line);
         records = test_lines::left(records, go);
     }
 }
 
 // The buffers are lent to all that follows.
-fn main() {
+fn main(rt: HostRuntime) {
     let mut head = [0u8; 10];
     let mut input = input_buffer();
     let mut line = line_buffer();
-    run(&mut head, &mut input, &mut line);
+    run(rt.stdin(), rt.stdout(), &mut head, &mut input, &mut line);
 }

@@ -1,4 +1,5 @@
 // The line of a list, bits and events: what each event answers. It can be longer than its buffer, so it is printed in pieces.
+use std::io::Stdout;
 use test_lines::fields;
 use wire::field::U32Field;
 use wire::store::least;
@@ -132,16 +133,17 @@ fn answered(line: &mut [u8], at: usize, refusal: u64, bits: u64) -> usize {
 }
 
 // A piece that is long enough is printed.
-fn printed(line: &[u8], at: usize) -> usize {
+fn printed(stdout: Stdout, line: &[u8], at: usize) -> usize {
     if at < PIECE {
         return at;
     }
-    test_lines::print(line, at);
+    test_lines::print(stdout, line, at);
     0
 }
 
 // The event at a place: the line goes on after its answer, with the bits as it left them.
 fn one_event(
+    stdout: Stdout,
     line: &mut [u8],
     input: &[u8],
     identifiers: &[u32],
@@ -154,7 +156,7 @@ fn one_event(
     let end = start + least(event.len, input.len() - start);
     let data = &input[start..end];
     let reply = touched::words::after_event(identifiers, files, event.kind, data, before.bits);
-    let from = printed(line, before.at);
+    let from = printed(stdout, line, before.at);
     let at = answered(line, from, reply.refusal, reply.bits);
     Turn {
         at,
@@ -164,6 +166,7 @@ fn one_event(
 
 // The events one after the other.
 fn events(
+    stdout: Stdout,
     line: &mut [u8],
     input: &[u8],
     identifiers: &[u32],
@@ -178,7 +181,7 @@ fn events(
         if input.len() <= place {
             return turn.at;
         }
-        turn = one_event(line, input, identifiers, files, place, turn);
+        turn = one_event(stdout, line, input, identifiers, files, place, turn);
         place = place_after(input, place);
         k += 1;
     }
@@ -187,6 +190,7 @@ fn events(
 
 // The list's first n entries are lent.
 fn with_list(
+    stdout: Stdout,
     line: &mut [u8],
     input: &[u8],
     identifiers: &[u32],
@@ -196,11 +200,19 @@ fn with_list(
     bits: u64,
 ) -> usize {
     let m = least(n, least(identifiers.len(), files.len()));
-    events(line, input, &identifiers[0..m], &files[0..m], first, bits)
+    events(
+        stdout,
+        line,
+        input,
+        &identifiers[0..m],
+        &files[0..m],
+        first,
+        bits,
+    )
 }
 
 // The place after the last piece of the line, or 0 where the input is malformed. The line begins with its kind.
-pub(crate) fn after_events(line: &mut [u8], input: &[u8]) -> usize {
+pub(crate) fn after_events(stdout: Stdout, line: &mut [u8], input: &[u8]) -> usize {
     let n = fields::byte(input, 0) as usize;
     let first = 2 + 5 * n;
     if input.len() < first {
@@ -216,5 +228,14 @@ pub(crate) fn after_events(line: &mut [u8], input: &[u8]) -> usize {
     let mut identifiers = [0u32; 255];
     let mut files = [0u64; 255];
     fill(input, &mut identifiers, &mut files);
-    with_list(line, input, &identifiers, &files, n, first, bits as u64)
+    with_list(
+        stdout,
+        line,
+        input,
+        &identifiers,
+        &files,
+        n,
+        first,
+        bits as u64,
+    )
 }

@@ -4,6 +4,7 @@ ghost use Rattle.std.specs.Prelude.{◌≤◌};
 
 use crate::told;
 use error::Refusal;
+use std::io::Stdout;
 
 fn bit(on: bool, v: u64) -> u64
     ensures { result ≤ v }
@@ -19,51 +20,58 @@ fn asked(r: Refusal) -> u64 {
         + bit(r.is_transient(), 16)
 }
 
-fn kind(r: Refusal) -> bool {
+fn kind(output: Stdout, r: Refusal) -> bool {
     let k = r.kind();
-    told(b'K', r.number() as u64, k.number() as u64, asked(r), 0)
+    told(
+        output,
+        b'K',
+        r.number() as u64,
+        k.number() as u64,
+        asked(r),
+        0,
+    )
 }
 
-fn of_calls() {
-    kind(Refusal::IntervalTooLong);
-    kind(Refusal::RunEnded);
-    kind(Refusal::PayloadBufferTooShort);
-    kind(Refusal::OutputTooShort);
-    kind(Refusal::MomentOutOfOrder);
+fn of_calls(output: Stdout) {
+    kind(output, Refusal::IntervalTooLong);
+    kind(output, Refusal::RunEnded);
+    kind(output, Refusal::PayloadBufferTooShort);
+    kind(output, Refusal::OutputTooShort);
+    kind(output, Refusal::MomentOutOfOrder);
 }
 
-fn of_reads() {
-    kind(Refusal::InvalidLength);
-    kind(Refusal::MessageTooLarge);
-    kind(Refusal::EofInHeader);
-    kind(Refusal::EofInPayload);
+fn of_reads(output: Stdout) {
+    kind(output, Refusal::InvalidLength);
+    kind(output, Refusal::MessageTooLarge);
+    kind(output, Refusal::EofInHeader);
+    kind(output, Refusal::EofInPayload);
 }
 
-fn of_messages() {
-    kind(Refusal::EmptyCopyData);
-    kind(Refusal::XLogDataTooShort);
-    kind(Refusal::KeepaliveTooShort);
-    kind(Refusal::UnknownCopyData);
-    kind(Refusal::TruncatedI8);
-    kind(Refusal::TruncatedI32);
-    kind(Refusal::TruncatedI64);
-    kind(Refusal::UnterminatedPrefix);
-    kind(Refusal::ContentTooShort);
+fn of_messages(output: Stdout) {
+    kind(output, Refusal::EmptyCopyData);
+    kind(output, Refusal::XLogDataTooShort);
+    kind(output, Refusal::KeepaliveTooShort);
+    kind(output, Refusal::UnknownCopyData);
+    kind(output, Refusal::TruncatedI8);
+    kind(output, Refusal::TruncatedI32);
+    kind(output, Refusal::TruncatedI64);
+    kind(output, Refusal::UnterminatedPrefix);
+    kind(output, Refusal::ContentTooShort);
 }
 
-fn of_others() {
-    kind(Refusal::ServerError);
-    kind(Refusal::MalformedDataRow);
-    kind(Refusal::AuthRequestTooShort);
-    kind(Refusal::MissingSlash);
-    kind(Refusal::InvalidHighPart);
-    kind(Refusal::InvalidLowPart);
-    kind(Refusal::InputTooLong);
+fn of_others(output: Stdout) {
+    kind(output, Refusal::ServerError);
+    kind(output, Refusal::MalformedDataRow);
+    kind(output, Refusal::AuthRequestTooShort);
+    kind(output, Refusal::MissingSlash);
+    kind(output, Refusal::InvalidHighPart);
+    kind(output, Refusal::InvalidLowPart);
+    kind(output, Refusal::InputTooLong);
 }
 
-pub(crate) fn all() {
-    of_calls();
-    of_reads();
-    of_messages();
-    of_others();
+pub(crate) fn all(output: Stdout) {
+    of_calls(output);
+    of_reads(output);
+    of_messages(output);
+    of_others(output);
 }

@@ -9,6 +9,8 @@ mod rows;
 ghost use Rattle.std.specs.Prelude.{◌≡◌, [], ◌∷◌, ◌++◌};
 ghost use Rattle.test_lines.specs.Line.{pieces, number_texts, end_texts};
 
+use std::io::Stdout;
+
 fn spelled(line: &mut [u8], letter: u8, a: u64, b: u64, c: u64, d: u64) -> usize
     ensures { (result, line.new)
         ≡ pieces line.old 0
@@ -23,15 +25,16 @@ fn spelled(line: &mut [u8], letter: u8, a: u64, b: u64, c: u64, d: u64) -> usize
     test_lines::end(line, i)
 }
 
-pub(crate) fn told(letter: u8, a: u64, b: u64, c: u64, d: u64) -> bool {
+pub(crate) fn told(output: Stdout, letter: u8, a: u64, b: u64, c: u64, d: u64) -> bool {
     let mut line = [0u8; 128];
     let n = spelled(&mut line, letter, a, b, c, d);
-    test_lines::print(&line, n)
+    test_lines::print(output, &line, n)
 }
 
-fn main() {
-    kinds::all();
-    rows::all();
-    folds::all();
-    reads::all();
+fn main(rt: HostRuntime) {
+    let output = rt.stdout();
+    kinds::all(output);
+    rows::all(output);
+    folds::all(output);
+    reads::all(output);
 }

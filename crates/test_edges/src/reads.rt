@@ -1,11 +1,13 @@
 // A reader whose buffer is one byte short for one read, in a header and in a payload: refused with 3, and what was read before is kept.
 use crate::told;
 use framing::{Answer, MessageReader};
+use std::io::Stdout;
 
-fn answer(a: Answer, taken: usize, payload: &[u8]) -> bool {
+fn answer(output: Stdout, a: Answer, taken: usize, payload: &[u8]) -> bool {
     match a {
-        Answer::More => told(b'G', 0, 0, taken as u64, test_lines::sum(payload)),
+        Answer::More => told(output, b'G', 0, 0, taken as u64, test_lines::sum(payload)),
         Answer::Whole(tag, n) => told(
+            output,
             b'G',
             tag as u64,
             n as u64,
@@ -13,6 +15,7 @@ fn answer(a: Answer, taken: usize, payload: &[u8]) -> bool {
             test_lines::sum(payload),
         ),
         Answer::Refused(r) => told(
+            output,
             b'G',
             0,
             r.number() as u64,
@@ -22,10 +25,10 @@ fn answer(a: Answer, taken: usize, payload: &[u8]) -> bool {
     }
 }
 
-fn read(reader: MessageReader, bytes: &[u8], payload: &mut [u8]) -> MessageReader {
+fn read(output: Stdout, reader: MessageReader, bytes: &[u8], payload: &mut [u8]) -> MessageReader {
     let s = reader.read(10, bytes, false, payload);
     let a = s.answer;
-    answer(a, s.taken, payload);
+    answer(output, a, s.taken, payload);
     s.reader
 }
 
@@ -35,28 +38,64 @@ fn filled(short: &mut [u8], payload: &mut [u8]) {
 }
 
 // First some bytes, then the rest with a short buffer.
-fn begun(first: &[u8], rest: &[u8], short: &mut [u8], payload: &mut [u8]) -> MessageReader {
-    let a = read(MessageReader::new(), first, payload);
-    read(a, rest, short)
+fn begun(
+    output: Stdout,
+    first: &[u8],
+    rest: &[u8],
+    short: &mut [u8],
+    payload: &mut [u8],
+) -> MessageReader {
+    let a = read(output, MessageReader::new(), first, payload);
+    read(output, a, rest, short)
 }
 
 // The rest again, and another message.
-fn ended(reader: MessageReader, rest: &[u8], payload: &mut [u8]) -> MessageReader {
-    let a = read(reader, rest, payload);
-    read(a, b"e\x00\x00\x00\x05f", payload)
+fn ended(output: Stdout, reader: MessageReader, rest: &[u8], payload: &mut [u8]) -> MessageReader {
+    let a = read(output, reader, rest, payload);
+    read(output, a, b"e\x00\x00\x00\x05f", payload)
 }
 
-fn parted(first: &[u8], rest: &[u8], short: &mut [u8], payload: &mut [u8]) -> MessageReader {
+fn parted(
+    output: Stdout,
+    first: &[u8],
+    rest: &[u8],
+    short: &mut [u8],
+    payload: &mut [u8],
+) -> MessageReader {
     filled(short, payload);
-    let reader = begun(first, rest, short, payload);
-    ended(reader, rest, payload)
+    let reader = begun(output, first, rest, short, payload);
+    ended(output, reader, rest, payload)
 }
 
-pub(crate) fn all() {
+pub(crate) fn all(output: Stdout) {
     let mut short = [0u8; 9];
     let mut payload = [0u8; 10];
-    parted(b"", b"d\x00\x00\x00\x08wxyz", &mut short, &mut payload);
-    parted(b"d\x00\x00", b"\x00\x08wxyz", &mut short, &mut payload);
-    parted(b"d\x00\x00\x00\x08", b"wxyz", &mut short, &mut payload);
-    parted(b"d\x00\x00\x00\x08wx", b"yz", &mut short, &mut payload);
+    parted(
+        output,
+        b"",
+        b"d\x00\x00\x00\x08wxyz",
+        &mut short,
+        &mut payload,
+    );
+    parted(
+        output,
+        b"d\x00\x00",
+        b"\x00\x08wxyz",
+        &mut short,
+        &mut payload,
+    );
+    parted(
+        output,
+        b"d\x00\x00\x00\x08",
+        b"wxyz",
+        &mut short,
+        &mut payload,
+    );
+    parted(
+        output,
+        b"d\x00\x00\x00\x08wx",
+        b"yz",
+        &mut short,
+        &mut payload,
+    );
 }

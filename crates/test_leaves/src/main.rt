@@ -14,7 +14,8 @@ mod writers;
 
 ghost use Rattle.std.specs.Prelude.{◌≡◌, length};
 
-use test_lines::fields;
+use std::io::{Stdin, Stdout};
+use test_lines::{fields, streams};
 use wire::store::least;
 
 // A line's longest part is the hexadecimal of the lossy text of 65,536 bytes.
@@ -49,8 +50,8 @@ fn is_bounded(h: Head) -> bool {
     h.input <= 65536
 }
 
-fn read_whole(s: &mut [u8]) -> bool {
-    let got = io::read_full(0, s);
+fn read_whole(stdin: Stdin, s: &mut [u8]) -> bool {
+    let got = streams::read_full(stdin, s);
     got == s.len()
 }
 
@@ -61,61 +62,82 @@ fn with_output(h: Head, input: &[u8], out: &mut [u8], line: &mut [u8]) -> usize 
     kinds::line_of(h.kind, input, &mut out[0..room], line)
 }
 
-fn with_input(h: Head, input: &mut [u8], out: &mut [u8], line: &mut [u8]) -> usize {
+fn with_input(stdin: Stdin, h: Head, input: &mut [u8], out: &mut [u8], line: &mut [u8]) -> usize {
     let n = least(h.input, input.len());
-    if !read_whole(&mut input[0..n]) {
+    if !read_whole(stdin, &mut input[0..n]) {
         return 0;
     }
     with_output(h, &input[0..n], out, line)
 }
 
 // The length of the line of a record whose head was read, or 0 where it is malformed.
-fn answer(head: &[u8], input: &mut [u8], out: &mut [u8], line: &mut [u8]) -> usize {
+fn answer(stdin: Stdin, head: &[u8], input: &mut [u8], out: &mut [u8], line: &mut [u8]) -> usize {
     let h = head_of(head);
     if !is_bounded(h) {
         return 0;
     }
-    with_input(h, input, out, line)
+    with_input(stdin, h, input, out, line)
 }
 
-fn bad() -> bool {
-    io::write_all(1, b"BAD\n");
+fn bad(stdout: Stdout) -> bool {
+    streams::write_all(stdout, b"BAD\n");
     false
 }
 
 // A line of no byte is that of a malformed record.
-fn told(line: &[u8], n: usize) -> bool {
+fn told(stdout: Stdout, line: &[u8], n: usize) -> bool {
     if n == 0 {
-        return bad();
+        return bad(stdout);
     }
-    test_lines::print(line, n)
+    test_lines::print(stdout, line, n)
 }
 
 // One record; whether to go on.
-fn one_record(head: &mut [u8], input: &mut [u8], out: &mut [u8], line: &mut [u8]) -> bool {
-    let got = io::read_full(0, head);
+fn one_record(
+    stdin: Stdin,
+    stdout: Stdout,
+    head: &mut [u8],
+    input: &mut [u8],
+    out: &mut [u8],
+    line: &mut [u8],
+) -> bool {
+    let got = streams::read_full(stdin, head);
     if got == 0 {
         return false;
     }
     if got < head.len() {
-        return bad();
+        return bad(stdout);
     }
-    let n = answer(head, input, out, line);
-    told(line, n)
+    let n = answer(stdin, head, input, out, line);
+    told(stdout, line, n)
 }
 
-fn run(head: &mut [u8], input: &mut [u8], out: &mut [u8], line: &mut [u8]) {
+fn run(
+    stdin: Stdin,
+    stdout: Stdout,
+    head: &mut [u8],
+    input: &mut [u8],
+    out: &mut [u8],
+    line: &mut [u8],
+) {
     let mut records: u64 = u64::MAX;
     while records > 0 {
-        let go = one_record(head, input, out, line);
+        let go = one_record(stdin, stdout, head, input, out, line);
         records = test_lines::left(records, go);
     }
 }
 
-fn main() {
+fn main(rt: HostRuntime) {
     let mut head = [0u8; 10];
-    let mut input = io::large_buffer();
-    let mut out = io::large_buffer();
+    let mut input = streams::large_buffer();
+    let mut out = streams::large_buffer();
     let mut line = line_buffer();
-    run(&mut head, &mut input, &mut out, &mut line);
+    run(
+        rt.stdin(),
+        rt.stdout(),
+        &mut head,
+        &mut input,
+        &mut out,
+        &mut line,
+    );
 }

@@ -5,6 +5,7 @@ use crate::rows;
 use framing::MessageReader;
 use lossy::Lossy;
 use query::simple::{Answer, SimpleQuery, Step};
+use test_lines::streams;
 use wire::store::least;
 
 // Where the line goes on, and whether the query does.
@@ -196,8 +197,8 @@ fn play(line: &mut [u8], from: usize, bytes: &[u8], payload: &mut [u8], error: &
 }
 
 pub(crate) fn simple(line: &mut [u8], input: &[u8]) -> usize {
-    let mut payload = io::large_buffer();
-    let mut error = io::large_buffer();
+    let mut payload = streams::large_buffer();
+    let mut error = streams::large_buffer();
     let a = wire::store::place(line, 1, b" ");
     play(line, a, input, &mut payload, &mut error)
 }

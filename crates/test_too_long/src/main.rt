@@ -7,6 +7,8 @@ mod writers;
 
 ghost use Rattle.std.specs.Prelude.{◌≡◌, length};
 
+use std::io::Stdout;
+
 // One byte more than the inputs of a call may have together.
 fn names() -> [u8; 1048577]
     ensures { 1048577 ≡ length result }
@@ -21,14 +23,14 @@ fn room() -> [u8; 1048832]
     [0; 1048832]
 }
 
-fn all(bytes: &[u8], short: &mut [u8], long: &mut [u8]) {
-    opens::all(bytes, short, long);
-    writers::all(bytes, short, long);
+fn all(output: Stdout, bytes: &[u8], short: &mut [u8], long: &mut [u8]) {
+    opens::all(output, bytes, short, long);
+    writers::all(output, bytes, short, long);
 }
 
-fn main() {
+fn main(rt: HostRuntime) {
     let bytes = names();
     let mut short = [0u8; 256];
     let mut long = room();
-    all(&bytes, &mut short, &mut long);
+    all(rt.stdout(), &bytes, &mut short, &mut long);
 }

@@ -1,6 +1,7 @@
 // The lines: a name, the refusal, how many bytes were written, and the sum of the output.
 use error::Written;
 use lossy::Lossy;
+use std::io::Stdout;
 
 fn line(line: &mut [u8], name: &[u8], refusal: u8, written: usize, out: &[u8]) -> usize {
     let a = wire::store::place(line, 0, name);
@@ -10,22 +11,22 @@ fn line(line: &mut [u8], name: &[u8], refusal: u8, written: usize, out: &[u8]) -
     test_lines::end(line, d)
 }
 
-fn print(name: &[u8], refusal: u8, written: usize, out: &[u8]) -> bool {
+fn print(output: Stdout, name: &[u8], refusal: u8, written: usize, out: &[u8]) -> bool {
     let mut space = [0u8; 80];
     let n = line(&mut space, name, refusal, written, out);
-    test_lines::print(&space, n)
+    test_lines::print(output, &space, n)
 }
 
-pub(crate) fn written(name: &[u8], w: Written, out: &[u8]) -> bool {
+pub(crate) fn written(output: Stdout, name: &[u8], w: Written, out: &[u8]) -> bool {
     match w {
-        Written::Wrote(n) => print(name, 0, n, out),
-        Written::Refused(r) => print(name, r.number(), 0, out),
+        Written::Wrote(n) => print(output, name, 0, n, out),
+        Written::Refused(r) => print(output, name, r.number(), 0, out),
     }
 }
 
-pub(crate) fn shown(name: &[u8], w: Lossy, out: &[u8]) -> bool {
+pub(crate) fn shown(output: Stdout, name: &[u8], w: Lossy, out: &[u8]) -> bool {
     match w {
-        Lossy::Wrote { bytes, marks: _ } => print(name, 0, bytes, out),
-        Lossy::Refused(r) => print(name, r.number(), 0, out),
+        Lossy::Wrote { bytes, marks: _ } => print(output, name, 0, bytes, out),
+        Lossy::Refused(r) => print(output, name, r.number(), 0, out),
     }
 }

@@ -1,12 +1,11 @@
 -- The files as a number, there and back.
-use mathlib.Core.Path.{◌≡◌, refl, sym, ap, ◌∙◌}
+use mathlib.Core.Path.{◌≡◌, refl, sym}
 use mathlib.Core.Bool.{Bool, true, false}
 use Prim.Native.Nat.{ℕ, ◌+◌, ◌*◌, ◌/◌, ◌%◌, ◌<◌}
 use native.Mathlib.Omega.{arith}
 use borrow.Author.Tests.{eqb-true, eqb-false}
 use lib.Dec.{eqb}
 use Rattle.wire.proofs.Laws.{by_test}
-use Rattle.touched.specs.declared.Files.{Files}
 use Rattle.touched.specs.Touched.{files}
 use Rattle.touched.specs.Bits.{bit_of, bit_at, bits_of, files_by, BitLaws}
 

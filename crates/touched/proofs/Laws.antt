@@ -1,19 +1,19 @@
 -- Files that are touched one by one, and all at once; the relations of a row.
-use mathlib.Core.Path.{◌≡◌, refl, sym, ap, ◌∙◌}
+use mathlib.Core.Path.{◌≡◌, refl, sym, ap}
 use mathlib.Core.Bool.{Bool, true, false}
 use mathlib.Core.List.{List, [], ◌∷◌, ◌++◌}
 use mathlib.Core.Option as O
-use Prim.Native.Nat.{ℕ, zero, suc, ◌+◌, ◌-◌, ◌<◌, ◌≤◌}
+use Prim.Native.Nat.{ℕ, suc, ◌+◌, ◌-◌, ◌<◌, ◌≤◌}
 use native.Mathlib.Omega.{arith}
 use borrow.Author.Tests.{eqb-true, lt-ltb}
-use lib.Dec.{eqb, ltb}
+use lib.Dec.{eqb}
 use lib.ListN.{length, get_or}
 use lib.Pow.{are_bytes}
 use Rattle.wire.specs.Bytes.{pick}
 use Rattle.wire.proofs.Laws.{by_test, impossible}
-use Rattle.rows.specs.Layout.{Read, got, refused}
-use Rattle.rows.specs.Rows.{Row, relation, type, origin, insert, update, update_from, delete, truncate, Said, row, no_row, refused_by, row_said}
-use Rattle.rows.specs.Head.{Head, relation_head, type_head, origin_head, insert_head, update_head, update_from_head, delete_head, truncate_head, Answer, head, none, refusal, answer_of, identifier_at}
+use Rattle.rows.specs.Layout.{got, refused}
+use Rattle.rows.specs.Rows.{relation, type, origin, insert, update, update_from, delete, truncate, Said, row, no_row, refused_by, row_said}
+use Rattle.rows.specs.Head.{relation_head, type_head, origin_head, insert_head, update_head, update_from_head, delete_head, truncate_head, Answer, head, none, refusal, answer_of, identifier_at}
 use Rattle.rows.specs.RowLayout.{InTurn}
 use Rattle.rows.proofs.Readers.{readers_answer}
 use Rattle.touched.specs.declared.Files.{Files}

@@ -1,13 +1,12 @@
 -- The calls over any list of what is told leave what a full walk finds.
-use mathlib.Core.Path.{◌≡◌, refl, sym, ap, ◌∙◌}
+use mathlib.Core.Path.{◌≡◌, refl, sym}
 use mathlib.Core.Bool.{Bool, true, false}
 use mathlib.Core.List.{List, [], ◌∷◌, ◌++◌, append_assoc, append-nil}
 use Prim.Native.Nat.{ℕ}
 use Rattle.wire.specs.Bytes.{pick}
 use Rattle.wire.proofs.Laws.{by_test, impossible}
 use Rattle.rows.specs.Rows.{row_said}
-use Rattle.touched.specs.declared.Files.{Files}
-use Rattle.touched.specs.Touched.{has_no_file, changed_by, is_among, files, clear, is_full, Told, begins, brings, nothing, files_after, after_of}
+use Rattle.touched.specs.Touched.{has_no_file, changed_by, is_among, Told, begins, brings, nothing, files_after, after_of}
 use Rattle.touched.specs.Walk.{is_begin, has_begin, since_begin, changed_of, all_changed, walk_of, left_by, LeftIsTheWalk, FullStaysFull, RefusedChangesNothing}
 use Rattle.touched.proofs.Laws.{or_false, or_true, or_or, among_append, with_full}
 

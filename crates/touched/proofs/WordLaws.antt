@@ -8,7 +8,7 @@ use Rattle.progress.specs.declared.files.FileRefusal.{FileRefusal}
 use Rattle.progress.specs.declared.files.FileRefusal.TheVariants.{NoSuchFile}
 use Rattle.progress.specs.Files.{file_number}
 use Rattle.touched.specs.declared.Files.{Files}
-use Rattle.touched.specs.Bits.{bits_of, files_by}
+use Rattle.touched.specs.Bits.{bits_of}
 use Rattle.touched.specs.Touched.{entries_of, has_no_file, clear, after_of}
 use Rattle.touched.specs.Walk.{left_by}
 use Rattle.touched.specs.Words.{told_by, reply_of, touched_call, KindLaws, told_in, bits_left, BitsAreTheWalk}

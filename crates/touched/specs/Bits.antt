@@ -1,5 +1,5 @@
 -- The files as a number: bit n stands for file n. Bits above the four are not read. 02, wish 10; SCOPE 18.
-use Rattle.std.specs.Prelude.{◌≡◌, Bool, true, false, ℕ, ◌+◌, ◌*◌, ◌/◌, ◌%◌, ◌<◌, eqb}
+use Rattle.std.specs.Prelude.{◌≡◌, Bool, ℕ, ◌+◌, ◌*◌, ◌/◌, ◌%◌, ◌<◌, eqb}
 use Rattle.wire.specs.Bytes.{pick}
 use Rattle.touched.specs.declared.Files.{Files}
 use Rattle.touched.specs.Touched.{files}

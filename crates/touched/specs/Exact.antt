@@ -1,6 +1,6 @@
 -- Which files a call leaves touched, said by the two lists that are lent, the bytes of the data and what is told alone: no definition of the walk, of
 -- the entries or of the reader of rows is used. 02, wish 10; SCOPE 18.
-use Rattle.std.specs.Prelude.{◌≡◌, Bool, true, false, List, [], ◌∷◌, ◌++◌, ◌⊎◌, ℕ, zero, suc, ◌/◌, ◌%◌, ◌<◌, ◌≤◌, length, get_or}
+use Rattle.std.specs.Prelude.{◌≡◌, true, false, List, [], ◌∷◌, ◌++◌, ◌⊎◌, ℕ, zero, suc, ◌/◌, ◌%◌, ◌<◌, ◌≤◌, length, get_or}
 use Rattle.std.proofs.Math.Pow.{are_bytes}
 use Rattle.rows.specs.Rows.{Row, relation, type, origin, insert, update, update_from, delete, truncate, row_bytes}
 use Rattle.rows.specs.RowLayout.{RowFits}

@@ -1,5 +1,5 @@
 -- The list of relations and files, said without its definitions. 02, wish 10; SCOPE 18.
-use Rattle.std.specs.Prelude.{◌≡◌, true, false, List, ◌∷◌, ◌++◌, ℕ, ◌<◌, ◌≤◌, min, length, get_or}
+use Rattle.std.specs.Prelude.{◌≡◌, true, false, List, ℕ, ◌<◌, ◌≤◌, min, length, get_or}
 use Rattle.touched.specs.Touched.{entries_of, has_no_file}
 
 -- the entry at each place is the identifier and the file there, for the first 64 places that both have

@@ -1,7 +1,7 @@
 -- The files that a transaction touched, by a full walk over what its events tell, which knows nothing of bits and short cuts; and what the calls over
 -- any list of that leave. 02, wish 10; SCOPE 18.
-use Rattle.std.specs.Prelude.{◌≡◌, Bool, true, false, List, [], ◌∷◌, ◌++◌, ◌⊎◌, ℕ, ◌<◌, eqb}
-use Rattle.std.proofs.Math.Option.{Option, some, none}
+use Rattle.std.specs.Prelude.{◌≡◌, Bool, true, false, List, [], ◌∷◌, ◌++◌, ◌⊎◌, ℕ}
+use Rattle.std.proofs.Math.Option.{none}
 use Rattle.wire.specs.Bytes.{pick}
 use Rattle.rows.specs.Rows.{row_said}
 use Rattle.touched.specs.declared.Files.{Files}

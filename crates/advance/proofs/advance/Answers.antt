@@ -1,4 +1,4 @@
-use Rattle.std.proofs.Common.{◌∙◌, arith, rules}
+use Rattle.std.proofs.Common.{◌∙◌, arith}
 use Rattle.advance.proofs.Several.{has_room, at_once_lem}
 use Rattle.advance.proofs.advance.Goals as goal
 

@@ -1,4 +1,4 @@
-use Rattle.std.proofs.Common.{[], sym, ◌∙◌, arith, rules}
+use Rattle.std.proofs.Common.{[], sym, ◌∙◌, arith}
 use Rattle.worker.specs.Step.{step_of}
 use Rattle.advance.specs.Advance.{twice}
 use Rattle.advance.proofs.Taken.{step_taken, twice_taken}
@@ -19,14 +19,6 @@ overflow_add-second c =
     (sym (c.tells.ensures [] []) ∙ c.if-tells.false) c.least-taken.result _ c.least-taken.ensures c.two_steps-second.ensures
     (omega (arith, c.well_formed)) in
     omega (arith, h)
-
-pub shape_of-payload : goal.shape_of-payload
-shape_of-payload c =
-    omega (arith, c.payload-2-1.given, c.payload-1.given)
-
-pub shape_of-out : goal.shape_of-out
-shape_of-out c =
-    omega (arith, c.out-2-1.given, c.out-1.given)
 
 pub returns : goal.returns
 returns c =

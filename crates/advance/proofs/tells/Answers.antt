@@ -1,4 +1,4 @@
-use Rattle.std.proofs.Common.{rules, eq-eqb, ne_eqb}
+use Rattle.std.proofs.Common.{eq-eqb, ne_eqb}
 use Rattle.error.proofs.Laws.{numbered}
 use Rattle.advance.proofs.tells.Goals as goal
 

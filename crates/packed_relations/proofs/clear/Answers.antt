@@ -1,6 +1,5 @@
 -- Each array is stored whole.
 use mathlib.Core.Path.{refl}
-use borrow.Author.Rules.{rules}
 use Rattle.packed_relations.specs.Packed.{emptied}
 use Rattle.packed_relations.proofs.clear.Goals as goal
 

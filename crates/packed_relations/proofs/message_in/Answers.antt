@@ -1,9 +1,6 @@
 -- By whether the data are a Relation.
-use borrow.Author.Rules.{rules}
 use native.Mathlib.Omega.{arith}
-use mathlib.Core.Path.{◌≡◌, sym, ap, ◌∙◌}
 use Rattle.rows.specs.Rows.{row_said}
-use Rattle.relations.specs.Memory.{described_from}
 use Rattle.relations.proofs.Leaves.{all_bytes}
 use Rattle.relations.proofs.Messages.{relation_told}
 use Rattle.packed_relations.specs.Packed.{packed, words_of}
@@ -12,7 +9,7 @@ use Rattle.packed_relations.proofs.message_in.Goals as goal
 
 pub returns-in_default : goal.returns-in_default
 returns-in_default c =
-    let a = r.before.before.before.before.before.before.args in
+    let a = c.args in
     let e = c.read_row-r.ensures in
     let n = rw (c.in_default.is, e) at c.relation_of.ensures in
     rw (c.answer_of.ensures, c.row_verdict-w.ensures, e)
@@ -20,18 +17,16 @@ returns-in_default c =
 
 pub keep-v-requires : goal.keep-v-requires
 keep-v-requires c =
-    let i = c.before.before.before.before.before.before in
-    let a = i.args in
-    let b = all_bytes a.bytes.now (λ i. omega (arith, i.shared_slice_known-1.given i)) in
-    let w = relation_told a.bytes.now b _ _ _ (rw (i.in-Of.is, i.read_row-r.ensures) at i.relation_of.ensures) in
+    let a = c.args in
+    let b = all_bytes a.bytes.now (λ i. omega (arith, c.type_inv.bytes i)) in
+    let w = relation_told a.bytes.now b _ _ _ (rw (c.in-Of.is, c.read_row-r.ensures) at c.relation_of.ensures) in
     rw w.read w.count
 
 pub returns : goal.returns
 returns c =
-    let i = c.before.before.before.before.before.before.before in
-    let a = i.args in
-    let b = all_bytes a.bytes.now (λ i. omega (arith, i.shared_slice_known-1.given i)) in
-    let w = relation_told a.bytes.now b _ _ _ (rw (i.in-Of.is, i.read_row-r.ensures) at i.relation_of.ensures) in
-    rw (c.answer_of-2.ensures, i.read_row-r.ensures)
+    let a = c.args in
+    let b = all_bytes a.bytes.now (λ i. omega (arith, c.type_inv.bytes i)) in
+    let w = relation_told a.bytes.now b _ _ _ (rw (c.in-Of.is, c.read_row-r.ensures) at c.relation_of.ensures) in
+    rw (c.answer_of-2.ensures, c.read_row-r.ensures)
     (relation_left a.bytes.now (packed a.held.now a.ids.now a.counts.now (words_of a.words.now a.names.now)) w _ _
     c.keep-v.ensures)

@@ -1,5 +1,4 @@
 -- By the verdict.
-use borrow.Author.Rules.{rules}
 use Rattle.relations.proofs.Leaves.{refused_answer}
 use Rattle.relations.proofs.answer_of.Goals as goal
 

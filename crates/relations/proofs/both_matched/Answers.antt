@@ -1,5 +1,4 @@
 -- The first tuple's refusal, or the second's.
-use borrow.Author.Rules.{rules}
 use Rattle.relations.specs.Cache.{matches}
 use Rattle.relations.specs.Answers.{count_by}
 use Rattle.relations.proofs.Leaves.{first_refused}

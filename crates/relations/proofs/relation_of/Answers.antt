@@ -1,5 +1,4 @@
 -- By the row's kind.
-use borrow.Author.Rules.{rules}
 use Rattle.relations.proofs.relation_of.Goals as goal
 
 pub returns-in-Relation : goal.returns-in-Relation

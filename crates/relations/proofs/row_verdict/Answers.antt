@@ -1,5 +1,4 @@
 -- By the row's kind: each of its tuples against the count of its relation.
-use borrow.Author.Rules.{rules}
 use Rattle.relations.proofs.row_verdict.Goals as goal
 
 pub returns-in-Insert : goal.returns-in-Insert

@@ -1,4 +1,3 @@
-use borrow.Author.Rules.{rules}
 use Rattle.run_page.proofs.write.Goals as goal
 
 pub returns : goal.returns

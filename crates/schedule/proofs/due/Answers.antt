@@ -2,7 +2,6 @@
 use native.Mathlib.Omega.{arith}
 use Rattle.schedule.specs.NextStep.{due_of}
 use borrow.Author.Tests.{eq-eqb, ne_eqb}
-use borrow.Author.Rules.{rules}
 use Rattle.schedule.proofs.due.Goals as goal
 
 pub returns-then-interval-eq0 : goal.returns-then-interval-eq0

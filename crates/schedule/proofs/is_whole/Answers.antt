@@ -1,7 +1,6 @@
 -- A header is there, and then the payload.
 use Rattle.schedule.specs.NextStep.{is_whole}
 use borrow.Author.Tests.{lt-ltb, le-ltb}
-use borrow.Author.Rules.{rules}
 use Rattle.schedule.proofs.is_whole.Goals as goal
 
 pub returns-then-filled-lt5 : goal.returns-then-filled-lt5

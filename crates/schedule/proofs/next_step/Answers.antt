@@ -1,6 +1,5 @@
 -- By the state.
 use Rattle.schedule.specs.NextStep.{state_next, next_step_of}
-use borrow.Author.Rules.{rules}
 use Rattle.schedule.proofs.next_step.Goals as goal
 
 pub returns-in-Opening : goal.returns-in-Opening

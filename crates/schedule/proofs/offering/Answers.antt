@@ -1,6 +1,5 @@
 -- By the queue.
 use Rattle.schedule.specs.NextStep.{offering_next}
-use borrow.Author.Rules.{rules}
 use Rattle.schedule.proofs.offering.Goals as goal
 
 pub returns-in-Free : goal.returns-in-Free

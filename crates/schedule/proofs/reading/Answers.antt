@@ -1,7 +1,6 @@
 -- The tests in their order.
 use mathlib.Core.Path.{sym, ◌∙◌}
 use Rattle.schedule.specs.NextStep.{reading_next}
-use borrow.Author.Rules.{rules}
 use Rattle.schedule.proofs.reading.Goals as goal
 
 pub returns-then-reader : goal.returns-then-reader

@@ -1,6 +1,5 @@
 -- The tests in their order.
 use Rattle.schedule.specs.NextStep.{waiting_next}
-use borrow.Author.Rules.{rules}
 use Rattle.schedule.proofs.waiting.Goals as goal
 
 pub returns-then-run : goal.returns-then-run

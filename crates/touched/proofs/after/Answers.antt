@@ -1,7 +1,6 @@
 -- The list first, then what the event tells.
 use Rattle.touched.specs.Touched.{after_of}
 use mathlib.Core.Path.{sym, ◌∙◌}
-use borrow.Author.Rules.{rules}
 use Rattle.touched.proofs.after.Goals as goal
 
 pub returns-then-has_no_file : goal.returns-then-has_no_file

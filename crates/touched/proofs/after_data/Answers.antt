@@ -1,7 +1,6 @@
 -- Where all four are touched nothing can be added.
 use Rattle.touched.proofs.Laws.{with_full}
 use mathlib.Core.Path.{sym, ◌∙◌}
-use borrow.Author.Rules.{rules}
 use Rattle.touched.proofs.after_data.Goals as goal
 
 pub returns-then-is_full : goal.returns-then-is_full

@@ -4,7 +4,6 @@ use mathlib.Core.Path.{refl, sym}
 use Prim.Native.Nat.{ℕ, ◌<◌}
 use native.Mathlib.Omega.{arith}
 use lib.ListN.{get_or}
-use borrow.Author.Rules.{rules}
 use Rattle.touched.proofs.after_row.Goals as goal
 
 pub returns-in-Insert : goal.returns-in-Insert
@@ -26,7 +25,7 @@ returns-in-Delete c =
 pub returns-in-Truncate : goal.returns-in-Truncate
 returns-in-Truncate c =
     let s = c.args.«data».now in
-    let b : (i : ℕ) → get_or s i 0 < 256 = λ i. omega (arith, c.shared_slice_known-3-1.given i) in
+    let b : (i : ℕ) → get_or s i 0 < 256 = λ i. omega (arith, c.type_inv.«data» i) in
     rw (← truncate_changes s b _ _ _ (rw c.in-Truncate.is at c.read_row-row.ensures)) c.with_relations.ensures
 
 pub returns-in-Relation : goal.returns-in-Relation

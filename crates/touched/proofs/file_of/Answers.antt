@@ -1,11 +1,7 @@
 -- No entry passed has the identifier.
-use Rattle.touched.specs.Touched.{entries_of, file_of}
-use Rattle.touched.proofs.EntryLaws.{count, file_here, file_next, file_end}
-use mathlib.Core.Path.{◌≡◌, refl, sym, ◌∙◌}
-use Prim.Native.Nat.{◌≤◌, ◌-◌}
+use Rattle.touched.proofs.EntryLaws.{file_here, file_next, file_end}
+use mathlib.Core.Path.{refl, sym, ◌∙◌}
 use native.Mathlib.Omega.{arith}
-use lib.ListN.{drop}
-use borrow.Author.Rules.{rules}
 use Rattle.touched.proofs.file_of.Goals as goal
 
 pub loop-i-init : goal.loop-i-init

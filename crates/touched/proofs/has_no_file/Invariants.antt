@@ -1,11 +1,8 @@
 -- The entries passed have files.
 use Rattle.touched.specs.Touched.{entries_of, has_no_file}
-use Rattle.touched.proofs.EntryLaws.{count, no_file_here, no_file_next, no_file_end}
-use mathlib.Core.Path.{◌≡◌, refl, sym, ◌∙◌}
+use mathlib.Core.Path.{◌≡◌}
 use Prim.Native.Nat.{◌≤◌, ◌-◌}
-use native.Mathlib.Omega.{arith}
 use lib.ListN.{drop}
-use borrow.Author.Rules.{rules}
 use Rattle.touched.proofs.has_no_file.Given as goal
 
 abbrev pub invariant-loop-i : goal.invariant-loop-i

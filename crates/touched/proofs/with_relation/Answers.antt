@@ -1,7 +1,6 @@
 -- By whether the relation has a file.
 use Rattle.touched.proofs.Laws.{with_found, with_unlisted}
 use mathlib.Core.Path.{◌∙◌}
-use borrow.Author.Rules.{rules}
 use Rattle.touched.proofs.with_relation.Goals as goal
 
 pub returns-in-In : goal.returns-in-In

@@ -1,12 +1,11 @@
 -- The relations read and those to come touch what all of them do.
-use Rattle.touched.specs.Touched.{entries_of, with_all}
+use Rattle.touched.specs.Touched.{entries_of}
 use Rattle.touched.specs.Code.{identifiers_at}
 use Rattle.touched.proofs.Laws.{with_none, with_append, identifiers_next, identifiers_cut, identifiers_end}
-use Prim.Native.Nat.{◌≤◌, ◌-◌, ◌+◌}
-use mathlib.Core.Path.{◌≡◌, refl, sym, ap, ◌∙◌}
+use Prim.Native.Nat.{◌-◌, ◌+◌}
+use mathlib.Core.Path.{◌≡◌, sym, ◌∙◌}
 use mathlib.Core.List.{[], ◌∷◌}
 use native.Mathlib.Omega.{arith}
-use borrow.Author.Rules.{rules}
 use Rattle.touched.proofs.with_relations.Goals as goal
 
 pub loop-k-init : goal.loop-k-init

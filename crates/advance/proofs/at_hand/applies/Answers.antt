@@ -1,4 +1,4 @@
-use Rattle.std.proofs.Common.{rules, eq-eqb, ne_eqb}
+use Rattle.std.proofs.Common.{eq-eqb, ne_eqb}
 use Rattle.advance.specs.AtHand.{applies_of}
 use Rattle.advance.proofs.at_hand.applies.Goals as goal
 

@@ -1,4 +1,4 @@
-use Rattle.std.proofs.Common.{◌≡◌, ◌+◌, ◌-◌, ◌≤◌, length, take, drop, ◌∙◌, arith, length-drop, length-take, rules, eq-eqb, ne_eqb}
+use Rattle.std.proofs.Common.{◌≡◌, ◌+◌, ◌-◌, ◌≤◌, length, take, drop, ◌∙◌, arith, length-drop, length-take, eq-eqb, ne_eqb}
 use Rattle.advance.specs.AtHand.{at_hand_of}
 use Rattle.advance.proofs.at_hand.at_hand.Goals as goal
 

@@ -1,4 +1,4 @@
-use Rattle.std.proofs.Common.{arith, rules}
+use Rattle.std.proofs.Common.{arith}
 use Rattle.advance.proofs.at_hand.by_event.Goals as goal
 
 pub returns-in-Offered : goal.returns-in-Offered

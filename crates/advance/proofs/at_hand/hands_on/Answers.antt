@@ -1,4 +1,3 @@
-use Rattle.std.proofs.Common.{rules}
 use Rattle.advance.proofs.at_hand.hands_on.Goals as goal
 
 pub returns : goal.returns

@@ -1,4 +1,4 @@
-use Rattle.std.proofs.Common.{rules, le-ltb, lt-ltb}
+use Rattle.std.proofs.Common.{le-ltb, lt-ltb}
 use Rattle.advance.specs.AtHand.{has_room_for}
 use Rattle.advance.proofs.at_hand.has_room.Goals as goal
 

@@ -1,4 +1,4 @@
-use Rattle.std.proofs.Common.{rules, eq-eqb, ne_eqb}
+use Rattle.std.proofs.Common.{eq-eqb, ne_eqb}
 use Rattle.advance.specs.AtHand.{is_between}
 use Rattle.advance.proofs.at_hand.is_between.Goals as goal
 

@@ -1,4 +1,4 @@
-use Rattle.std.proofs.Common.{◌∙◌, arith, rules}
+use Rattle.std.proofs.Common.{◌∙◌, arith}
 use Rattle.advance.proofs.Laws.{no_payload, is_xlog, is_other}
 use Rattle.advance.proofs.at_hand.message.Goals as goal
 

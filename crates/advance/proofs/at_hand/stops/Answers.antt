@@ -1,4 +1,3 @@
-use Rattle.std.proofs.Common.{rules}
 use Rattle.advance.proofs.at_hand.stops.Goals as goal
 
 pub returns-then-run : goal.returns-then-run

@@ -1,5 +1,5 @@
 use mathlib.Core.Option.{Option, some, none}
-use Rattle.std.proofs.Common.{◌≡◌, ℕ, ◌∙◌, arith, rules, le-ltb, lt-ltb}
+use Rattle.std.proofs.Common.{◌≡◌, ℕ, ◌∙◌, arith, le-ltb, lt-ltb}
 use Rattle.wire.specs.Bytes.{at, be}
 use Rattle.wire.proofs.FieldLaws.{field_whole}
 use Rattle.advance.specs.AtHand.{whole_at}

@@ -1,4 +1,4 @@
-use Rattle.std.proofs.Common.{◌≡◌, ◌-◌, length, sym, ap, ◌∙◌, arith, w64, SFits, rules}
+use Rattle.std.proofs.Common.{◌≡◌, ◌-◌, length, sym, ap, ◌∙◌, arith, w64, SFits}
 use mir.ValLaws.{to_z-of_z}
 use Rattle.wire.specs.Field.{u64_of, i64_of}
 use Rattle.replication.specs.CopyData as C

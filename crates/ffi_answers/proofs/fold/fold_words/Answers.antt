@@ -1,4 +1,3 @@
-use borrow.Author.Rules.{rules}
 use Rattle.ffi_answers.proofs.fold.fold_words.Goals as goal
 
 pub returns-in-DataRow : goal.returns-in-DataRow

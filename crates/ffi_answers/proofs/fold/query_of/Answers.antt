@@ -1,4 +1,3 @@
-use borrow.Author.Rules.{rules}
 use Rattle.ffi_answers.proofs.fold.query_of.Goals as goal
 
 pub returns : goal.returns

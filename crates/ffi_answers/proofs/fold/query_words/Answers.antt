@@ -1,5 +1,4 @@
 use Rattle.ffi_answers.proofs.Laws.{query_words_are}
-use borrow.Author.Rules.{rules}
 use Rattle.ffi_answers.proofs.fold.query_words.Goals as goal
 
 pub returns : goal.returns

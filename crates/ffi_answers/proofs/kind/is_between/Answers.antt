@@ -1,5 +1,4 @@
 use borrow.Author.Tests.{lt-ltb, le-ltb}
-use borrow.Author.Rules.{rules}
 use Rattle.ffi_answers.proofs.kind.is_between.Goals as goal
 
 pub returns-then-refusal-first : goal.returns-then-refusal-first

@@ -1,6 +1,5 @@
 use mathlib.Core.Path.{sym, ◌∙◌}
 use Rattle.ffi_answers.proofs.Laws.{no_kind}
-use borrow.Author.Rules.{rules}
 use Rattle.ffi_answers.proofs.kind.kind_word.Goals as goal
 
 pub returns-then-is_between : goal.returns-then-is_between

@@ -1,5 +1,4 @@
 use borrow.Author.Tests.{ne_eqb}
-use borrow.Author.Rules.{rules}
 use Rattle.ffi_answers.proofs.kind.transient_word.Goals as goal
 
 pub returns-then-kind_word-eq-KIND_IO : goal.returns-then-kind_word-eq-KIND_IO

@@ -1,4 +1,3 @@
-use borrow.Author.Rules.{rules}
 use Rattle.ffi_answers.proofs.next.next_words.Goals as goal
 
 pub returns-in-From : goal.returns-in-From

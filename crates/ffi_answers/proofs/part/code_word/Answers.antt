@@ -4,7 +4,6 @@ use mathlib.Core.Path.{ap, ◌∙◌}
 use native.Mathlib.Omega.{arith}
 use Rattle.wire.proofs.Signed.{widened}
 use Rattle.wire.specs.Int.{value}
-use borrow.Author.Rules.{rules}
 use Rattle.ffi_answers.proofs.part.code_word.Goals as goal
 
 pub overflow_cast-code : goal.overflow_cast-code

@@ -1,4 +1,3 @@
-use borrow.Author.Rules.{rules}
 use Rattle.ffi_answers.proofs.part.column_reply.Goals as goal
 
 pub returns-in-Absent : goal.returns-in-Absent

@@ -1,4 +1,3 @@
-use borrow.Author.Rules.{rules}
 use Rattle.ffi_answers.proofs.part.error_words.Goals as goal
 
 pub returns-in-Front : goal.returns-in-Front

@@ -1,4 +1,3 @@
-use borrow.Author.Rules.{rules}
 use Rattle.ffi_answers.proofs.read.read_words.Goals as goal
 
 pub returns-in-More : goal.returns-in-More

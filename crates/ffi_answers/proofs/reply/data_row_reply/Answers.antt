@@ -1,4 +1,3 @@
-use borrow.Author.Rules.{rules}
 use Rattle.ffi_answers.proofs.reply.data_row_reply.Goals as goal
 
 pub returns-in-Columns : goal.returns-in-Columns

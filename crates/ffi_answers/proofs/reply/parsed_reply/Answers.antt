@@ -1,4 +1,3 @@
-use borrow.Author.Rules.{rules}
 use Rattle.ffi_answers.proofs.reply.parsed_reply.Goals as goal
 
 pub returns-in-Position : goal.returns-in-Position

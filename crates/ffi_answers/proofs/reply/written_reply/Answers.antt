@@ -1,4 +1,3 @@
-use borrow.Author.Rules.{rules}
 use Rattle.ffi_answers.proofs.reply.written_reply.Goals as goal
 
 pub returns-in-Wrote : goal.returns-in-Wrote

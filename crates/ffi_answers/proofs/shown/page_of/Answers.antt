@@ -1,4 +1,3 @@
-use borrow.Author.Rules.{rules}
 use Rattle.ffi_answers.proofs.shown.page_of.Goals as goal
 
 pub returns : goal.returns

@@ -1,5 +1,4 @@
 use Rattle.ffi_words.proofs.Laws.{cell_words_are}
-use borrow.Author.Rules.{rules}
 use Rattle.ffi_words.proofs.cell.cell_words.Goals as goal
 
 pub returns : goal.returns

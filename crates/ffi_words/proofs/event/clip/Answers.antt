@@ -1,6 +1,5 @@
 use mir.Syntax.{w64}
 use mir.ValLaws.{to_z-of_z}
-use borrow.Author.Rules.{rules}
 use Rattle.ffi_words.proofs.event.clip.Goals as goal
 
 pub returns-in-Message : goal.returns-in-Message
@@ -15,7 +14,7 @@ returns-in-Message c =
 
 pub returns-in-XLogData : goal.returns-in-XLogData
 returns-in-XLogData c =
-    let fits = c.known_told-in-XLogData-1.given.1.1.0.1 in
+    let fits = c.in-XLogData.known_told-in-XLogData-1-own.given.1.1.0.1 in
     rw (
       c.length_in-in-XLogData.ensures,
       c.least-in-XLogData.ensures,

@@ -3,7 +3,6 @@ use borrow.Author.Tests.{ne_eqb}
 use Rattle.ffi_words.specs.Words.{event_of}
 use mir.Syntax.{w64}
 use mir.ValLaws.{to_z-of_z}
-use borrow.Author.Rules.{rules}
 use Rattle.ffi_words.proofs.event.event_of.Goals as goal
 
 pub returns-then-kind-eq-EVENT_KEEP_ALIVE : goal.returns-then-kind-eq-EVENT_KEEP_ALIVE

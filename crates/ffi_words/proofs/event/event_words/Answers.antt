@@ -1,7 +1,6 @@
 use mathlib.Core.Path.{◌∙◌}
 use mir.Syntax.{w64}
 use mir.ValLaws.{to_z-of_z}
-use borrow.Author.Rules.{rules}
 use Rattle.ffi_words.proofs.event.event_words.Goals as goal
 
 pub returns-in-Nothing : goal.returns-in-Nothing
@@ -9,7 +8,7 @@ returns-in-Nothing c = (rw c.in-Nothing.is, rw c.in-Nothing.is tt)
 
 pub returns-in-KeepAlive : goal.returns-in-KeepAlive
 returns-in-KeepAlive c =
-    let fits = c.known_told-1.given.1.0.1 in (
+    let fits = c.in-KeepAlive.known_told-1-own.given.1.0.1 in (
       rw (
         c.flag.ensures,
         c.of_i64.ensures,
@@ -21,14 +20,14 @@ returns-in-KeepAlive c =
 
 pub returns-in-Begin : goal.returns-in-Begin
 returns-in-Begin c =
-    let fits = c.known_told-in-Begin-1.given.1.0.1 in (
+    let fits = c.in-Begin.known_told-in-Begin-1-own.given.1.0.1 in (
       rw (c.of_i64-in-Begin.ensures, to_z-of_z w64 c.in-Begin.b (record { sfits = fits }), c.in-Begin.is),
-      rw c.in-Begin.is (fits, c.known_told-in-Begin-1.given.1.1.0.1),
+      rw c.in-Begin.is (fits, c.in-Begin.known_told-in-Begin-1-own.given.1.1.0.1),
     )
 
 pub returns-in-Commit : goal.returns-in-Commit
 returns-in-Commit c =
-    let fits = c.known_told-in-Commit-1.given.1.1.0.1 in (
+    let fits = c.in-Commit.known_told-in-Commit-1-own.given.1.1.0.1 in (
       rw (
         c.of_i64-in-Commit.ensures,
         to_z-of_z w64 c.in-Commit.c (record { sfits = fits }),
@@ -42,7 +41,7 @@ returns-in-Message c = (c.message_words.ensures ∙ rw c.in-Message.is, rw c.in-
 
 pub returns-in-XLogData : goal.returns-in-XLogData
 returns-in-XLogData c =
-    let fits = c.known_told-in-XLogData-1.given.1.1.0.1 in (
+    let fits = c.in-XLogData.known_told-in-XLogData-1-own.given.1.1.0.1 in (
       c.xlog_data_words.ensures
           ∙ rw (
             to_z-of_z w64 c.in-XLogData.c (record { sfits = fits }),

@@ -1,7 +1,6 @@
 use mir.Syntax.{w64}
 use mir.ValLaws.{to_z-of_z}
-use borrow.Author.Rules.{rules}
 use Rattle.ffi_words.proofs.event.xlog_data_words.Goals as goal
 
 pub returns : goal.returns
-returns c = rw (c.of_i64.ensures, to_z-of_z w64 c.args.server-time c.ranges.server-time)
+returns c = rw (c.of_i64.ensures, to_z-of_z w64 c.args.server_time c.ranges.server_time)

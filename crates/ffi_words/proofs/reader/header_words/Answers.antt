@@ -6,7 +6,7 @@ use Rattle.ffi_words.proofs.reader.header_words.Goals as goal
 
 pub returns : goal.returns
 returns c =
-    let h = c.args.t1 in
+    let h = c.args.h in
     let five : length h ≡ 5 = search rules in (
       rw (
         c.wide-5.ensures.0,

@@ -1,5 +1,4 @@
 use Rattle.ffi_words.proofs.RoundTrip.{run_by}
-use borrow.Author.Rules.{rules}
 use Rattle.ffi_words.proofs.run.run_of.Goals as goal
 
 pub returns : goal.returns

@@ -2,7 +2,6 @@ use mathlib.Core.Path.{ap, ◌∙◌}
 use Rattle.ffi_words.specs.Words.{Fits, run_of}
 use Rattle.ffi_words.proofs.Laws.{words_are}
 use Rattle.ffi_words.proofs.RoundTrip.{round_trip}
-use borrow.Author.Rules.{rules}
 use Rattle.ffi_words.proofs.run.words_of.Goals as goal
 
 pub returns : goal.returns

@@ -1,4 +1,3 @@
-use borrow.Author.Rules.{rules}
 use Rattle.ffi_words.proofs.step.answer_words.Goals as goal
 
 pub returns : goal.returns

@@ -1,4 +1,3 @@
-use borrow.Author.Rules.{rules}
 use Rattle.ffi_words.proofs.step.file_verdict_word.Goals as goal
 
 pub returns-in-Refused : goal.returns-in-Refused

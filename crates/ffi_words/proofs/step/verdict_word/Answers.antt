@@ -1,4 +1,3 @@
-use borrow.Author.Rules.{rules}
 use Rattle.ffi_words.proofs.step.verdict_word.Goals as goal
 
 pub returns-in-Refused : goal.returns-in-Refused

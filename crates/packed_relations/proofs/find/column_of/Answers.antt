@@ -1,16 +1,13 @@
 -- By the slot, the count and the index.
-use borrow.Author.Rules.{rules}
 use native.Mathlib.Omega.{arith}
-use mathlib.Core.Path.{◌≡◌, ap, ◌∙◌}
+use mathlib.Core.Path.{ap, ◌∙◌}
 use mathlib.Core.Option.{some}
-use Prim.Native.Nat.{ℕ, ◌≤◌}
+use Prim.Native.Nat.{ℕ}
 use Rattle.relations.proofs.Leaves.{count_small}
 use Rattle.column_word.specs.Word.{column_in}
 use Rattle.packed_relations.specs.Packed.{words_of, room_in, told_of}
 use Rattle.packed_relations.proofs.Leaves.{told_full, told_none, told_out, told_at}
 use Rattle.packed_relations.proofs.find.column_of.Goals as goal
-use Rattle.packed_relations.proofs.find.column_of.Lts as places
-use Rattle.packed_relations.proofs.find.column_of.Reads.{Pre, Post}
 
 pub returns-then-slot-ge-RELATIONS : goal.returns-then-slot-ge-RELATIONS
 returns-then-slot-ge-RELATIONS c =
@@ -32,14 +29,10 @@ returns-then-n-index c =
     (omega arith) _
     (rw c.in-Columns.is at c.count_of.ensures) c.if-n-index.true
 
--- the count is small
-few : (c : places.Else2 Pre Post) → c.in-Columns.n ≤ 32
-few c =
-    let a = c.args in
-    count_small a.held a.ids.now a.counts.now a.id _ (rw c.in-Columns.is at c.count_of.ensures)
-
 pub overflow_add-slot : goal.overflow_add-slot
-overflow_add-slot c = omega (arith, few c)
+overflow_add-slot c =
+    let a = c.args in
+    omega (arith, count_small a.held a.ids.now a.counts.now a.id _ (rw c.in-Columns.is at c.count_of.ensures))
 
 pub returns : goal.returns
 returns c =

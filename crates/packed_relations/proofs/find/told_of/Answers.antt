@@ -1,5 +1,4 @@
 -- What stands in the word, its name clipped.
-use borrow.Author.Rules.{rules}
 use Rattle.packed_relations.proofs.find.told_of.Goals as goal
 
 pub returns : goal.returns

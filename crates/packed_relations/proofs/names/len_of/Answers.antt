@@ -1,5 +1,4 @@
 -- The length in the word, and no more than 63.
-use borrow.Author.Rules.{rules}
 use Rattle.packed_relations.proofs.names.len_of.Goals as goal
 
 pub returns : goal.returns

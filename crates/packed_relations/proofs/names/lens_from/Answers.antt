@@ -1,10 +1,9 @@
 -- The lengths passed, and those to go.
-use mathlib.Core.Path.{◌≡◌, refl, sym, ◌∙◌}
-use Prim.Native.Nat.{ℕ, ◌+◌, ◌*◌, ◌-◌, ◌≤◌, ◌<◌}
+use mathlib.Core.Path.{◌≡◌, ◌∙◌}
+use Prim.Native.Nat.{◌+◌, ◌-◌}
 use native.Mathlib.Omega.{arith}
-use Rattle.packed_relations.specs.Packed.{len_of, lens_from}
+use Rattle.packed_relations.specs.Packed.{len_of}
 use Rattle.packed_relations.proofs.Leaves.{lens_turn, lens_done}
-use borrow.Author.Rules.{rules}
 use Rattle.packed_relations.proofs.names.lens_from.Goals as goal
 
 pub loop-k-init : goal.loop-k-init

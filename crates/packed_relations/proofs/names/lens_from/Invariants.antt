@@ -1,10 +1,7 @@
 -- The lengths passed, and those to go.
-use mathlib.Core.Path.{◌≡◌, refl, sym, ◌∙◌}
-use Prim.Native.Nat.{ℕ, ◌+◌, ◌*◌, ◌-◌, ◌≤◌, ◌<◌}
-use native.Mathlib.Omega.{arith}
-use Rattle.packed_relations.specs.Packed.{len_of, lens_from}
-use Rattle.packed_relations.proofs.Leaves.{lens_turn, lens_done}
-use borrow.Author.Rules.{rules}
+use mathlib.Core.Path.{◌≡◌}
+use Prim.Native.Nat.{◌+◌, ◌*◌, ◌-◌, ◌≤◌}
+use Rattle.packed_relations.specs.Packed.{lens_from}
 use Rattle.packed_relations.proofs.names.lens_from.Given as goal
 
 abbrev pub invariant-loop-k : goal.invariant-loop-k

@@ -1,11 +1,8 @@
 -- After k turns the first k bytes stand there.
-use mathlib.Core.Path.{◌≡◌, refl, sym, ◌∙◌}
-use Prim.Native.Nat.{◌+◌, ◌-◌, ◌≤◌, ◌<◌}
+use mathlib.Core.Path.{◌≡◌, refl}
 use native.Mathlib.Omega.{arith}
-use lib.ListN.{length, length-set}
-use Rattle.wire.specs.Bytes.{at, put}
+use lib.ListN.{length-set}
 use Rattle.packed_relations.proofs.Moved.{down_start, down_turn}
-use borrow.Author.Rules.{rules}
 use Rattle.packed_relations.proofs.names.move_down.Goals as goal
 
 pub loop-k-init : goal.loop-k-init

@@ -1,11 +1,8 @@
 -- After k turns the first k bytes stand there.
-use mathlib.Core.Path.{◌≡◌, refl, sym, ◌∙◌}
-use Prim.Native.Nat.{◌+◌, ◌-◌, ◌≤◌, ◌<◌}
-use native.Mathlib.Omega.{arith}
-use lib.ListN.{length, length-set}
+use mathlib.Core.Path.{◌≡◌}
+use Prim.Native.Nat.{◌-◌, ◌≤◌}
+use lib.ListN.{length}
 use Rattle.wire.specs.Bytes.{at, put}
-use Rattle.packed_relations.proofs.Moved.{down_start, down_turn}
-use borrow.Author.Rules.{rules}
 use Rattle.packed_relations.proofs.names.move_down.Given as goal
 
 abbrev pub invariant-loop-k : goal.invariant-loop-k

@@ -1,10 +1,8 @@
 -- Down, up, or not at all.
-use mathlib.Core.Path.{◌≡◌, sym, ap, ◌∙◌}
+use mathlib.Core.Path.{ap, ◌∙◌}
 use Prim.Native.Nat.{ℕ}
-use native.Mathlib.Omega.{arith}
 use Rattle.wire.specs.Bytes.{at, put}
 use Rattle.packed_relations.proofs.Moved.{stay}
-use borrow.Author.Rules.{rules}
 use Rattle.packed_relations.proofs.names.move_names.Goals as goal
 
 pub returns-then-from-to : goal.returns-then-from-to

@@ -1,11 +1,8 @@
 -- With k bytes to go, those behind them stand there.
-use mathlib.Core.Path.{◌≡◌, refl, sym, ◌∙◌}
-use Prim.Native.Nat.{suc, ◌+◌, ◌-◌, ◌≤◌, ◌<◌}
+use mathlib.Core.Path.{refl}
 use native.Mathlib.Omega.{arith}
-use lib.ListN.{length, length-set}
-use Rattle.wire.specs.Bytes.{at, put}
+use lib.ListN.{length-set}
 use Rattle.packed_relations.proofs.Moved.{up_start, up_done, up_step}
-use borrow.Author.Rules.{rules}
 use Rattle.packed_relations.proofs.names.move_up.Goals as goal
 
 pub loop-k-init : goal.loop-k-init

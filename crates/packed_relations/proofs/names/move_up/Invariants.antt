@@ -1,11 +1,8 @@
 -- With k bytes to go, those behind them stand there.
-use mathlib.Core.Path.{◌≡◌, refl, sym, ◌∙◌}
-use Prim.Native.Nat.{suc, ◌+◌, ◌-◌, ◌≤◌, ◌<◌}
-use native.Mathlib.Omega.{arith}
-use lib.ListN.{length, length-set}
+use mathlib.Core.Path.{◌≡◌}
+use Prim.Native.Nat.{◌+◌, ◌-◌, ◌≤◌}
+use lib.ListN.{length}
 use Rattle.wire.specs.Bytes.{at, put}
-use Rattle.packed_relations.proofs.Moved.{up_start, up_done, up_step}
-use borrow.Author.Rules.{rules}
 use Rattle.packed_relations.proofs.names.move_up.Given as goal
 
 abbrev pub invariant-loop-k : goal.invariant-loop-k

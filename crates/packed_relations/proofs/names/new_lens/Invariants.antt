@@ -1,16 +1,10 @@
 -- The lengths passed, and those to go.
-use mathlib.Core.Path.{◌≡◌, refl, sym, ap, ◌∙◌}
+use mathlib.Core.Path.{◌≡◌}
 use mathlib.Core.Bool.{true}
-use mathlib.Core.List.{◌∷◌}
-use Prim.Native.Nat.{ℕ, ◌+◌, ◌*◌, ◌≤◌, ◌-◌, ◌<◌}
-use native.Mathlib.Omega.{arith}
-use lib.ListN.{length}
+use Prim.Native.Nat.{◌+◌, ◌*◌, ◌≤◌, ◌-◌}
 use Rattle.relations.specs.Cache.{names_fit}
 use Rattle.relations.specs.Memory.{described_from}
-use Rattle.relations.proofs.Leaves.{given, described_next, described_stop, described_end, name_short}
 use Rattle.packed_relations.specs.Packed.{new_lens}
-use Rattle.packed_relations.proofs.Leaves.{new_turn, new_none}
-use borrow.Author.Rules.{rules}
 use Rattle.packed_relations.proofs.names.new_lens.Given as goal
 
 abbrev pub invariant-loop-k : goal.invariant-loop-k

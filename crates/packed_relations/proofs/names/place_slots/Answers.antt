@@ -1,10 +1,8 @@
 -- What is left to place, from the slot reached, gives what placing all gives.
 use mathlib.Core.Path.{◌≡◌, refl, sym, ap, ◌∙◌}
-use Prim.Native.Nat.{ℕ, ◌+◌, ◌*◌, ◌-◌, ◌≤◌, ◌<◌, min}
+use Prim.Native.Nat.{ℕ, ◌+◌, ◌*◌, ◌-◌}
 use native.Mathlib.Omega.{arith}
-use lib.ListN.{length, get_or}
-use Rattle.relations.specs.Memory.{count_at}
-use Rattle.packed_relations.specs.Packed.{lens_from, place_words, place_slots}
+use Rattle.packed_relations.specs.Packed.{lens_from, place_words}
 use Rattle.packed_relations.proofs.Leaves.{place_turn, place_done}
 use borrow.Author.Rules.{rules}
 use Rattle.packed_relations.proofs.names.place_slots.Goals as goal
@@ -17,11 +15,10 @@ loop-k-init c =
     (omega arith, rw (z, y), omega arith, refl)
 
 pub place_words-at-requires : goal.place_words-at-requires
-place_words-at-requires c =
-    (
-      omega (arith, c.count_at-count.ensures, c.requires.0, c.loop-k.invariant.0),
-      omega (arith, c.count_at-count.ensures, c.requires.1, c.loop-k.invariant.0, c.loop-k.invariant.2),
-    )
+place_words-at-requires c = (
+  omega (arith, c.count_at-count.ensures, c.requires.0, c.loop-k.invariant.0),
+  omega (arith, c.count_at-count.ensures, c.requires.1, c.loop-k.invariant.0, c.loop-k.invariant.2),
+)
 
 pub loop-k-preserved : goal.loop-k-preserved
 loop-k-preserved c =

@@ -1,12 +1,8 @@
 -- What is left to place, from the slot reached, gives what placing all gives.
-use mathlib.Core.Path.{◌≡◌, refl, sym, ap, ◌∙◌}
-use Prim.Native.Nat.{ℕ, ◌+◌, ◌*◌, ◌-◌, ◌≤◌, ◌<◌, min}
-use native.Mathlib.Omega.{arith}
-use lib.ListN.{length, get_or}
-use Rattle.relations.specs.Memory.{count_at}
-use Rattle.packed_relations.specs.Packed.{lens_from, place_words, place_slots}
-use Rattle.packed_relations.proofs.Leaves.{place_turn, place_done}
-use borrow.Author.Rules.{rules}
+use mathlib.Core.Path.{◌≡◌}
+use Prim.Native.Nat.{◌+◌, ◌*◌, ◌-◌, ◌≤◌}
+use lib.ListN.{length}
+use Rattle.packed_relations.specs.Packed.{place_slots}
 use Rattle.packed_relations.proofs.names.place_slots.Given as goal
 
 abbrev pub invariant-loop-k : goal.invariant-loop-k

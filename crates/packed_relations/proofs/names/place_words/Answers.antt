@@ -1,9 +1,8 @@
 -- What is left to place, from the word reached, gives what placing all gives.
-use mathlib.Core.Path.{◌≡◌, refl, sym, ap, ◌∙◌}
-use Prim.Native.Nat.{ℕ, ◌+◌, ◌*◌, ◌-◌, ◌≤◌, ◌<◌}
+use mathlib.Core.Path.{◌≡◌, refl, sym, ◌∙◌}
+use Prim.Native.Nat.{◌+◌, ◌-◌}
 use native.Mathlib.Omega.{arith}
-use lib.ListN.{length}
-use Rattle.packed_relations.specs.Packed.{len_of, lens_from, place_words}
+use Rattle.packed_relations.specs.Packed.{len_of}
 use Rattle.packed_relations.proofs.Leaves.{words_turn, words_done, lens_kept, lens_done}
 use borrow.Author.Rules.{rules}
 use Rattle.packed_relations.proofs.names.place_words.Goals as goal
@@ -17,7 +16,7 @@ loop-k-init c =
 
 pub loop-k-preserved : goal.loop-k-preserved
 loop-k-preserved c =
-    let a = l.before.before.args in
+    let a = c.args in
     let ew = c.word_at-word.ensures in
     let ex : c.len_of-at.result ≡ len_of c.word_at-word.result = c.len_of-at.ensures in
     let ey = c.placed_word-moved.ensures in

@@ -1,11 +1,8 @@
 -- What is left to place, from the word reached, gives what placing all gives.
-use mathlib.Core.Path.{◌≡◌, refl, sym, ap, ◌∙◌}
-use Prim.Native.Nat.{ℕ, ◌+◌, ◌*◌, ◌-◌, ◌≤◌, ◌<◌}
-use native.Mathlib.Omega.{arith}
+use mathlib.Core.Path.{◌≡◌}
+use Prim.Native.Nat.{◌+◌, ◌*◌, ◌-◌, ◌≤◌}
 use lib.ListN.{length}
-use Rattle.packed_relations.specs.Packed.{len_of, lens_from, place_words}
-use Rattle.packed_relations.proofs.Leaves.{words_turn, words_done, lens_kept, lens_done}
-use borrow.Author.Rules.{rules}
+use Rattle.packed_relations.specs.Packed.{lens_from, place_words}
 use Rattle.packed_relations.proofs.names.place_words.Given as goal
 
 abbrev pub invariant-loop-k : goal.invariant-loop-k

@@ -1,5 +1,4 @@
 -- All of the word but its place.
-use borrow.Author.Rules.{rules}
 use Rattle.packed_relations.proofs.names.placed_word.Goals as goal
 
 pub returns : goal.returns

@@ -1,12 +1,9 @@
 -- The lengths passed, and those to go.
-use mathlib.Core.Path.{◌≡◌, refl, sym, ap, ◌∙◌}
-use Prim.Native.Nat.{ℕ, ◌+◌, ◌*◌, ◌-◌, ◌≤◌, ◌<◌, min}
+use mathlib.Core.Path.{◌≡◌, ap, ◌∙◌}
+use Prim.Native.Nat.{ℕ, ◌+◌, ◌*◌, ◌-◌}
 use native.Mathlib.Omega.{arith}
-use lib.ListN.{get_or}
-use Rattle.relations.specs.Memory.{count_at}
-use Rattle.packed_relations.specs.Packed.{lens_from, slot_lens}
+use Rattle.packed_relations.specs.Packed.{lens_from}
 use Rattle.packed_relations.proofs.Leaves.{slots_turn, slots_done}
-use borrow.Author.Rules.{rules}
 use Rattle.packed_relations.proofs.names.slot_lens.Goals as goal
 
 pub loop-k-init : goal.loop-k-init

@@ -1,12 +1,7 @@
 -- The lengths passed, and those to go.
-use mathlib.Core.Path.{◌≡◌, refl, sym, ap, ◌∙◌}
-use Prim.Native.Nat.{ℕ, ◌+◌, ◌*◌, ◌-◌, ◌≤◌, ◌<◌, min}
-use native.Mathlib.Omega.{arith}
-use lib.ListN.{get_or}
-use Rattle.relations.specs.Memory.{count_at}
-use Rattle.packed_relations.specs.Packed.{lens_from, slot_lens}
-use Rattle.packed_relations.proofs.Leaves.{slots_turn, slots_done}
-use borrow.Author.Rules.{rules}
+use mathlib.Core.Path.{◌≡◌}
+use Prim.Native.Nat.{◌+◌, ◌*◌, ◌-◌, ◌≤◌}
+use Rattle.packed_relations.specs.Packed.{slot_lens}
 use Rattle.packed_relations.proofs.names.slot_lens.Given as goal
 
 abbrev pub invariant-loop-k : goal.invariant-loop-k

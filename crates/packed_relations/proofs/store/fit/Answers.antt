@@ -1,8 +1,6 @@
 -- Too many columns, or what the names say.
-use borrow.Author.Rules.{rules}
 use borrow.Author.Tests.{lt-leb, le-leb}
 use native.Mathlib.Omega.{arith}
-use mathlib.Core.Path.{◌≡◌}
 use Prim.Native.Nat.{◌≤◌}
 use Rattle.relations.specs.Cache.{fits}
 use Rattle.packed_relations.proofs.store.fit.Goals as goal

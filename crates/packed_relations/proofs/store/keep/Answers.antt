@@ -1,9 +1,7 @@
 -- Refused for want of a slot, for its columns or for want of room, or stored in its slot.
-use borrow.Author.Rules.{rules}
 use borrow.Author.Tests.{not-true, not-false}
 use native.Mathlib.Omega.{arith}
-use mathlib.Core.Path.{◌≡◌, sym, ap, ◌∙◌}
-use mathlib.Core.Bool.{true}
+use mathlib.Core.Path.{sym, ap, ◌∙◌}
 use mathlib.Core.List.{[]}
 use Prim.Native.Nat.{ℕ}
 use lib.ListN.{take, length-take}
@@ -16,37 +14,35 @@ use Rattle.packed_relations.proofs.store.keep.Goals as goal
 
 pub returns-then-slot-ge-RELATIONS : goal.returns-then-slot-ge-RELATIONS
 returns-then-slot-ge-RELATIONS c =
-    let a = s.before.before.before.before.before.before.before.before.args in
+    let a = c.args in
     kept_full (packed a.held.now a.ids.now a.counts.now (words_of a.words.now a.names.now)) a.id
     (described_from a.bytes.now a.n a.from) c.slot_of-slot.result c.slot_of-slot.ensures c.if-slot-ge-RELATIONS.true
 
 pub returns-then-not-fit : goal.returns-then-not-fit
 returns-then-not-fit c =
-    let a = s.before.before.before.before.before.before.before.before.args in
+    let a = c.args in
     kept_large (packed a.held.now a.ids.now a.counts.now (words_of a.words.now a.names.now)) a.id
     (described_from a.bytes.now a.n a.from) c.slot_of-slot.result c.slot_of-slot.ensures (omega arith)
-    (sym (not-true _ c.if-not-fit.true) ∙ c.fit.ensures)
+    (sym c.if-not-fit.true ∙ c.fit.ensures)
 
 pub new_lens-new-requires : goal.new_lens-new-requires
 new_lens-new-requires c =
-    let t = f.before.before.before.before.before.before.before.before.before.before in
-    let w = fits_few _ (sym (not-false _ c.if-not-fit.false) ∙ c.fit.ensures) in
-    (omega (arith, w.0, t.requires), w.1)
+    let w = fits_few _ (sym c.if-not-fit.false ∙ c.fit.ensures) in
+    (omega (arith, w.0, c.requires), w.1)
 
 pub make_room-room-requires : goal.make_room-room-requires
 make_room-room-requires c =
-    let t = s.before.before.before.before.before.before.before.before in
-    let a = t.args in
-    let w = fits_few _ (sym (not-false _ c.if-not-fit.false) ∙ c.fit.ensures) in
+    let a = c.args in
+    let w = fits_few _ (sym c.if-not-fit.false ∙ c.fit.ensures) in
     let most = place_most a.id (take a.held.now a.ids.now) in (
       omega arith,
       omega (arith, c.slot_of-slot.ensures, most, length-take a.held.now a.ids.now),
-      omega (arith, c.new_lens-new.ensures.1, w.0, t.requires),
+      omega (arith, c.new_lens-new.ensures.1, w.0, c.requires),
     )
 
 pub returns-then-not-room : goal.returns-then-not-room
 returns-then-not-room c =
-    let a = s.before.before.before.before.before.before.before.before.args in
+    let a = c.args in
     let cols = words_of a.words.now a.names.now in
     let m =
     c.make_room-room.ensures.0
@@ -54,30 +50,27 @@ returns-then-not-room c =
     ∙ same_room a.held.now c.slot_of-slot.result _ a.ids.now a.counts.now cols in
     kept_crowded (packed a.held.now a.ids.now a.counts.now (words_of a.words.now a.names.now)) a.id
     (described_from a.bytes.now a.n a.from) c.slot_of-slot.result c.slot_of-slot.ensures (omega (arith, c.if-slot-ge-RELATIONS.false))
-    (sym (not-false _ c.if-not-fit.false) ∙ c.fit.ensures) m (not-true _ c.if-not-room.true)
+    (sym c.if-not-fit.false ∙ c.fit.ensures) m (not-true _ c.if-not-room.true)
 
 pub store_words-requires : goal.store_words-requires
 store_words-requires c =
-    let t = s.before.before.before.before.before.before.before.before in
-    let w = fits_few _ (sym (not-false _ c.if-not-fit.false) ∙ c.fit.ensures) in
-    (omega (arith, w.0, t.requires, c.if-slot-ge-RELATIONS.false), omega (arith, w.0, t.requires, c.make_room-room.ensures.1), w.1)
+    let w = fits_few _ (sym c.if-not-fit.false ∙ c.fit.ensures) in
+    (omega (arith, w.0, c.requires, c.if-slot-ge-RELATIONS.false), omega (arith, w.0, c.requires, c.make_room-room.ensures.1), w.1)
 
 pub overflow_mul-slot : goal.overflow_mul-slot
 overflow_mul-slot c = omega (arith, c.if-slot-ge-RELATIONS.false)
 
 pub overflow_cast-n : goal.overflow_cast-n
 overflow_cast-n c =
-    let t = f.before.before.before.before.before.before.before.before.before.before in
-    let w = fits_few _ (sym (not-false _ c.if-not-fit.false) ∙ c.fit.ensures) in
-    omega (arith, w.0, t.requires)
+    let w = fits_few _ (sym c.if-not-fit.false ∙ c.fit.ensures) in
+    omega (arith, w.0, c.requires)
 
 pub overflow_add-slot : goal.overflow_add-slot
 overflow_add-slot c = omega (arith, c.if-slot-ge-RELATIONS.false)
 
 pub returns : goal.returns
 returns c =
-    let t = s.before.before.before.before.before.before.before.before in
-    let a = t.args in
+    let a = c.args in
     let cols = words_of a.words.now a.names.now in
     let m =
     c.make_room-room.ensures.0
@@ -85,5 +78,5 @@ returns c =
     ∙ same_room a.held.now c.slot_of-slot.result _ a.ids.now a.counts.now cols in
     kept_stored (packed a.held.now a.ids.now a.counts.now (words_of a.words.now a.names.now)) a.id
     (described_from a.bytes.now a.n a.from) c.slot_of-slot.result c.slot_of-slot.ensures (omega (arith, c.if-slot-ge-RELATIONS.false))
-    (sym (not-false _ c.if-not-fit.false) ∙ c.fit.ensures) m (not-false _ c.if-not-room.false)
-    a.n t.requires c.most.ensures c.set_word.ensures c.set_byte.ensures c.store_words.ensures
+    (sym c.if-not-fit.false ∙ c.fit.ensures) m (not-false _ c.if-not-room.false)
+    a.n c.requires c.most.ensures c.set_word.ensures c.set_byte.ensures c.store_words.ensures

@@ -3,7 +3,6 @@ use Prim.Native.Nat.{◌+◌, ◌≤◌}
 use native.Mathlib.Omega.{arith}
 use borrow.Author.Tests.{le-leb, lt-leb}
 use Rattle.packed_relations.specs.Packed.{lie_in}
-use borrow.Author.Rules.{rules}
 use Rattle.packed_relations.proofs.store.lie_in.Goals as goal
 
 pub returns-then-room-before : goal.returns-then-room-before

@@ -1,27 +1,20 @@
 -- The lengths, then the test, then the bytes and the places.
-use mathlib.Core.Path.{◌≡◌, refl, sym, ap, ◌∙◌}
-use mathlib.Core.Bool.{true, false}
+use mathlib.Core.Path.{◌≡◌, sym, ◌∙◌}
 use Prim.Native.Nat.{ℕ, ◌+◌, ◌*◌, ◌-◌, ◌≤◌, ◌<◌, min}
 use native.Mathlib.Omega.{arith}
-use borrow.Author.Tests.{not-true, not-false}
-use lib.ListN.{length}
-use Rattle.packed_relations.specs.Packed.{lie_in}
 use Rattle.packed_relations.proofs.Leaves.{lie_fits, made_not, made}
-use borrow.Author.Rules.{rules}
 use Rattle.packed_relations.proofs.store.make_room.Goals as goal
 
 pub slot_lens-place-requires : goal.slot_lens-place-requires
-slot_lens-place-requires c = let s = c.before.before.before.before.before.before in omega (arith, s.requires.0)
+slot_lens-place-requires c = omega (arith, c.requires.0)
 
 pub overflow_sub-next : goal.overflow_sub-next
 overflow_sub-next c =
-    let s = n.before.before.before.before.before in
-    omega (arith, c.least-next.ensures, c.least-slots.ensures, s.requires.0, s.requires.1)
+    omega (arith, c.least-next.ensures, c.least-slots.ensures, c.requires.0, c.requires.1)
 
 pub slot_lens-own-requires : goal.slot_lens-own-requires
 slot_lens-own-requires c =
-    let s = n.before.before.before.before.before in
-    omega (arith, c.least-next.ensures, c.least-slots.ensures, s.requires.0, s.requires.1)
+    omega (arith, c.least-next.ensures, c.least-slots.ensures, c.requires.0, c.requires.1)
 
 pub overflow_sub-slots : goal.overflow_sub-slots
 overflow_sub-slots c =
@@ -41,36 +34,34 @@ module _ (held slots slot next place own later new : ℕ) (es : slots ≡ min he
 
 pub lie_in-requires : goal.lie_in-requires
 lie_in-requires c =
-    let s = m.before.before.before.before in
-    let a = s.args in (
-      sum-small a.held _ a.slot _ _ _ _ a.new c.least-slots.ensures c.least-next.ensures s.requires.0 s.requires.1 c.slot_lens-place.ensures.1
-          c.slot_lens-own.ensures.1 c.slot_lens-later.ensures.1 s.requires.2,
-      s.requires.2,
+    let a = c.args in (
+      sum-small a.held _ a.slot _ _ _ _ a.new c.least-slots.ensures c.least-next.ensures c.requires.0 c.requires.1 c.slot_lens-place.ensures.1
+          c.slot_lens-own.ensures.1 c.slot_lens-later.ensures.1 c.requires.2,
+      c.requires.2,
     )
 
 pub returns-then-not-lie_in : goal.returns-then-not-lie_in
 returns-then-not-lie_in c =
-    let s = m.before.before.before.before in
-    let a = s.args in (
+    let a = c.args in (
       made_not a.held a.slot a.new a.counts.now a.words.now a.names.now _ _ _ _ _ _ c.least-slots.ensures c.least-next.ensures
           c.slot_lens-place.ensures.0 c.slot_lens-own.ensures.0 c.slot_lens-later.ensures.0 c.least-room.ensures
-          (sym (not-true _ c.if-not-lie_in.true) ∙ c.lie_in.ensures),
-      omega (arith, c.slot_lens-place.ensures.1, s.requires.0),
+          (sym c.if-not-lie_in.true ∙ c.lie_in.ensures),
+      omega (arith, c.slot_lens-place.ensures.1, c.requires.0),
     )
 
 pub move_names-requires : goal.move_names-requires
 move_names-requires c =
-    let f = lie_fits _ _ _ _ _ (sym (not-false _ c.if-not-lie_in.false) ∙ c.lie_in.ensures) in
+    let f = lie_fits _ _ _ _ _ (sym c.if-not-lie_in.false ∙ c.lie_in.ensures) in
     (omega (arith, f.0, c.least-room.ensures), omega (arith, f.1, c.least-room.ensures))
 
 pub overflow_add-place : goal.overflow_add-place
 overflow_add-place c =
-    let f = lie_fits _ _ _ _ _ (sym (not-false _ c.if-not-lie_in.false) ∙ c.lie_in.ensures) in
+    let f = lie_fits _ _ _ _ _ (sym c.if-not-lie_in.false ∙ c.lie_in.ensures) in
     omega (arith, f.0, c.least-room.ensures)
 
 pub overflow_add-place-2 : goal.overflow_add-place-2
 overflow_add-place-2 c =
-    let f = lie_fits _ _ _ _ _ (sym (not-false _ c.if-not-lie_in.false) ∙ c.lie_in.ensures) in
+    let f = lie_fits _ _ _ _ _ (sym c.if-not-lie_in.false ∙ c.lie_in.ensures) in
     omega (arith, f.1, c.least-room.ensures)
 
 pub overflow_sub-slots-2 : goal.overflow_sub-slots-2
@@ -79,23 +70,22 @@ overflow_sub-slots-2 c =
 
 pub overflow_add-place-3 : goal.overflow_add-place-3
 overflow_add-place-3 c =
-    let f = lie_fits _ _ _ _ _ (sym (not-false _ c.if-not-lie_in.false) ∙ c.lie_in.ensures) in
+    let f = lie_fits _ _ _ _ _ (sym c.if-not-lie_in.false ∙ c.lie_in.ensures) in
     omega (arith, f.1, c.least-room.ensures)
 
 pub place_slots-requires : goal.place_slots-requires
 place_slots-requires c =
-    let f = lie_fits _ _ _ _ _ (sym (not-false _ c.if-not-lie_in.false) ∙ c.lie_in.ensures) in (
+    let f = lie_fits _ _ _ _ _ (sym c.if-not-lie_in.false ∙ c.lie_in.ensures) in (
       omega (arith, c.least-next.ensures, c.least-slots.ensures),
       omega (arith, f.1, c.least-room.ensures, c.least-next.ensures, c.least-slots.ensures),
     )
 
 pub returns : goal.returns
 returns c =
-    let s = m.before.before.before.before in
-    let a = s.args in (
+    let a = c.args in (
       made a.held a.slot a.new a.counts.now a.words.now a.names.now _ _ _ _ _ _ c.least-slots.ensures c.least-next.ensures
           c.slot_lens-place.ensures.0 c.slot_lens-own.ensures.0 c.slot_lens-later.ensures.0 c.least-room.ensures
-          (sym (not-false _ c.if-not-lie_in.false) ∙ c.lie_in.ensures)
+          (sym c.if-not-lie_in.false ∙ c.lie_in.ensures)
           c.move_names.ensures c.place_slots.ensures,
-      omega (arith, c.slot_lens-place.ensures.1, s.requires.0),
+      omega (arith, c.slot_lens-place.ensures.1, c.requires.0),
     )

@@ -1,16 +1,8 @@
 -- What is left to store, from the column reached, gives what storing all gives.
 use mathlib.Core.Path.{◌≡◌, refl, sym, ap, ◌∙◌}
-use mathlib.Core.Bool.{true}
-use mathlib.Core.List.{List, ◌∷◌}
-use Prim.Native.Nat.{ℕ, ◌+◌, ◌*◌, ◌≤◌, ◌-◌, ◌<◌}
+use Prim.Native.Nat.{ℕ, ◌+◌, ◌-◌}
 use native.Mathlib.Omega.{arith}
-use lib.ListN.{length}
-use Rattle.rows.specs.Rows.{described}
-use Rattle.wire.specs.Bytes.{at}
-use Rattle.relations.specs.Cache.{names_fit}
-use Rattle.relations.specs.Memory.{described_from}
 use Rattle.relations.proofs.Leaves.{given, room, name_there, all_bytes, described_next, described_stop, described_end, name_short}
-use Rattle.packed_relations.specs.Packed.{Words, words_of, store_words, store_word}
 use Rattle.packed_relations.proofs.Leaves.{store_turn, store_none}
 use borrow.Author.Rules.{rules}
 use Rattle.packed_relations.proofs.store.store_words.Goals as goal
@@ -50,8 +42,8 @@ loop-k-preserved c =
     let g = given a.bytes.now a.n c.loop-k.k c.loop-k.at _ _ _ _ _ (rw c.in-Of.is at c.description_at-d.ensures) in
     let e = described_next a.bytes.now a.n c.loop-k.k c.loop-k.at (omega arith) _ _ g.read in
     let w = name_short _ g.name _ _ _ (rw e at c.loop-k.invariant.1) in
-    let b = all_bytes a.bytes.now (λ i. omega (arith, c.shared_slice_known-1.given i)) in
-    let st = rw (name_there g b) at q.Store-word.ensures in
+    let b = all_bytes a.bytes.now (λ i. omega (arith, c.type_inv.bytes i)) in
+    let st = rw (name_there g b) at c.store_word.ensures in
     let n = ap (λ (x : ℕ × ℕ). x.1) g.stands in (
       omega arith,
       w.1,

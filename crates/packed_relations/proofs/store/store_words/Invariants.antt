@@ -1,18 +1,11 @@
 -- What is left to store, from the column reached, gives what storing all gives.
-use mathlib.Core.Path.{◌≡◌, refl, sym, ap, ◌∙◌}
+use mathlib.Core.Path.{◌≡◌}
 use mathlib.Core.Bool.{true}
-use mathlib.Core.List.{List, ◌∷◌}
-use Prim.Native.Nat.{ℕ, ◌+◌, ◌*◌, ◌≤◌, ◌-◌, ◌<◌}
-use native.Mathlib.Omega.{arith}
+use Prim.Native.Nat.{◌+◌, ◌*◌, ◌≤◌, ◌-◌}
 use lib.ListN.{length}
-use Rattle.rows.specs.Rows.{described}
-use Rattle.wire.specs.Bytes.{at}
 use Rattle.relations.specs.Cache.{names_fit}
 use Rattle.relations.specs.Memory.{described_from}
-use Rattle.relations.proofs.Leaves.{given, room, name_there, all_bytes, described_next, described_stop, described_end, name_short}
-use Rattle.packed_relations.specs.Packed.{Words, words_of, store_words, store_word}
-use Rattle.packed_relations.proofs.Leaves.{store_turn, store_none}
-use borrow.Author.Rules.{rules}
+use Rattle.packed_relations.specs.Packed.{words_of, store_words}
 use Rattle.packed_relations.proofs.store.store_words.Given as goal
 
 abbrev pub invariant-loop-k : goal.invariant-loop-k

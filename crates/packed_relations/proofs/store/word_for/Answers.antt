@@ -1,7 +1,6 @@
 -- The word of the key flag that the flags have.
-use borrow.Author.Rules.{rules}
 use mathlib.Core.Bool.{Bool}
-use mathlib.Core.Path.{◌≡◌, ap, ◌∙◌}
+use mathlib.Core.Path.{ap, ◌∙◌}
 use Rattle.column_word.specs.Word.{word_of}
 use Rattle.packed_relations.specs.Packed.{word_column}
 use Rattle.packed_relations.proofs.store.word_for.Goals as goal

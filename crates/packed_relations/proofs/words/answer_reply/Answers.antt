@@ -1,4 +1,3 @@
-use borrow.Author.Rules.{rules}
 use Rattle.packed_relations.proofs.words.answer_reply.Goals as goal
 
 pub returns-in-Read : goal.returns-in-Read

@@ -1,6 +1,5 @@
 use mathlib.Core.Path.{ap, ◌∙◌}
 use Rattle.packed_relations.specs.Words.{column_words}
-use borrow.Author.Rules.{rules}
 use Rattle.packed_relations.proofs.words.column_call.Goals as goal
 
 pub returns : goal.returns

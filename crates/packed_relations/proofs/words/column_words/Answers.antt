@@ -1,4 +1,3 @@
-use borrow.Author.Rules.{rules}
 use Rattle.packed_relations.proofs.words.column_words.Goals as goal
 
 pub returns-in-Of : goal.returns-in-Of

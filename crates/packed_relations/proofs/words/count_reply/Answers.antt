@@ -1,4 +1,3 @@
-use borrow.Author.Rules.{rules}
 use Rattle.packed_relations.proofs.words.count_reply.Goals as goal
 
 pub returns-in-Columns : goal.returns-in-Columns

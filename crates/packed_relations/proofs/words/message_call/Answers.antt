@@ -7,7 +7,6 @@ use Rattle.rows.specs.Rows.{row_said}
 use Rattle.rows.specs.Words.{row_reply}
 use Rattle.packed_relations.specs.Packed.{Packed, packed, words_of, message_of}
 use Rattle.packed_relations.specs.Words.{message_call}
-use borrow.Author.Rules.{rules}
 use Rattle.packed_relations.proofs.words.message_call.Goals as goal
 
 called : (m : Packed) (s : List ℕ) {p : ℕ × List ℕ} (x : Answer) {m' : Packed} → p ≡ row_reply x → (x, m') ≡ message_of m (row_said s) → (p, m') ≡ message_call m s

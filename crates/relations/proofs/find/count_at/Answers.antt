@@ -1,5 +1,4 @@
 -- The byte, and no more than 32.
-use borrow.Author.Rules.{rules}
 use mathlib.Core.Path.{ap, ◌∙◌}
 use Prim.Native.Nat.{ℕ, min}
 use Rattle.relations.proofs.find.count_at.Goals as goal

@@ -1,5 +1,4 @@
 -- By the slot.
-use borrow.Author.Rules.{rules}
 use native.Mathlib.Omega.{arith}
 use Rattle.relations.proofs.Leaves.{held_count, not_held}
 use Rattle.relations.proofs.find.count_of.Goals as goal

@@ -1,5 +1,4 @@
 -- By whether the relation is held and how many columns it has.
-use borrow.Author.Rules.{rules}
 use borrow.Author.Tests.{eq-eqb, ne_eqb}
 use Rattle.relations.proofs.find.matched.Goals as goal
 

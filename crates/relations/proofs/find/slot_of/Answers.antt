@@ -1,12 +1,10 @@
 -- The identifiers passed are none of those looked for.
-use mathlib.Core.Path.{◌≡◌, sym, ◌∙◌}
-use Prim.Native.Nat.{ℕ, ◌+◌, ◌≤◌, ◌<◌, ◌-◌}
+use mathlib.Core.Path.{sym, ◌∙◌}
+use Prim.Native.Nat.{◌<◌}
 use native.Mathlib.Omega.{arith}
-use lib.ListN.{length, take, drop, length-take}
+use lib.ListN.{length, take, length-take}
 use lib.Seq.{get_or-take}
-use Rattle.relations.specs.Memory.{place_of}
 use Rattle.relations.proofs.Leaves.{place_here, place_next, place_none}
-use borrow.Author.Rules.{rules}
 use Rattle.relations.proofs.find.slot_of.Goals as goal
 
 pub loop-k-init : goal.loop-k-init

@@ -1,12 +1,8 @@
 -- The identifiers passed are none of those looked for.
-use mathlib.Core.Path.{◌≡◌, sym, ◌∙◌}
-use Prim.Native.Nat.{ℕ, ◌+◌, ◌≤◌, ◌<◌, ◌-◌}
-use native.Mathlib.Omega.{arith}
-use lib.ListN.{length, take, drop, length-take}
-use lib.Seq.{get_or-take}
+use mathlib.Core.Path.{◌≡◌}
+use Prim.Native.Nat.{◌+◌, ◌≤◌, ◌-◌}
+use lib.ListN.{take, drop}
 use Rattle.relations.specs.Memory.{place_of}
-use Rattle.relations.proofs.Leaves.{place_here, place_next, place_none}
-use borrow.Author.Rules.{rules}
 use Rattle.relations.proofs.find.slot_of.Given as goal
 
 abbrev pub invariant-loop-k : goal.invariant-loop-k

@@ -1,13 +1,10 @@
 -- The names passed are short enough.
-use mathlib.Core.Path.{◌≡◌, refl, sym, ap, ◌∙◌}
-use mathlib.Core.List.{◌∷◌}
-use Prim.Native.Nat.{ℕ, ◌+◌, ◌≤◌, ◌-◌, ◌<◌}
+use mathlib.Core.Path.{◌≡◌, sym, ap, ◌∙◌}
+use Prim.Native.Nat.{ℕ, ◌≤◌, ◌-◌, ◌<◌}
 use native.Mathlib.Omega.{arith}
 use lib.ListN.{length}
 use Rattle.relations.specs.Cache.{names_fit}
-use Rattle.relations.specs.Memory.{described_from}
 use Rattle.relations.proofs.Leaves.{given, described_next, described_stop, described_end, names_one, name_long, names_none}
-use borrow.Author.Rules.{rules}
 use Rattle.relations.proofs.store.names_fit.Goals as goal
 
 pub loop-k-init : goal.loop-k-init

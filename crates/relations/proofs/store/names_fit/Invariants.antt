@@ -1,13 +1,8 @@
 -- The names passed are short enough.
-use mathlib.Core.Path.{◌≡◌, refl, sym, ap, ◌∙◌}
-use mathlib.Core.List.{◌∷◌}
-use Prim.Native.Nat.{ℕ, ◌+◌, ◌≤◌, ◌-◌, ◌<◌}
-use native.Mathlib.Omega.{arith}
-use lib.ListN.{length}
+use mathlib.Core.Path.{◌≡◌}
+use Prim.Native.Nat.{◌≤◌, ◌-◌}
 use Rattle.relations.specs.Cache.{names_fit}
 use Rattle.relations.specs.Memory.{described_from}
-use Rattle.relations.proofs.Leaves.{given, described_next, described_stop, described_end, names_one, name_long, names_none}
-use borrow.Author.Rules.{rules}
 use Rattle.relations.proofs.store.names_fit.Given as goal
 
 abbrev pub invariant-loop-k : goal.invariant-loop-k

@@ -2,7 +2,6 @@
 use mathlib.Core.Path.{sym}
 use lib.Seq.{set_out}
 use native.Mathlib.Omega.{arith}
-use borrow.Author.Rules.{rules}
 use Rattle.relations.proofs.store.set_word.Goals as goal
 
 pub returns-else-i-s : goal.returns-else-i-s

@@ -1,6 +1,5 @@
 -- The sum of the four bits' values.
 use Rattle.touched.specs.Bits.{bits_of}
-use borrow.Author.Rules.{rules}
 use Rattle.touched.proofs.Files.bits.Goals as goal
 
 pub returns : goal.returns

@@ -1,6 +1,5 @@
 -- Bit by bit.
 use Rattle.touched.specs.Bits.{files_by}
-use borrow.Author.Rules.{rules}
 use Rattle.touched.proofs.Files.of_bits.Goals as goal
 
 pub returns : goal.returns

@@ -1,5 +1,4 @@
 -- By the file's number.
-use borrow.Author.Rules.{rules}
 use borrow.Author.Tests.{ne_eqb}
 use Rattle.touched.proofs.Files.with.Goals as goal
 

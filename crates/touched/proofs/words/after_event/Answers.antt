@@ -1,5 +1,4 @@
 -- The event and the files that the words stand for.
-use borrow.Author.Rules.{rules}
 use Rattle.touched.proofs.words.after_event.Goals as goal
 
 pub returns : goal.returns

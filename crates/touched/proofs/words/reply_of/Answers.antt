@@ -1,6 +1,5 @@
 -- By the answer.
 use Rattle.touched.proofs.WordLaws.{refused_reply}
-use borrow.Author.Rules.{rules}
 use Rattle.touched.proofs.words.reply_of.Goals as goal
 
 pub returns-in-Left : goal.returns-in-Left

@@ -1,6 +1,5 @@
 -- By the event's kind.
 use Rattle.touched.specs.Words.{told_by}
-use borrow.Author.Rules.{rules}
 use borrow.Author.Tests.{ne_eqb}
 use Rattle.touched.proofs.words.tells_by.Goals as goal
 

@@ -1,4 +1,3 @@
-use Rattle.std.proofs.Common.{rules}
 use Rattle.worker.proofs.changes.cell_in.Goals as goal
 
 pub returns : goal.returns

@@ -1,4 +1,3 @@
-use Rattle.std.proofs.Common.{rules}
 use Rattle.worker.proofs.changes.with_cell.Goals as goal
 
 pub returns : goal.returns

@@ -1,5 +1,4 @@
 use Rattle.worker.specs.Answer.{lent}
-use Rattle.std.proofs.Common.{rules}
 use Rattle.worker.proofs.deliver.next.Goals as goal
 
 pub returns-then-is_stopped_at : goal.returns-then-is_stopped_at

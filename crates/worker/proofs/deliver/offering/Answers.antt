@@ -1,4 +1,4 @@
-use Rattle.std.proofs.Common.{◌∙◌, rules}
+use Rattle.std.proofs.Common.{◌∙◌}
 use Rattle.worker.specs.Step.{offering_of}
 use Rattle.worker.proofs.deliver.offering.Goals as goal
 

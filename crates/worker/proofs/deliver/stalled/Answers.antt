@@ -1,4 +1,4 @@
-use Rattle.std.proofs.Common.{◌∙◌, rules}
+use Rattle.std.proofs.Common.{◌∙◌}
 use Rattle.worker.specs.Step.{stalled_of}
 use Rattle.worker.proofs.deliver.stalled.Goals as goal
 

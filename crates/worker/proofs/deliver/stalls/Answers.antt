@@ -1,4 +1,3 @@
-use Rattle.std.proofs.Common.{rules}
 use Rattle.worker.proofs.deliver.stalls.Goals as goal
 
 pub returns : goal.returns

@@ -1,5 +1,4 @@
 use Rattle.worker.specs.Answer.{lent}
-use Rattle.std.proofs.Common.{rules}
 use Rattle.worker.proofs.deliver.stays.Goals as goal
 
 pub returns-then-interval_passed : goal.returns-then-interval_passed

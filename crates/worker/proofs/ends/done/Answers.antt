@@ -1,5 +1,4 @@
 use Rattle.worker.proofs.Laws.{done_written}
-use Rattle.std.proofs.Common.{rules}
 use Rattle.worker.proofs.ends.done.Goals as goal
 
 pub returns : goal.returns

@@ -1,4 +1,3 @@
-use Rattle.std.proofs.Common.{rules}
 use Rattle.worker.proofs.ends.ended.Goals as goal
 
 pub returns : goal.returns

@@ -1,4 +1,4 @@
-use Rattle.std.proofs.Common.{◌≤◌, length, ◌∙◌, arith, drop_of_length-le, rules}
+use Rattle.std.proofs.Common.{◌≤◌, length, ◌∙◌, arith, drop_of_length-le}
 use lib.Seq.{take-nil}
 use Rattle.wire.proofs.Laws.{tail_whole}
 use Rattle.pgoutput.specs.Boundary.{boundary_of}

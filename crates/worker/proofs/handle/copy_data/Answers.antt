@@ -1,5 +1,5 @@
 -- The server's time is a signed field: it is read back as it was since it fits.
-use Rattle.std.proofs.Common.{◌∙◌, w64, rules}
+use Rattle.std.proofs.Common.{◌∙◌, w64}
 use mir.ValLaws.{to_z-of_z}
 use Rattle.worker.specs.Answer.{lent}
 use Rattle.worker.proofs.handle.copy_data.Goals as goal

@@ -1,4 +1,4 @@
-use Rattle.std.proofs.Common.{◌∙◌, arith, length-take, rules}
+use Rattle.std.proofs.Common.{◌∙◌, arith, length-take}
 use Rattle.worker.proofs.Laws.{take_least}
 use Rattle.worker.proofs.handle.copy_data_in.Goals as goal
 

@@ -1,8 +1,7 @@
 -- Signed fields are read back as they were since they fit.
-use Rattle.std.proofs.Common.{drop, sym, ◌∙◌, arith, length-drop, length-take, w64, rules}
+use Rattle.std.proofs.Common.{drop, sym, ◌∙◌, arith, length-drop, length-take, w64}
 use mir.ValLaws.{to_z-of_z}
 use Rattle.pgoutput.proofs.LayoutMessage.{parts_within}
-
 -- prefix and content lie within the payload, so that their places fit
 use Rattle.worker.proofs.handle.event_at.Goals as goal
 

@@ -1,6 +1,5 @@
 use Rattle.worker.specs.Answer.{lent}
 use Rattle.worker.specs.Step.{handling_of}
-use Rattle.std.proofs.Common.{rules}
 use Rattle.worker.proofs.handle.handling.Goals as goal
 
 pub returns-then-is_error : goal.returns-then-is_error

@@ -1,4 +1,4 @@
-use Rattle.std.proofs.Common.{◌∙◌, w64, rules}
+use Rattle.std.proofs.Common.{◌∙◌, w64}
 use mir.ValLaws.{to_z-of_z}
 use Rattle.worker.specs.Answer.{lent}
 use Rattle.worker.proofs.handle.xlog_data.Goals as goal

@@ -1,4 +1,3 @@
-use Rattle.std.proofs.Common.{rules}
 use Rattle.worker.proofs.receive.opening_by.Goals as goal
 
 pub returns-in-More : goal.returns-in-More

@@ -1,4 +1,4 @@
-use Rattle.std.proofs.Common.{◌∙◌, rules}
+use Rattle.std.proofs.Common.{◌∙◌}
 use Rattle.worker.proofs.receive.opening_whole.Goals as goal
 
 pub returns-then-is_copy_both_response : goal.returns-then-is_copy_both_response

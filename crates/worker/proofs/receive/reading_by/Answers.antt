@@ -1,4 +1,4 @@
-use Rattle.std.proofs.Common.{◌∙◌, rules}
+use Rattle.std.proofs.Common.{◌∙◌}
 use Rattle.worker.proofs.receive.reading_by.Goals as goal
 
 pub returns-in-More : goal.returns-in-More

@@ -1,4 +1,4 @@
-use Rattle.std.proofs.Common.{◌∙◌, rules}
+use Rattle.std.proofs.Common.{◌∙◌}
 use Rattle.worker.proofs.receive.to_handle.Goals as goal
 
 pub returns : goal.returns

@@ -1,5 +1,5 @@
 -- `lent []`: what is unread plays no part in these ends.
-use Rattle.std.proofs.Common.{[], rules, eq-eqb, ne_eqb}
+use Rattle.std.proofs.Common.{[], eq-eqb, ne_eqb}
 use Rattle.worker.specs.Answer.{lent}
 use Rattle.worker.specs.Step.{drain_of}
 use Rattle.worker.proofs.rounds.drain.Goals as goal

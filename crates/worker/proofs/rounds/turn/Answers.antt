@@ -1,4 +1,4 @@
-use Rattle.std.proofs.Common.{◌∙◌, rules}
+use Rattle.std.proofs.Common.{◌∙◌}
 use Rattle.worker.specs.Answer.{lent}
 use Rattle.worker.specs.Step.{turn_of}
 use Rattle.worker.proofs.rounds.turn.Goals as goal

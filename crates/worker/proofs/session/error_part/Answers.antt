@@ -1,4 +1,3 @@
-use Rattle.std.proofs.Common.{rules}
 use Rattle.worker.proofs.session.error_part.Goals as goal
 
 pub returns-then-is_error : goal.returns-then-is_error

@@ -1,5 +1,4 @@
 use Rattle.worker.specs.Run.{fresh_run}
-use Rattle.std.proofs.Common.{rules}
 use Rattle.worker.proofs.session.fresh_run.Goals as goal
 
 pub returns : goal.returns

@@ -1,5 +1,4 @@
 use Rattle.worker.specs.Session.{open_of}
-use Rattle.std.proofs.Common.{rules}
 use Rattle.worker.proofs.session.open.Goals as goal
 
 pub returns-then-bad_interval : goal.returns-then-bad_interval

@@ -1,5 +1,4 @@
 use Rattle.worker.specs.Session.{report_of}
-use Rattle.std.proofs.Common.{rules}
 use Rattle.worker.proofs.session.report.Goals as goal
 
 pub returns : goal.returns

@@ -1,4 +1,3 @@
-use Rattle.std.proofs.Common.{rules}
 use Rattle.worker.proofs.status.reported.Goals as goal
 
 pub returns-then-takes_pending : goal.returns-then-takes_pending

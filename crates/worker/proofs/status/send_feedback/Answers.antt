@@ -1,5 +1,5 @@
 -- The client's time is a signed field: it is read back as it was since it fits.
-use Rattle.std.proofs.Common.{w64, rules}
+use Rattle.std.proofs.Common.{w64}
 use mir.ValLaws.{to_z-of_z}
 use Rattle.worker.proofs.Laws.{status_written}
 use Rattle.worker.specs.Step.{feedback_of}

@@ -1,4 +1,3 @@
-use Rattle.std.proofs.Common.{rules}
 use Rattle.worker.proofs.status.status_due.Goals as goal
 
 pub returns-then-run : goal.returns-then-run

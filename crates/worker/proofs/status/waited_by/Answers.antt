@@ -1,4 +1,4 @@
-use Rattle.std.proofs.Common.{rules, eq-eqb, ne_eqb}
+use Rattle.std.proofs.Common.{eq-eqb, ne_eqb}
 use Rattle.worker.proofs.status.waited_by.Goals as goal
 
 pub returns-then-since-eq0 : goal.returns-then-since-eq0

@@ -1,4 +1,3 @@
-use Rattle.std.proofs.Common.{rules}
 use Rattle.worker.proofs.status.with_last_status.Goals as goal
 
 pub returns : goal.returns

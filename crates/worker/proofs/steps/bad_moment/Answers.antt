@@ -1,4 +1,3 @@
-use Rattle.std.proofs.Common.{rules}
 use Rattle.worker.proofs.steps.bad_moment.Goals as goal
 
 pub returns-then-is_in_range : goal.returns-then-is_in_range

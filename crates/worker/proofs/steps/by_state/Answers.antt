@@ -1,6 +1,5 @@
 use Rattle.worker.specs.Answer.{lent}
 use Rattle.worker.specs.Step.{step_in}
-use Rattle.std.proofs.Common.{rules}
 use Rattle.worker.proofs.steps.by_state.Goals as goal
 
 pub returns-in-Opening : goal.returns-in-Opening

@@ -1,5 +1,5 @@
 -- `lent []`: what is unread plays no part in these ends.
-use Rattle.std.proofs.Common.{[], rules, le-ltb, lt-ltb}
+use Rattle.std.proofs.Common.{[], le-ltb, lt-ltb}
 use Rattle.worker.specs.Answer.{lent}
 use Rattle.worker.specs.Step.{step_of}
 use Rattle.worker.proofs.steps.step.Goals as goal

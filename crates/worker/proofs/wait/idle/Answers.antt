@@ -1,5 +1,4 @@
 use Rattle.worker.specs.Answer.{lent}
-use Rattle.std.proofs.Common.{rules}
 use Rattle.worker.proofs.wait.idle.Goals as goal
 
 pub returns-then-idle_passed : goal.returns-then-idle_passed

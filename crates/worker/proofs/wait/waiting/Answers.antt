@@ -1,5 +1,5 @@
 -- `lent []`: what is unread plays no part in these ends.
-use Rattle.std.proofs.Common.{[], sym, ◌∙◌, rules}
+use Rattle.std.proofs.Common.{[], sym, ◌∙◌}
 use Rattle.worker.specs.Answer.{lent}
 use Rattle.worker.specs.Step.{waiting_of}
 use Rattle.worker.proofs.Laws.{waiting_reads}

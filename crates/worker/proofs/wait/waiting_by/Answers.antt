@@ -1,5 +1,4 @@
 use Rattle.worker.specs.Answer.{lent}
-use Rattle.std.proofs.Common.{rules}
 use Rattle.worker.proofs.wait.waiting_by.Goals as goal
 
 pub returns-in-More : goal.returns-in-More

@@ -1,4 +1,4 @@
-use Rattle.std.proofs.Common.{◌∙◌, rules}
+use Rattle.std.proofs.Common.{◌∙◌}
 use Rattle.worker.proofs.Laws.{having_same}
 use Rattle.worker.proofs.wait.waiting_read.Goals as goal
 

@@ -1,0 +1,14 @@
+-- Each turn leaves the buffers' lengths, and the records are counted down.
+use lib.ListN.{length}
+use Rattle.test_lines.proofs.Laws.{left_less}
+use native.Mathlib.Omega.{arith}
+use borrow.Author.Rules.{rules}
+use mathlib.Core.Path.{◌≡◌}
+use Rattle.test_changes.proofs.run.Given as goal
+
+abbrev pub invariant-loop-records : goal.invariant-loop-records
+invariant-loop-records l = (length l.head ≡ length l.initial.head) × (length l.input ≡ length l.initial.input) ×
+    (length l.line ≡ length l.initial.line)
+
+abbrev pub decreases-loop-records : goal.decreases-loop-records
+decreases-loop-records l = l.records
