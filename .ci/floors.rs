@@ -112,7 +112,8 @@ fn uses_in(text: &str) -> Vec<String> {
 fn types_in(name: &str) -> BTreeSet<String> {
     let sources = files(&Path::new("crates").join(name).join("src"));
     let items: Vec<String> = sources.iter().flat_map(|path| uses_in(&format!("\n{}", read(path)))).collect();
-    let is_type = |item: &&String| item.split("::").last().is_some_and(|names| names.split(['{', '}', ',', ' ']).any(|w| w.starts_with(char::is_uppercase)));
+    let is_type =
+        |item: &&String| item.split("::").last().is_some_and(|names| names.split(['{', '}', ',', ' ']).any(|w| w.starts_with(char::is_uppercase)));
     items.iter().filter(is_type).filter_map(|item| item.split("::").next()).map(String::from).collect()
 }
 

@@ -3,7 +3,7 @@
 //!     free [--sample N] [--each N] [--seed S] [--name NAME] [--own] [--list] [--noticed] CRATE ..
 //!
 //! It changes one definition of a crate's specs/ at a time, of those that a public function's contract cites, directly or through definitions, and
-//! checks all theorems, laws and cases again, with no function beside them: the copy below target/free has the declared types, specs/ and the
+//! checks all theorems, laws and cases again, with no function beside them: a copy in a temporary folder has the declared types, specs/ and the
 //! theorem files of proofs/ alone. So what fails is never a function's own contract. First the crate itself is checked, over what it uses; what is
 //! free there is tried on each library that uses the crate, one after the other. A change that no statement notices is printed, `free FILE:LINE NAME
 //! change`: a program that is wrong in that way can be proved. `noticed` is no proof of strength, since a proof may fail where the statement still
@@ -27,10 +27,10 @@ fn read(path: &Path) -> String {
     fs::read_to_string(path).unwrap_or_else(|e| panic!("{}: {e}", path.display()))
 }
 
-/// The folder of the copy.
+/// The folder of the copy, outside of the repository, in which `rt ci` refuses one.
 fn work() -> PathBuf {
     let here = std::env::current_dir().expect("a folder");
-    here.join(std::env::var("FREE_WORK").unwrap_or("target/free".into()))
+    std::env::var("FREE_WORK").map_or(std::env::temp_dir().join("rufflesquash_free"), |folder| here.join(folder))
 }
 
 fn write(path: &Path, text: &str) {
@@ -72,7 +72,8 @@ fn libraries() -> Vec<Library> {
     let list = read(Path::new("crates.txt"));
     let lines = list.lines().filter(|line| !line.starts_with('#')).filter_map(|line| line.split_once(':'));
     let there = |name: &str| !LEFT_OUT.contains(&name) && Path::new("crates").join(name).join("src/lib.rt").exists();
-    let library = |(name, uses): (&str, &str)| Library { name: name.into(), uses: uses.split_whitespace().map(String::from).collect() };
+    let bare = |name: &str| name.split_whitespace().next().unwrap_or("").to_string();
+    let library = |(name, uses): (&str, &str)| Library { name: bare(name), uses: uses.split_whitespace().map(String::from).collect() };
     lines.filter(|(name, _)| there(name)).map(library).collect()
 }
 
@@ -131,9 +132,14 @@ fn item_end(text: &str, at: usize, kind: &str) -> usize {
             let mut from = at;
             loop {
                 let open = from + text[from..].find('{').expect("a body");
-                let before = text[from..open].trim_end();
+                // A clause may have a name.
+                let is_clause = {
+                    let mut before = text[from..open].split_whitespace().rev().map(|word| word.trim_end_matches('*'));
+                    let clauses = ["ensures", "requires", "ghost"];
+                    before.next().is_some_and(|word| clauses.contains(&word)) || before.next().is_some_and(|word| clauses.contains(&word))
+                };
                 from = closing(text, open);
-                if !["ensures", "requires", "ghost"].iter().any(|clause| before.ends_with(clause)) {
+                if !is_clause {
                     return from;
                 }
             }
@@ -162,7 +168,7 @@ fn items(text: &str) -> Vec<Item> {
     let mut at = 0;
     while let Some(skipped) = text[at..].find(|c: char| !c.is_whitespace()) {
         at += skipped;
-        if text[at..].starts_with("//") || text[at..].starts_with("#[") {
+        if text[at..].starts_with("//") || text[at..].starts_with('#') {
             at += text[at..].find('\n').unwrap_or(text.len() - at);
             continue;
         }
@@ -176,9 +182,14 @@ fn items(text: &str) -> Vec<Item> {
     found
 }
 
-/// The last name of a `use` item.
-fn last_name(text: &str) -> &str {
-    text.trim_end_matches(';').rsplit(|c: char| !is_name(c)).next().unwrap_or("")
+/// A `use` item with those of its names that stand in a text, if there are some.
+fn used_in(text: &str, types: &str) -> Option<String> {
+    let whole = text.split_whitespace().collect::<Vec<_>>().join(" ");
+    let last = |name: &str| name.trim_end_matches(';').rsplit(|c: char| !is_name(c)).next().unwrap_or("").to_string();
+    let Some((path, names)) = whole.split_once('{') else { return has_word(types, &last(&whole)).then_some(whole) };
+    let names = names.split('}').next().unwrap_or("").split(',').map(str::trim).filter(|name| !name.is_empty() && has_word(types, &last(name)));
+    let names = names.collect::<Vec<_>>().join(", ");
+    (!names.is_empty()).then(|| format!("{path}{{{names}}};"))
 }
 
 /// Of each library the files of Rattle: path below src/ and items.
@@ -231,12 +242,12 @@ fn write_types(library: &str, files: &[(PathBuf, Vec<Item>)], kept: &BTreeSet<St
         }
         let types = items.iter().filter(|item| is_kept(item, kept)).map(|item| item.text.as_str()).collect::<Vec<_>>().join("\n");
         let below = if is_root { PathBuf::new() } else { own };
-        let stays = |item: &&Item| match item.kind.as_str() {
-            "use" => has_word(&types, last_name(&item.text)),
-            "mod" => item.text.ends_with(';') && modules.contains(&below.join(&item.name)),
-            _ => is_kept(item, kept),
+        let stays = |item: &Item| match item.kind.as_str() {
+            "use" => used_in(&item.text, &types),
+            "mod" => (item.text.ends_with(';') && modules.contains(&below.join(&item.name))).then(|| item.text.clone()),
+            _ => is_kept(item, kept).then(|| item.text.clone()),
         };
-        let text = items.iter().filter(stays).map(|item| item.text.as_str()).collect::<Vec<_>>().join("\n");
+        let text = items.iter().filter_map(stays).collect::<Vec<_>>().join("\n");
         write(&work().join("crates").join(library).join("src").join(path), &format!("{text}\n"));
     }
 }
@@ -265,11 +276,12 @@ fn theories(all: &[Library]) -> Vec<Theory> {
     found
 }
 
-/// The library and the module of proofs/ that a line uses.
+/// The library of the repository and the module of its proofs/ that a line uses.
 fn used_proof(line: &str) -> Option<(String, String)> {
-    let (library, module) = line.strip_prefix("use Rattle·")?.split_once(".proofs.")?;
+    let (library, module) = line.strip_prefix("use Rattle.")?.split_once(".proofs.")?;
     let end = |c: char| c == '.' || c.is_whitespace();
-    Some((library.trim_end_matches("·proofs").to_string(), module.split(end).next().unwrap_or("").to_string()))
+    let ours = Path::new("crates").join(library).exists();
+    ours.then(|| (library.to_string(), module.split(end).next().unwrap_or("").to_string()))
 }
 
 /// Leaves out the theorem files that cite a function's contract, which the copy has not, and those that cite such a file.
@@ -311,7 +323,8 @@ fn write_copy(all: &[Library]) {
     }
     let kept = kept_names(&sources, cited_types(&theories.iter().map(|t| &t.text).collect::<Vec<_>>()));
     sources.iter().for_each(|(library, files)| write_types(library, files, &kept));
-    write(&work().join("top/src/lib.rt"), "\n");
+    write(&work().join("crates/top/src/lib.rt"), "#![tactic(auto)]\n");
+    write(&work().join("crates.txt"), "top:\n");
 }
 
 /// What a check of the copy says: nothing, or the places of its errors.
@@ -321,15 +334,14 @@ enum Verdict {
     NoVerdict(String),
 }
 
-/// Checks these libraries of the copy as sources, in one run over one incremental folder.
+/// Checks these libraries of the copy as sources, beside an empty crate, in one run over what earlier ones kept.
 fn check(libraries: &BTreeSet<String>) -> Verdict {
     let here = work();
     let mut command = Command::new("rt");
-    command.arg("check").arg(here.join("top")).arg("--incremental").arg(here.join("incremental"));
+    command.current_dir(here.join("crates/top")).arg("check").arg("--jobs").arg("1");
     for library in libraries {
         command.arg("--lib").arg(format!("{library}={}", here.join("crates").join(library).join("src/lib.rt").display()));
     }
-    fs::create_dir_all(here.join("incremental")).expect("a folder made");
     let output = command.output().expect("rt");
     let said = String::from_utf8_lossy(&output.stdout).to_string() + &String::from_utf8_lossy(&output.stderr);
     if output.status.success() {
@@ -375,6 +387,9 @@ fn tokens(text: &str, part: Range<usize>) -> Vec<Token> {
             '-' if rest.starts_with("-- ") => rest.find('\n').unwrap_or(rest.len()),
             '"' => 2 + rest[1..].find('"').expect("a text's end"),
             _ if word(c) => 1,
+            // A field and what it is of are two words; a name behind a module's is one.
+            '.' => 1 + rest[1..].find(|c: char| word(c) || c == '.').unwrap_or(rest.len() - 1),
+            _ if c.is_lowercase() || c == '_' => rest.find(|c: char| word(c) || c == '.').unwrap_or(rest.len()),
             _ => rest.find(word).unwrap_or(rest.len()),
         };
         if !c.is_whitespace() && !rest.starts_with("-- ") {
@@ -500,14 +515,14 @@ fn definitions(text: &str) -> Vec<Definition> {
 
 /// What a `use` line of another file of definitions brings: each name with its library, its module and its own name. A module's short name has "".
 fn brought(line: &str) -> Vec<(String, (String, String, String))> {
-    let Some((library, path)) = line.trim_end_matches(';').split_once("use Rattle·").and_then(|(_, rest)| rest.split_once(".specs.")) else {
+    let Some((library, path)) = line.trim_end_matches(';').split_once("use Rattle.").and_then(|(_, rest)| rest.split_once(".specs.")) else {
         return Vec::new();
     };
-    let library = library.trim_end_matches("·specs").to_string();
+    let library = library.to_string();
     if let Some((module, names)) = path.split_once(".{") {
         let one = |name: &str| {
             let (own, here) = name.trim().split_once(" as ").unwrap_or((name.trim(), name.trim()));
-            (here.trim_matches('_').to_string(), (library.clone(), module.to_string(), own.to_string()))
+            (here.trim_matches('◌').to_string(), (library.clone(), module.to_string(), own.to_string()))
         };
         return names.trim_end_matches('}').split(',').map(one).collect();
     }
@@ -537,7 +552,7 @@ fn specs(all: &[Library]) -> Vec<Spec> {
 /// What a word of a file stands for, where it is a definition's name.
 fn meant(spec: &Spec, word: &str) -> Option<(String, String, String)> {
     let word = word.trim_end_matches('.');
-    if spec.definitions.iter().any(|d| d.name.trim_matches('_') == word) {
+    if spec.definitions.iter().any(|d| d.name.trim_matches('◌') == word) {
         return Some((spec.library.clone(), spec.module.clone(), word.to_string()));
     }
     if let Some(used) = spec.uses.get(word).filter(|used| !used.2.is_empty()) {
@@ -582,7 +597,7 @@ fn reached(specs: &[Spec]) -> BTreeSet<(String, String, String)> {
         if !found.insert(next.clone()) {
             continue;
         }
-        for definition in spec.definitions.iter().filter(|d| d.name.trim_matches('_') == next.2.trim_matches('_')) {
+        for definition in spec.definitions.iter().filter(|d| d.name.trim_matches('◌') == next.2.trim_matches('◌')) {
             todo.extend(tokens(&spec.text, definition.whole.clone()).iter().filter_map(|word| meant(spec, &word.text)));
         }
     }
@@ -643,7 +658,6 @@ fn learn_type(known: &mut Known, item: &Item) {
         "struct" => {
             for (name, held) in lines.filter_map(|line| line.trim().trim_end_matches(',').split_once(": ")) {
                 let name = format!(".{}", name.trim_start_matches("pub "));
-                let name = if name.contains('_') { format!(".«{}»", &name[1..]) } else { name };
                 let held = type_of(held);
                 let same = known.fields.get(&name).is_none_or(|before| *before == held);
                 known.fields.insert(name, if same { held } else { String::new() });
@@ -663,14 +677,14 @@ fn known(all: &[Library], specs: &[Spec]) -> Known {
         let place = |name: &String| (spec.library.clone(), spec.module.clone(), name.clone());
         known.definitions.extend(spec.constructors.iter().map(|(name, held)| (place(name), held.clone())));
         for d in &spec.definitions {
-            let name = (spec.library.clone(), spec.module.clone(), d.name.trim_matches('_').to_string());
+            let name = (spec.library.clone(), spec.module.clone(), d.name.trim_matches('◌').to_string());
             known.definitions.insert(name, (d.takes.clone(), d.gives.clone()));
         }
     }
     known
 }
 
-const OPERATORS: [&str; 10] = ["+", "-", "*", "/", "%", "^", "++", "∷", "→", "×"];
+const OPERATORS: [&str; 11] = ["+", "-", "*", "/", "%", "^", "++", "∷", "→", "×", "=="];
 
 /// A clause's body, word by word, with the types of the variables of its head and of those that it binds.
 struct Body<'a> {
@@ -728,11 +742,20 @@ impl Body<'_> {
             if OPERATORS.contains(&word) || [")", "}", ",", ";", "in", "=", "let", "λ", ":"].contains(&word) || word.starts_with('.') {
                 break;
             }
-            let next = self.words[at].close.max(at) + 1;
+            let next = self.behind(at);
             found.push(at..next);
             at = next;
         }
         found
+    }
+
+    /// The place behind a word or bracket and the fields that are read of it.
+    fn behind(&self, at: usize) -> usize {
+        let mut next = self.words[at].close.max(at) + 1;
+        while self.words.get(next).is_some_and(|word| word.text.starts_with('.') && word.at.start == self.words[next - 1].at.end) {
+            next += 1;
+        }
+        next
     }
 
     fn type_of_name(&self, word: &str) -> Option<(Vec<String>, String)> {
@@ -742,12 +765,13 @@ impl Body<'_> {
         let builtin = |count: usize, gives: &str| Some((vec![String::new(); count], gives.to_string()));
         match word {
             "true" | "false" => builtin(0, "Bool"),
-            "ltb" | "leb" | "eqb" => builtin(2, "Bool"),
+            "ltb" | "leb" | "eqb" | "nat_lt" | "nat_le" | "nat_eq" => builtin(2, "Bool"),
             "length" => builtin(1, "ℕ"),
             "take" | "drop" => builtin(2, "List"),
             "[]" => builtin(0, "List"),
             "min" | "max" => builtin(2, "ℕ"),
-            "getD" => builtin(3, "ℕ"),
+            "get_or" => builtin(3, "ℕ"),
+            "slice_index" => builtin(2, "ℕ"),
             _ => self.known.of(self.spec, word).cloned(),
         }
     }
@@ -763,6 +787,9 @@ impl Body<'_> {
         }
         let parts = self.split(range.clone(), &OPERATORS);
         if parts.len() > 1 {
+            if self.split(range.clone(), &["=="]).len() > 1 {
+                return Some("Bool".into());
+            }
             let is_list = range.clone().any(|i| ["∷", "++"].contains(&self.words[i].text.as_str()));
             return Some(if is_list { "List" } else { "ℕ" }.into());
         }
@@ -891,7 +918,7 @@ impl Body<'_> {
 
     /// A number by one; a test, a truth value, an operation for another; a text with a letter more.
     fn words_changed(&self) -> Vec<Edit> {
-        let pairs = [("ltb", "leb"), ("true", "false"), ("min", "max"), ("+", "-")];
+        let pairs = [("ltb", "leb"), ("nat_lt", "nat_le"), ("true", "false"), ("min", "max"), ("+", "-")];
         let other = |word: &str| pairs.iter().find_map(|(a, b)| if word == *a { Some(*b) } else { (word == *b).then_some(*a) });
         let is_field = |i: usize| self.words.get(i + 1).is_some_and(|next| next.text == "=");
         let mut found = Vec::new();
@@ -946,7 +973,7 @@ impl Body<'_> {
         for head in 0..self.words.len() {
             let word = self.words[head].text.as_str();
             let takes = match word {
-                "ltb" | "leb" => vec!["ℕ".to_string(); 2],
+                "ltb" | "leb" | "nat_lt" | "nat_le" => vec!["ℕ".to_string(); 2],
                 "pick" => continue,
                 _ => self.type_of_name(word).map_or(Vec::new(), |(takes, _)| takes),
             };
@@ -1014,9 +1041,9 @@ impl Body<'_> {
             match held.as_str() {
                 _ if places.is_empty() => {}
                 "ℕ" => cut(name, &alone("0")),
-                "Lsn" | "Moment" => cut(&format!("({name} .0)"), &self.as_zero(&places)),
+                "Lsn" | "Moment" => cut(&format!("{name}.0"), &self.as_zero(&places)),
                 _ if held.starts_with("List ") => cut(name, &alone("[]")),
-                _ => self.numbers_of(&places).into_iter().for_each(|(field, at)| cut(&format!("({name} {field})"), &at)),
+                _ => self.numbers_of(&places).into_iter().for_each(|(field, at)| cut(&format!("{name}{field}"), &at)),
             }
         }
         found
@@ -1079,20 +1106,23 @@ fn answers(spec: &Spec, bodies: &[Body], clauses: &[Clause]) -> Vec<Edit> {
 }
 
 // Words that a change may bring into a file, with the names and modules that they are used from.
-const LIBRARY: [(&str, &str, &str); 12] = [
-    ("pick", "pick", "Rattle·wire.specs.Bytes"),
-    ("ltb", "ltb", "lib.Dec"),
-    ("leb", "leb", "lib.Dec"),
-    ("eqb", "eqb", "lib.Dec"),
-    ("length", "length", "lib.ListN"),
-    ("[]", "[]", "mathlib.Core.List"),
-    ("true", "true", "mathlib.Core.Bool"),
-    ("false", "false", "mathlib.Core.Bool"),
-    ("min", "min", "Prim.Native.Nat"),
-    ("max", "max", "Prim.Native.Nat"),
-    ("+", "_+_", "Prim.Native.Nat"),
-    ("-", "_-_", "Prim.Native.Nat"),
+const LIBRARY: [(&str, &str, &str); 14] = [
+    ("pick", "pick", "Rattle.wire.specs.Bytes"),
+    ("ltb", "ltb", PRELUDE),
+    ("leb", "leb", PRELUDE),
+    ("nat_lt", "nat_lt", PRELUDE),
+    ("nat_le", "nat_le", PRELUDE),
+    ("eqb", "eqb", PRELUDE),
+    ("length", "length", PRELUDE),
+    ("[]", "[]", PRELUDE),
+    ("true", "true", PRELUDE),
+    ("false", "false", PRELUDE),
+    ("min", "min", PRELUDE),
+    ("max", "max", PRELUDE),
+    ("+", "◌+◌", PRELUDE),
+    ("-", "◌-◌", PRELUDE),
 ];
+const PRELUDE: &str = "Rattle.std.specs.Prelude";
 
 /// The names that a change needs and the file lacks, as `use` lines.
 fn lacking(spec: &Spec, edit: &Edit) -> String {
@@ -1102,9 +1132,7 @@ fn lacking(spec: &Spec, edit: &Edit) -> String {
     };
     let new: Vec<Token> = edit.parts.iter().flat_map(|(_, new)| tokens(new, 0..new.len())).collect();
     let needed = LIBRARY.iter().filter(|(word, name, _)| new.iter().any(|token| token.text == *word) && !there(name));
-    let own = format!("Rattle·{}.specs", spec.library);
-    let from = |module: &str| module.replace(&own, &format!("Rattle·{}·specs.specs", spec.library));
-    needed.map(|(_, name, module)| format!("use {}.{{{name}}}\n", from(module))).collect()
+    needed.map(|(_, name, module)| format!("use {module}.{{{name}}}\n")).collect()
 }
 
 /// All changes of a definition.

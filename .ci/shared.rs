@@ -10,29 +10,29 @@ const READING: [&str; 5] = ["thm_any_calls", "thm_page_shown", "thm_host_calls",
 const LEFT_OUT: [&str; 3] = ["Lib.antt", "Shared.antt", "Mixed.antt"];
 // What the statements are about: calls, and what a host reads of their contracts.
 const SUBJECTS: [&str; 23] = [
-    "stepOf",
-    "advanceOf",
-    "openOf",
-    "alreadyOpenOf",
-    "reportOf",
-    "errorPartOf",
-    "shownBy",
-    "nextStepOf",
-    "wordsOf",
+    "step_of",
+    "advance_of",
+    "open_of",
+    "already_open_of",
+    "report_of",
+    "error_part_of",
+    "shown_by",
+    "next_step_of",
+    "words_of",
     "lent",
     "standing",
-    "stepCall",
-    "openCall",
-    "alreadyOpenCall",
-    "reportCall",
-    "reportEachCall",
-    "stateCall",
-    "metricsCall",
-    "positionCall",
-    "lastSentCall",
-    "errorPartCall",
-    "nextStepCall",
-    "pageCall",
+    "step_call",
+    "open_call",
+    "already_open_call",
+    "report_call",
+    "report_each_call",
+    "state_call",
+    "metrics_call",
+    "position_call",
+    "last_sent_call",
+    "error_part_call",
+    "next_step_call",
+    "page_call",
 ];
 
 fn read(path: &Path) -> String {
@@ -48,9 +48,10 @@ struct Use {
 }
 
 fn used(line: &str) -> Option<Use> {
-    let rest = line.strip_prefix("use Rattle·")?;
+    let rest = line.strip_prefix("use Rattle.")?;
     let (krate, rest) = rest.split_once(".specs.")?;
-    if krate.contains('·') || rest.starts_with("declared.") {
+    // The libraries of the kit are everyone's.
+    if rest.starts_with("declared.") || !specs(krate).is_dir() {
         return None;
     }
     if let Some((module, alias)) = rest.split_once(" as ") {
@@ -95,7 +96,7 @@ fn through(text: &str, alias: &str) -> BTreeSet<String> {
     for line in code {
         for (at, _) in line.match_indices(&mark) {
             let before = line[..at].chars().next_back();
-            if before.is_none_or(|c| !c.is_alphanumeric() && c != '.' && c != '·') {
+            if before.is_none_or(|c| !c.is_alphanumeric() && c != '.') {
                 let name = line[at + mark.len()..].split([' ', ')', ',', ';', '}', '.']).next();
                 found.extend(name.map(str::to_string));
             }
@@ -126,7 +127,9 @@ fn look(path: &Path, held: &Held, wrong: &mut Vec<String>) -> usize {
     let text = read(path);
     let mut looked = 0;
     // A definition that stands among a crate's proofs is held by no list.
-    let proofs = text.lines().filter(|line| line.starts_with("use Rattle·") && line.contains(".proofs."));
+    let ours =
+        |line: &&str| line.strip_prefix("use Rattle.").and_then(|rest| rest.split_once(".proofs.")).is_some_and(|(krate, _)| specs(krate).is_dir());
+    let proofs = text.lines().filter(ours);
     wrong.extend(proofs.map(|line| format!("{}: `{line}`", path.display())));
     for u in text.lines().filter_map(used).filter(|u| !READING.contains(&&*u.krate)) {
         let types = types(&u.krate, &u.module);

@@ -28,7 +28,9 @@ fn read(page: &str) -> String {
 fn uses() -> BTreeMap<String, Vec<String>> {
     let list = read("crates.txt");
     let split = list.lines().filter(|line| !line.starts_with('#')).filter_map(|line| line.split_once(':'));
-    let all: BTreeMap<String, Vec<String>> = split.map(|(name, of)| (name.to_string(), of.split_whitespace().map(String::from).collect())).collect();
+    // What a static library's line says after its name is left out.
+    let bare = |name: &str| name.split_whitespace().next().unwrap_or("").to_string();
+    let all: BTreeMap<String, Vec<String>> = split.map(|(name, of)| (bare(name), of.split_whitespace().map(String::from).collect())).collect();
     let here: BTreeSet<String> = all.keys().cloned().collect();
     all.into_iter().map(|(name, of)| (name, of.into_iter().filter(|x| here.contains(x)).collect())).collect()
 }

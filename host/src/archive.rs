@@ -52,7 +52,10 @@ mod tests {
         assert_eq!(check_archive(), Ok(()));
         for other in [0, ffi::ABI - 1, ffi::ABI + 1, u64::MAX] {
             let line = compared(other).unwrap_err().to_string();
-            assert!(line.contains(&format!("interface {other}, this crate {}", ffi::ABI)) && line.contains("`rt lib` in crates/ffi_export"), "{line}");
+            assert!(
+                line.contains(&format!("interface {other}, this crate {}", ffi::ABI)) && line.contains("`rt lib` in crates/ffi_export"),
+                "{line}"
+            );
         }
     }
 }

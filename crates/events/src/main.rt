@@ -1,5 +1,7 @@
 #![tactic(auto)]
 // Prints the events in the server bytes on standard input.
-fn main() {
-    test_playing::play(0);
+fn main(rt: HostRuntime) {
+    let mut input = rt.stdin();
+    let output = rt.stdout();
+    test_playing::play(output, &mut input);
 }

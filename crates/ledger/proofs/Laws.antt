@@ -2,20 +2,20 @@
 use mathlib.Core.Path.{◌≡◌, refl, sym, ap, ◌∙◌}
 use mathlib.Core.Bool.{Bool, true, false}
 use mathlib.Core.List.{List, [], ◌∷◌, ◌++◌, append-nil}
-use mathlib.Core.Logic.{◌⊎◌, inl, inr}
+use mathlib.Core.Logic.{inl, inr}
 use Prim.Native.Nat.{ℕ, ◌≤◌, ◌<◌, max}
 use native.Mathlib.Omega.{arith}
 use lib.ListN.{length}
-use lib.Dec.{eqb, ltb, leb}
+use lib.Dec.{eqb, leb}
 use borrow.Author.Tests.{le-leb, lt-leb, lt-ltb, le-ltb, eqb-true, eqb-false, leb-true, leb-false}
 use Rattle.wire.specs.Bytes.{pick}
 use Rattle.wire.proofs.Laws.{by_test, impossible}
 use Rattle.touched.specs.Touched.{has_no_file}
 use Rattle.ledger.specs.declared.Entry.{Entry}
 use Rattle.ledger.specs.Ledger.{entry, bit_for, undone_for}
-use Rattle.ledger.specs.History.{Event, keepalive, begin, commit, message, other, stopped, Call, streams, tells, does, does_all, History}
+use Rattle.ledger.specs.History.{keepalive, begin, commit, message, other, stopped, Call, streams, tells, does, does_all, History}
 use Rattle.ledger.specs.History.{start_in, open_in, seen_in, stable_in, largest_in, done_in, touches_in, entries_in, entries_after, held_in, held_now, undone_now}
-use Rattle.ledger.specs.History.{first_undone, from_held, answer_in, entry_refusal, event_refusal, refusal_in}
+use Rattle.ledger.specs.History.{first_undone, answer_in, entry_refusal, refusal_in}
 use Rattle.ledger.specs.Stands.{answers_in, history_after, read_by}
 use Rattle.ledger.specs.Laws.{Accepted, Covered, EntryIn, Within, AnswerLaws, KeepaliveLaws, RefusalLaws}
 use Rattle.ledger.proofs.ListLaws.{first_held}

@@ -1,9 +1,8 @@
 -- Entries from the first that is held on, and the first that is undone.
-use mathlib.Core.Path.{◌≡◌, refl, sym, ap, ◌∙◌}
-use mathlib.Core.Bool.{Bool, true, false}
+use mathlib.Core.Path.{◌≡◌, refl}
+use mathlib.Core.Bool.{Bool, false}
 use mathlib.Core.List.{List, [], ◌∷◌, ◌++◌}
 use Prim.Native.Nat.{ℕ}
-use Rattle.wire.specs.Bytes.{pick}
 use Rattle.wire.proofs.Laws.{by_test}
 use Rattle.ledger.specs.declared.Entry.{Entry}
 use Rattle.ledger.specs.History.{first_undone, from_held}

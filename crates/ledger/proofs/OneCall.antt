@@ -2,25 +2,24 @@
 use mathlib.Core.Path.{◌≡◌, refl, sym, ap, subst, ◌∙◌}
 use mathlib.Core.Bool.{Bool, true, false}
 use mathlib.Core.List.{List, [], ◌∷◌, ◌++◌, append-nil}
-use Prim.Native.Nat.{ℕ, zero, suc, ◌≤◌, ◌<◌, max, min}
+use Prim.Native.Nat.{ℕ, zero, suc, ◌≤◌, max, min}
 use native.Mathlib.Omega.{arith}
-use lib.ListN.{length, take}
-use lib.Dec.{eqb, ltb, leb}
-use borrow.Author.Tests.{eq-eqb, ne_eqb, le-leb, lt-leb, eqb-true, eqb-false, ltb-true, ltb-false}
+use lib.ListN.{length}
+use lib.Dec.{eqb, ltb}
+use borrow.Author.Tests.{eq-eqb, ne_eqb, le-leb, lt-leb, eqb-true, eqb-false, ltb-false}
 use Rattle.wire.specs.Bytes.{pick}
 use Rattle.wire.proofs.Laws.{by_test, impossible}
 use Rattle.touched.specs.Touched.{paired, entries_of, has_no_file, is_among}
 use Rattle.touched.specs.Bits.{bits_of}
-use Rattle.touched.specs.Walk.{since_begin, all_changed, walk_of}
+use Rattle.touched.specs.Walk.{since_begin, all_changed}
 use Rattle.ledger.specs.declared.Ledger.{Ledger}
-use Rattle.ledger.specs.declared.Entry.{Entry}
-use Rattle.ledger.specs.Ledger.{Left, cap_of, entry, fitted_of, first_of, stream_of, with_done, refused_with, entry_told, commit_touches, kind_told, with_transaction}
+use Rattle.ledger.specs.Ledger.{Left, cap_of, entry, fitted_of, first_of, with_done, refused_with, entry_told, commit_touches, kind_told, with_transaction}
 use Rattle.ledger.specs.Ledger.{done_refusal, raised_in, all_raised, room_of, settled_of}
 use Rattle.ledger.specs.History.{Event, keepalive, begin, commit, message, other, stopped, Call, streams, tells, does, does_all, History}
 use Rattle.ledger.specs.History.{start_in, open_in, seen_in, stable_in, largest_in, done_in, told_in, walked_in, touches_in, entries_in, entries_after, held_in}
 use Rattle.ledger.specs.History.{from_held, entry_refusal, event_refusal, refusal_in}
-use Rattle.ledger.specs.Stands.{kind_by, position_by, data_by, beside, call_on, left_by, answers_in, mark_after, history_after, read_by, ring_from, Stands, Called}
-use Rattle.ledger.specs.Stands.{OneCall, AnyCalls, Asked, Fits}
+use Rattle.ledger.specs.Stands.{kind_by, position_by, data_by, beside, call_on, left_by, answers_in, mark_after, read_by, ring_from, Stands, Called}
+use Rattle.ledger.specs.Stands.{OneCall, AnyCalls, Asked}
 use Rattle.ledger.proofs.CallLaws.{entry_below, entry_full, entry_kept, told_commit, told_begin, told_open, told_seen, told_message, told_other}
 use Rattle.ledger.proofs.CallLaws.{tell_marked, tell_refused, tell_kind, done_refused, done_taken, all_refused, all_taken, asked_file}
 use Rattle.ledger.proofs.SlotLaws.{by_order, zero_fits, ring_length}

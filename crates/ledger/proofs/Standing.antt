@@ -1,31 +1,29 @@
 -- A call on what stands for a history leaves what stands for the history after it.
-use mathlib.Core.Path.{◌≡◌, refl, sym, ap, subst, ◌∙◌}
+use mathlib.Core.Path.{◌≡◌, refl, sym, ap, ◌∙◌}
 use mathlib.Core.Bool.{Bool, true, false}
-use mathlib.Core.List.{List, [], ◌∷◌, ◌++◌, append-nil}
-use Prim.Native.Nat.{ℕ, zero, suc, ◌+◌, ◌≤◌, ◌<◌, max, min}
+use mathlib.Core.List.{List, [], ◌∷◌, ◌++◌}
+use Prim.Native.Nat.{ℕ, ◌+◌, ◌≤◌, ◌<◌, max}
 use native.Mathlib.Omega.{arith}
 use lib.ListN.{length}
-use lib.Dec.{eqb, ltb, leb}
-use borrow.Author.Tests.{eq-eqb, ne_eqb, le-leb, lt-leb, eqb-true, eqb-false, ltb-true, ltb-false, leb-true, leb-false}
+use lib.Dec.{eqb}
 use Rattle.wire.specs.Bytes.{pick}
-use Rattle.wire.proofs.Laws.{by_test, impossible}
 use Rattle.touched.specs.declared.Files.{Files}
-use Rattle.touched.specs.Touched.{entries_of, has_no_file, is_among, clear, Told, nothing, after_of}
+use Rattle.touched.specs.Touched.{entries_of, has_no_file, clear, Told, nothing, after_of}
 use Rattle.touched.specs.Bits.{bits_of, files_by}
-use Rattle.touched.specs.Walk.{since_begin, all_changed, walk_of, left_by}
+use Rattle.touched.specs.Walk.{walk_of, left_by}
 use Rattle.touched.specs.Words.{touched_call}
 use Rattle.touched.specs.Words as words
 use Rattle.touched.proofs.BitLaws.{bit_laws}
 use Rattle.touched.proofs.Walk.{left_is_the_walk}
 use Rattle.ledger.specs.declared.Ledger.{Ledger}
 use Rattle.ledger.specs.declared.Entry.{Entry}
-use Rattle.ledger.specs.Ledger.{Left, cap_of, slot_of, entry, entry_in, ledger, with_ring, with_done, stable_of, file_done, settled_from, settled_of, undone_for, undone_some}
-use Rattle.ledger.specs.Ledger.{refused_with, with_entry, kept_of, raised_in, all_raised, tell_of}
+use Rattle.ledger.specs.Ledger.{cap_of, slot_of, entry, entry_in, ledger, with_done, stable_of, file_done, settled_of, undone_for, undone_some}
+use Rattle.ledger.specs.Ledger.{refused_with, with_entry, kept_of}
 use Rattle.ledger.specs.History.{Event, keepalive, begin, commit, message, other, stopped, Call, streams, tells, does, does_all, History}
 use Rattle.ledger.specs.History.{start_in, open_in, seen_in, stable_in, largest_in, done_in, told_in, walked_in, entries_in, entries_after, held_now, from_held}
 use Rattle.ledger.specs.History.{held_in, undone_now}
 use Rattle.ledger.specs.History as history
-use Rattle.ledger.specs.Stands.{kind_by, data_by, Stands, Fits, ring_from}
+use Rattle.ledger.specs.Stands.{kind_by, data_by, Stands}
 use Rattle.ledger.proofs.ListLaws.{from_ext, from_more, from_again}
 use Rattle.ledger.proofs.SlotLaws.{written_length, fits_below, ring_more, settled_ring, settled_fits, settled_count}
 use Rattle.ledger.proofs.UndoneLaws.{undone_less, for_none, held_same}

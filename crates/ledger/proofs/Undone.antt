@@ -1,13 +1,13 @@
 -- By the tests; the bits go back to the files.
 use mathlib.Core.Path.{◌≡◌, refl, ap}
-use mathlib.Core.Bool.{Bool, true, false}
-use Prim.Native.Nat.{ℕ, zero, suc, ◌≤◌, ◌<◌}
+use mathlib.Core.Bool.{true, false}
+use Prim.Native.Nat.{ℕ, zero, suc, ◌≤◌}
 use native.Mathlib.Omega.{arith}
 use lib.Dec.{leb}
 use borrow.Author.Tests.{le-leb, lt-leb}
 use Rattle.wire.proofs.Laws.{by_test}
 use Rattle.touched.specs.declared.Files.{Files}
-use Rattle.touched.specs.Bits.{bits_of, files_by}
+use Rattle.touched.specs.Bits.{files_by}
 use Rattle.touched.proofs.BitLaws.{bit_laws}
 use Rattle.ledger.specs.declared.Entry.{Entry}
 use Rattle.ledger.specs.Ledger.{bit_for, undone_for}

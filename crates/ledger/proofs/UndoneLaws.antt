@@ -1,18 +1,18 @@
 -- What is undone, of a ledger that stands for a history.
-use mathlib.Core.Path.{◌≡◌, refl, sym, ap, ◌∙◌}
+use mathlib.Core.Path.{◌≡◌, refl, ap, ◌∙◌}
 use mathlib.Core.Bool.{Bool, true, false}
-use mathlib.Core.List.{List, [], ◌∷◌, ◌++◌}
-use Prim.Native.Nat.{ℕ, zero, suc, ◌≤◌, max, min}
+use mathlib.Core.List.{List}
+use Prim.Native.Nat.{ℕ, zero, suc, ◌≤◌, min}
 use native.Mathlib.Omega.{arith}
 use lib.ListN.{length}
-use lib.Dec.{eqb, leb}
-use borrow.Author.Tests.{le-leb, lt-leb, leb-true, leb-false, le-ltb}
+use lib.Dec.{leb}
+use borrow.Author.Tests.{lt-leb, leb-false, le-ltb}
 use Rattle.wire.specs.Bytes.{pick}
 use Rattle.wire.proofs.Laws.{by_test, impossible}
 use Rattle.ledger.specs.declared.Ledger.{Ledger}
 use Rattle.ledger.specs.declared.Entry.{Entry}
-use Rattle.ledger.specs.Ledger.{cap_of, next_of, entry_at, file_done, fitted_of, stable_of, bit_for, undone_for, undone_in, undone_some, answer_from, answer_of}
-use Rattle.ledger.specs.History.{History, start_in, seen_in, stable_in, done_in, entries_in, held_in, held_now, undone_now, first_undone, from_held, answer_in}
+use Rattle.ledger.specs.Ledger.{cap_of, next_of, entry_at, file_done, fitted_of, stable_of, undone_for, undone_in, undone_some, answer_from, answer_of}
+use Rattle.ledger.specs.History.{History, stable_in, done_in, entries_in, held_in, held_now, undone_now, first_undone, answer_in}
 use Rattle.ledger.specs.Stands.{Stands, Fits, ring_from}
 use Rattle.ledger.proofs.ListLaws.{first_held, first_ext}
 

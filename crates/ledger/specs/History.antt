@@ -1,6 +1,6 @@
 -- What a ledger stands for: the calls that were not refused, the last one first, read by themselves. Nothing here knows a ring, a slot or a mark.
 -- SCOPE 19.
-use Rattle.std.specs.Prelude.{Bool, true, false, List, [], ◌∷◌, ◌++◌, ℕ, zero, suc, ◌-◌, max, length, eqb, ltb, leb}
+use Rattle.std.specs.Prelude.{Bool, true, false, List, [], ◌∷◌, ◌++◌, ℕ, max, length, eqb, ltb, leb}
 use Rattle.wire.specs.Bytes.{pick}
 use Rattle.touched.specs.Touched.{has_no_file, Told, begins, brings, nothing}
 use Rattle.touched.specs.Bits.{bits_of}

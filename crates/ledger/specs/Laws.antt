@@ -1,10 +1,10 @@
 -- What the reading promises, over all histories: what may be reported covers nothing but what is done, and is not less than that. SCOPE 19.
-use Rattle.std.specs.Prelude.{◌≡◌, Bool, true, false, List, [], ◌∷◌, ◌++◌, ◌⊎◌, ℕ, ◌≤◌, ◌<◌, length}
+use Rattle.std.specs.Prelude.{◌≡◌, true, false, List, [], ◌∷◌, ◌++◌, ◌⊎◌, ℕ, ◌≤◌, ◌<◌, length}
 use Rattle.touched.specs.Touched.{has_no_file}
 use Rattle.ledger.specs.declared.Entry.{Entry}
 use Rattle.ledger.specs.Ledger.{bit_for}
-use Rattle.ledger.specs.History.{Event, keepalive, begin, commit, message, other, stopped, Call, streams, tells, does, does_all, History}
-use Rattle.ledger.specs.History.{start_in, open_in, seen_in, stable_in, largest_in, done_in, entries_in, held_in, undone_now, answer_in, refusal_in}
+use Rattle.ledger.specs.History.{Event, keepalive, commit, message, Call, streams, tells, does, does_all, History}
+use Rattle.ledger.specs.History.{start_in, open_in, seen_in, stable_in, largest_in, entries_in, held_in, undone_now, answer_in, refusal_in}
 use Rattle.ledger.specs.Stands.{read_by}
 
 -- no call of the history is refused

@@ -1,5 +1,5 @@
 -- A ledger's calls, over what it holds and its ring of entries in lent words. SCOPE 19.
-use Rattle.std.specs.Prelude.{Bool, true, false, List, [], ◌∷◌, ℕ, zero, suc, ◌+◌, ◌*◌, ◌-◌, ◌/◌, ◌%◌, min, max, length, get_or, set, eqb, ltb, leb}
+use Rattle.std.specs.Prelude.{Bool, true, false, List, ℕ, zero, suc, ◌+◌, ◌*◌, ◌-◌, ◌/◌, ◌%◌, min, max, length, get_or, set, eqb, ltb, leb}
 use Rattle.wire.specs.Bytes.{pick}
 use Rattle.error.specs.Refusal.{usage, protocol}
 use Rattle.progress.specs.Files.{no_file}

@@ -1,10 +1,10 @@
 -- The theorem: after any list of calls what a ledger holds, and the words of its ring, stand for the calls that were not refused. SCOPE 19.
-use Rattle.std.specs.Prelude.{◌≡◌, Bool, List, [], ◌∷◌, ℕ, zero, suc, ◌-◌, ◌≤◌, ◌<◌, length, eqb, ltb}
+use Rattle.std.specs.Prelude.{◌≡◌, List, [], ◌∷◌, ℕ, zero, suc, ◌-◌, ◌≤◌, ◌<◌, length, eqb, ltb}
 use Rattle.wire.specs.Bytes.{pick}
 use Rattle.touched.specs.Touched.{entries_of}
 use Rattle.ledger.specs.declared.Ledger.{Ledger}
 use Rattle.ledger.specs.declared.Entry.{Entry}
-use Rattle.ledger.specs.Ledger.{Left, cap_of, next_of, entry_at, first_of, stream_of, file_done, tell_of, done_of, all_done_of, answer_of, room_of}
+use Rattle.ledger.specs.Ledger.{Left, cap_of, next_of, entry_at, first_of, stream_of, tell_of, done_of, all_done_of, answer_of, room_of}
 use Rattle.ledger.specs.History.{Event, keepalive, begin, commit, message, other, stopped, Call, streams, tells, does, does_all, History}
 use Rattle.ledger.specs.History.{start_in, open_in, seen_in, largest_in, done_in, walked_in, held_in, answer_in, refusal_in}
 

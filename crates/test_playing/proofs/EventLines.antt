@@ -5,7 +5,6 @@ use mathlib.Core.List.{List, [], ◌∷◌, ◌++◌, append-nil, append_assoc}
 use Prim.Native.Nat.{ℕ, ◌+◌, ◌≤◌, ◌<◌}
 use lib.ListN.{length}
 use lib.IntN.{ℤ}
-use lib.Dec.{leb}
 use borrow.Author.Tests.{le-leb, lt-leb}
 use Rattle.wire.specs.Bytes.{pick, at}
 use Rattle.error.specs.Writer.{counted}
@@ -13,9 +12,9 @@ use Rattle.text.specs.Numeral.{decimal_text, signed_text, hex_bytes}
 use Rattle.lossy.specs.Lossy.{lossy_of}
 use Rattle.lsn.specs.declared.Lsn.{Lsn}
 use Rattle.lsn.specs.Position.{display_of}
-use Rattle.test_lines.specs.Line.{field, bytes_texts, is_within, outside_texts, part_texts, spanned_texts, flagged_texts}
+use Rattle.test_lines.specs.Line.{field, bytes_texts, outside_texts, spanned_texts, flagged_texts}
 use Rattle.test_lines.proofs.Laws.{part_none, part_some}
-use Rattle.test_playing.specs.Spelling.{part_by, prefix_by, length_texts, lossy_length, fitting}
+use Rattle.test_playing.specs.Spelling.{part_by, prefix_by, length_texts, lossy_length}
 use Rattle.test_playing.specs.EventLines.{joined, then, outside, PartText, PrefixText, digit, EventLines}
 
 joined_append : (ts us : List (List ℕ)) → joined (ts ++ us) ≡ joined ts ++ joined us
@@ -39,14 +38,14 @@ length_beyond : (p : List ℕ) (from len n : ℕ) → length p < from + len → 
 length_beyond p from len n h = ap (λ (x : Bool). joined (pick x (field (decimal_text n)) outside_texts)) (lt-leb _ _ h) ∙ joined_outside
 
 -- a part
-part_is : (b : Bool) (p t : List ℕ) (from len : ℕ) → PartText p from len b t → joined (part_by b p from len) ≡ then t
+part_is : (b : Bool) (p : List ℕ) (from len : ℕ) (t : List ℕ) → PartText p from len b t → joined (part_by b p from len) ≡ then t
 unfolding joined
-part_is true p t from len (PartText.brief h) = length_in p from len len h
-part_is false p t from len (PartText.bytes c s h e) =
+part_is true p from len t (PartText.brief h) = length_in p from len len h
+part_is false p from len t (PartText.bytes c s h e) =
     ap joined (part_some p from len h ∙ ap bytes_texts e) ∙ joined_field (hex_bytes (c ∷ s))
-part_is false p t from len (PartText.none h e) = ap joined (part_some p from len h ∙ ap bytes_texts e)
-part_is true p t from len (PartText.beyond b h) = length_beyond p from len len h
-part_is false p t from len (PartText.beyond b h) = ap joined (part_none p from len h) ∙ joined_outside
+part_is false p from len t (PartText.none h e) = ap joined (part_some p from len h ∙ ap bytes_texts e)
+part_is true p from len t (PartText.beyond b h) = length_beyond p from len len h
+part_is false p from len t (PartText.beyond b h) = ap joined (part_none p from len h) ∙ joined_outside
 
 -- the length of a lossy text that 64 bits have
 lossy_length_lem : (p : List ℕ) (from len : ℕ) → from + len ≤ length p → length (lossy_of (at p from len)) ≤ 18446744073709551615
@@ -55,11 +54,11 @@ unfolding lossy_length counted
 lossy_length_lem p from len h k = simp (le-leb _ _ h, le-leb _ _ k)
 
 -- a prefix
-prefix_is : (b : Bool) (p t : List ℕ) (from len : ℕ) → PrefixText p from len b t → joined (prefix_by b p from len) ≡ then t
-prefix_is true p t from len (PrefixText.brief h k) =
+prefix_is : (b : Bool) (p : List ℕ) (from len : ℕ) (t : List ℕ) → PrefixText p from len b t → joined (prefix_by b p from len) ≡ then t
+prefix_is true p from len t (PrefixText.brief h k) =
     length_in p from len (lossy_length p from len) h ∙ ap (λ (n : ℕ). then (decimal_text n)) (lossy_length_lem p from len h k)
-prefix_is false p t from len (PrefixText.else u h) = part_is false p u from len h
-prefix_is true p t from len (PrefixText.beyond h) = length_beyond p from len (lossy_length p from len) h
+prefix_is false p from len t (PrefixText.else u h) = part_is false p from len u h
+prefix_is true p from len t (PrefixText.beyond h) = length_beyond p from len (lossy_length p from len) h
 
 digit_is : (b : Bool) → pick b 49 48 ≡ digit b
 digit_is true = refl
@@ -84,12 +83,12 @@ event_lines = record {
       ap (λ (x : List ℕ). 67 ∷ then (display_of position.0 ++ then (display_of end.0 ++ then x))) (append-nil (signed_text time));
   xlog_data = λ b p t start end time from len h.
       spanned_then 88 start end time (part_by b p from len)
-      ∙ ap (λ (x : List ℕ). 88 ∷ then (display_of start.0 ++ then (display_of end.0 ++ then (signed_text time ++ x)))) (part_is b p t from len h);
+      ∙ ap (λ (x : List ℕ). 88 ∷ then (display_of start.0 ++ then (display_of end.0 ++ then (signed_text time ++ x)))) (part_is b p from len t h);
   message = λ b flag p t u position pf pl cf cl h k.
       flagged_then flag position (prefix_by b p pf pl ++ part_by b p cf cl)
       ∙ ap (λ (x : List ℕ). 77 ∷ then (digit flag ∷ then (display_of position.0 ++ x)))
       (joined_append (prefix_by b p pf pl) (part_by b p cf cl)
-      ∙ (ap (λ (x : List ℕ). x ++ joined (part_by b p cf cl)) (prefix_is b p t pf pl h) ∙ ap (λ (x : List ℕ). then t ++ x) (part_is b p u cf cl k)));
+      ∙ (ap (λ (x : List ℕ). x ++ joined (part_by b p cf cl)) (prefix_is b p pf pl t h) ∙ ap (λ (x : List ℕ). then t ++ x) (part_is b p cf cl u k)));
   stopped = λ b p reached. ap (λ (x : List ℕ). 83 ∷ then x) (append-nil (display_of reached.0));
   last = λ n. refl;
   last_outside = refl;

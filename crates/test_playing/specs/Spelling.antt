@@ -1,6 +1,6 @@
 -- How programs spell an event: a letter and its fields (SCOPE 11.4; 01, "Program `events`"). Brief has parts by their lengths, a prefix by that of
 -- its lossy text; else parts stand as their bytes (vectors/README.md, "Runs"). A part that does not lie within the payload is `outside`.
-use Rattle.std.specs.Prelude.{ℕ, ◌+◌, Bool, List, [], ◌∷◌, ◌++◌, length, ℤ, leb}
+use Rattle.std.specs.Prelude.{ℕ, Bool, List, [], ◌∷◌, ◌++◌, length}
 use Rattle.std.proofs.Math.Option.{Option, some, none}
 use Rattle.wire.specs.Bytes.{pick, at}
 use Rattle.error.specs.Writer.{counted}

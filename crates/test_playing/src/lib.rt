@@ -11,6 +11,8 @@ ghost use Rattle.test_playing.specs.Playing.{event_settings, begun, refilled_of,
 
 use lsn::Lsn;
 use moment::Moment;
+use std::io::{Read, Stdout};
+use test_lines::streams;
 use wire::store::least;
 use worker::{Event, Input, Queue, Run, Settings, State, Stepped, Verdict};
 
@@ -54,7 +56,7 @@ fn begin() -> Playing
 }
 
 // The next bytes, where none are unread. How many come is the file's affair; none are its end.
-fn refilled(p: Playing, fd: i32, bytes: &mut [u8]) -> Playing
+fn refilled<R: Read>(p: Playing, file: &mut R, bytes: &mut [u8]) -> Playing
     ensures { result ≡ refilled_of p result.to }
 {
     if p.from < p.to {
@@ -63,8 +65,7 @@ fn refilled(p: Playing, fd: i32, bytes: &mut [u8]) -> Playing
     if p.ended {
         return p;
     }
-    let got = libc::read(fd, bytes);
-    let n = io::count(got, bytes);
+    let n = streams::read_some(file, bytes);
     let run = p.run;
     Playing {
         run,
@@ -105,7 +106,7 @@ fn is_over(run: Run) -> bool
 }
 
 // Prints the line of an event, and nothing for no event.
-fn tell_event(event: Event, payload: &[u8], line: &mut [u8])
+fn tell_event(output: Stdout, event: Event, payload: &[u8], line: &mut [u8])
     ensures { line.new ≡ event_line event payload.now line.old }
 {
     let a = spelling::event(line, 0, payload, event, true);
@@ -113,50 +114,57 @@ fn tell_event(event: Event, payload: &[u8], line: &mut [u8])
         return;
     }
     let b = test_lines::end(line, a);
-    test_lines::print(line, b);
+    test_lines::print(output, line, b);
 }
 
 // Prints the last line.
-fn tell_end(verdict: Verdict, line: &mut [u8])
+fn tell_end(output: Stdout, verdict: Verdict, line: &mut [u8])
     ensures { line.new ≡ (pieces line.old 0 (end_texts_of (verdict_number verdict))).1 }
 {
     let a = wire::store::place(line, 0, b"END");
     let b = test_lines::number(line, a, spelling::number(verdict) as u64);
     let c = test_lines::end(line, b);
-    test_lines::print(line, c);
+    test_lines::print(output, line, c);
 }
 
 // Prints the last line of a run that says that it took more than it was offered.
-fn tell_outside(line: &mut [u8])
+fn tell_outside(output: Stdout, line: &mut [u8])
     ensures { line.new ≡ (pieces line.old 0 end_outside).1 }
 {
     let a = wire::store::place(line, 0, b"END");
     let b = test_lines::outside(line, a);
     let c = test_lines::end(line, b);
-    test_lines::print(line, c);
+    test_lines::print(output, line, c);
 }
 
 // The lines of a step that was offered that many bytes: its event's, and the last one. Whether the run goes on.
-fn told(s: Stepped, offered: usize, payload: &[u8], line: &mut [u8]) -> bool
+fn told(output: Stdout, s: Stepped, offered: usize, payload: &[u8], line: &mut [u8]) -> bool
     ensures { (result, line.new) ≡ told_of s offered payload.now line.old }
 {
     let event = s.event;
     let run = s.run;
     let verdict = s.verdict;
     let taken = s.taken;
-    tell_event(event, payload, line);
+    tell_event(output, event, payload, line);
     if offered < taken {
-        tell_outside(line);
+        tell_outside(output, line);
         return false;
     }
     if is_over(run) {
-        tell_end(verdict, line);
+        tell_end(output, verdict, line);
         return false;
     }
     true
 }
 
-fn step(p: Playing, bytes: &[u8], payload: &mut [u8], out: &mut [u8], line: &mut [u8]) -> Playing
+fn step(
+    output: Stdout,
+    p: Playing,
+    bytes: &[u8],
+    payload: &mut [u8],
+    out: &mut [u8],
+    line: &mut [u8],
+) -> Playing
     ensures { (result, payload.new, out.new) ≡ stepped p bytes.now payload.old out.old }
 {
     let run = p.run;
@@ -166,7 +174,7 @@ fn step(p: Playing, bytes: &[u8], payload: &mut [u8], out: &mut [u8], line: &mut
     let offered = to - from;
     let taken = least(s.taken, offered);
     let next = s.run;
-    let go = told(s, offered, payload, line);
+    let go = told(output, s, offered, payload, line);
     Playing {
         run: next,
         from: from + taken,
@@ -176,9 +184,10 @@ fn step(p: Playing, bytes: &[u8], payload: &mut [u8], out: &mut [u8], line: &mut
     }
 }
 
-fn turn(
+fn turn<R: Read>(
+    output: Stdout,
     p: Playing,
-    fd: i32,
+    file: &mut R,
     bytes: &mut [u8],
     payload: &mut [u8],
     out: &mut [u8],
@@ -186,29 +195,36 @@ fn turn(
 ) -> Playing
     ensures { Plays p.run → Plays result.run }
 {
-    let q = refilled(p, fd, bytes);
-    step(q, bytes, payload, out, line)
+    let q = refilled(p, file, bytes);
+    step(output, q, bytes, payload, out, line)
 }
 
-fn turns(fd: i32, bytes: &mut [u8], payload: &mut [u8], out: &mut [u8], line: &mut [u8]) -> Run
+fn turns<R: Read>(
+    output: Stdout,
+    file: &mut R,
+    bytes: &mut [u8],
+    payload: &mut [u8],
+    out: &mut [u8],
+    line: &mut [u8],
+) -> Run
     ensures { Plays result }
 {
     let mut p = begin();
     let mut left: u64 = u64::MAX;
     while left > 0 {
-        p = turn(p, fd, bytes, payload, out, line);
+        p = turn(output, p, file, bytes, payload, out, line);
         left = test_lines::left(left, p.go);
     }
     p.run
 }
 
 // Plays what a file has, in reads of 64 KB, and prints its events. The answer is the run after the last step.
-pub fn play(fd: i32) -> Run
+pub fn play<R: Read>(output: Stdout, file: &mut R) -> Run
     ensures { Plays result }
 {
-    let mut bytes = io::large_buffer();
-    let mut payload = io::large_buffer();
+    let mut bytes = streams::large_buffer();
+    let mut payload = streams::large_buffer();
     let mut out = [0u8; 39];
     let mut line = [0u8; 256];
-    turns(fd, &mut bytes, &mut payload, &mut out, &mut line)
+    turns(output, file, &mut bytes, &mut payload, &mut out, &mut line)
 }

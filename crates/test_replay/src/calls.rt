@@ -2,7 +2,8 @@
 use crate::spelled;
 use lsn::Lsn;
 use moment::Moment;
-use test_lines::fields;
+use std::io::{Stdin, Stdout};
+use test_lines::{fields, streams};
 use wire::store::least;
 use worker::{Input, Queue, Reporting, Run, Stepped};
 
@@ -102,9 +103,9 @@ fn page_of(call: &[u8]) -> Call {
     c
 }
 
-fn read_step() -> Call {
+fn read_step(input: Stdin) -> Call {
     let mut call = [0u8; 26];
-    if io::read_full(0, &mut call) < 26 {
+    if streams::read_full(input, &mut call) < 26 {
         return no_call();
     }
     if !is_step(&call) {
@@ -113,25 +114,25 @@ fn read_step() -> Call {
     step_of(&call)
 }
 
-fn read_report() -> Call {
+fn read_report(input: Stdin) -> Call {
     let mut call = [0u8; 16];
-    if io::read_full(0, &mut call) < 16 {
+    if streams::read_full(input, &mut call) < 16 {
         return no_call();
     }
     report_of(&call)
 }
 
-fn read_file_report() -> Call {
+fn read_file_report(input: Stdin) -> Call {
     let mut call = [0u8; 17];
-    if io::read_full(0, &mut call) < 17 {
+    if streams::read_full(input, &mut call) < 17 {
         return no_call();
     }
     file_report_of(&call)
 }
 
-fn read_page() -> Call {
+fn read_page(input: Stdin) -> Call {
     let mut call = [0u8; 3];
-    if io::read_full(0, &mut call) < 3 {
+    if streams::read_full(input, &mut call) < 3 {
         return no_call();
     }
     if 4096 < fields::half(&call, 0) {
@@ -140,16 +141,16 @@ fn read_page() -> Call {
     page_of(&call)
 }
 
-fn read_call() -> Call {
+fn read_call(input: Stdin) -> Call {
     let mut letter = [0u8; 1];
-    if io::read_full(0, &mut letter) < 1 {
+    if streams::read_full(input, &mut letter) < 1 {
         return no_call();
     }
     match letter[0] {
-        b'S' => read_step(),
-        b'P' => read_report(),
-        b'F' => read_file_report(),
-        b'G' => read_page(),
+        b'S' => read_step(input),
+        b'P' => read_report(input),
+        b'F' => read_file_report(input),
+        b'G' => read_page(input),
         _ => no_call(),
     }
 }
@@ -174,6 +175,7 @@ fn input(c: Call) -> Input {
 
 // A step with an output that is filled for it, and its line.
 fn made(
+    output: Stdout,
     run: Run,
     i: Input,
     fill: u8,
@@ -183,16 +185,24 @@ fn made(
 ) -> Stepped {
     test_lines::fill(out, fill);
     let s = worker::steps::step(run, i, unread, payload, out);
-    spelled::step(s, out, payload);
+    spelled::step(output, s, out, payload);
     s
 }
 
-fn with_output(p: Play, c: Call, server: &[u8], payload: &mut [u8], out: &mut [u8]) -> Play {
+fn with_output(
+    output: Stdout,
+    p: Play,
+    c: Call,
+    server: &[u8],
+    payload: &mut [u8],
+    out: &mut [u8],
+) -> Play {
     let run = p.run;
     let room = least(c.room, out.len());
     let from = least(p.taken, server.len());
     let to = from + least(c.unread, server.len() - from);
     let s = made(
+        output,
         run,
         input(c),
         c.fill,
@@ -209,9 +219,9 @@ fn with_output(p: Play, c: Call, server: &[u8], payload: &mut [u8], out: &mut [u
     }
 }
 
-fn step(p: Play, c: Call, server: &[u8], payload: &mut [u8]) -> Play {
-    let mut out = io::buffer();
-    with_output(p, c, server, payload, &mut out)
+fn step(output: Stdout, p: Play, c: Call, server: &[u8], payload: &mut [u8]) -> Play {
+    let mut out = streams::buffer();
+    with_output(output, p, c, server, payload, &mut out)
 }
 
 fn reported(run: Run, file: u64, c: Call) -> Reporting {
@@ -228,7 +238,7 @@ fn with_run(p: Play, run: Run) -> Play {
 }
 
 // To all four files, in their order.
-fn report(p: Play, c: Call) -> Play {
+fn report(output: Stdout, p: Play, c: Call) -> Play {
     let run = p.run;
     let zero = reported(run, 0, c);
     let run0 = zero.run;
@@ -238,49 +248,49 @@ fn report(p: Play, c: Call) -> Play {
     let run2 = two.run;
     let three = reported(run2, 3, c);
     let next = three.run;
-    spelled::report(worker::session::position(next));
+    spelled::report(output, worker::session::position(next));
     with_run(p, next)
 }
 
-fn file_report(p: Play, c: Call) -> Play {
+fn file_report(output: Stdout, p: Play, c: Call) -> Play {
     let run = p.run;
     let a = reported(run, c.file as u64, c);
     let next = a.run;
     let verdict = a.verdict;
-    spelled::file_report(verdict, worker::session::position(next));
+    spelled::file_report(output, verdict, worker::session::position(next));
     with_run(p, next)
 }
 
 // A page into an output that is filled for it, and its line.
-fn shown(run: Run, fill: u8, out: &mut [u8]) {
+fn shown(output: Stdout, run: Run, fill: u8, out: &mut [u8]) {
     test_lines::fill(out, fill);
     let w = run_page::write(run, out);
-    spelled::page(w, out);
+    spelled::page(output, w, out);
 }
 
-fn page(p: Play, c: Call) -> Play {
-    let mut out = io::buffer();
+fn page(output: Stdout, p: Play, c: Call) -> Play {
+    let mut out = streams::buffer();
     let room = least(c.room, out.len());
     let run = p.run;
-    shown(run, c.fill, &mut out[0..room]);
+    shown(output, run, c.fill, &mut out[0..room]);
     p
 }
 
 // A run that was not opened has its calls read and not made.
-fn make_call(p: Play, c: Call, server: &[u8], payload: &mut [u8]) -> Play {
+fn make_call(output: Stdout, p: Play, c: Call, server: &[u8], payload: &mut [u8]) -> Play {
     if !p.opened {
         return p;
     }
     if c.letter == b'S' {
-        return step(p, c, server, payload);
+        return step(output, p, c, server, payload);
     }
     if c.letter == b'F' {
-        return file_report(p, c);
+        return file_report(output, p, c);
     }
     if c.letter == b'G' {
-        return page(p, c);
+        return page(output, p, c);
     }
-    report(p, c)
+    report(output, p, c)
 }
 
 fn malformed(p: Play) -> Play {
@@ -289,19 +299,26 @@ fn malformed(p: Play) -> Play {
     q
 }
 
-fn one_call(p: Play, server: &[u8], payload: &mut [u8]) -> Play {
-    let c = read_call();
+fn one_call(input: Stdin, output: Stdout, p: Play, server: &[u8], payload: &mut [u8]) -> Play {
+    let c = read_call(input);
     if c.letter == 0 {
         return malformed(p);
     }
-    make_call(p, c, server, payload)
+    make_call(output, p, c, server, payload)
 }
 
-pub(crate) fn all(p: Play, calls: u64, server: &[u8], payload: &mut [u8]) -> Play {
+pub(crate) fn all(
+    input: Stdin,
+    output: Stdout,
+    p: Play,
+    calls: u64,
+    server: &[u8],
+    payload: &mut [u8],
+) -> Play {
     let mut q = p;
     let mut left = calls;
     while left > 0 {
-        q = one_call(q, server, payload);
+        q = one_call(input, output, q, server, payload);
         left = test_lines::left(left, q.good);
     }
     q

@@ -1,7 +1,8 @@
 // The slot and the publications of a script. The publications stand after the slot as the script has them, length and bytes.
 use crate::script::Script;
-use test_lines::fields;
+use std::io::Stdin;
 use test_lines::names::name_at;
+use test_lines::{fields, streams};
 use wire::store::least;
 use worker::Opened;
 
@@ -35,14 +36,14 @@ fn more(used: usize, len: usize) -> usize {
 }
 
 // A name's bytes after its length.
-fn stored(used: usize, count: u8, names: &mut [u8], at: usize, len: usize) -> Names {
+fn stored(input: Stdin, used: usize, count: u8, names: &mut [u8], at: usize, len: usize) -> Names {
     if names.len() < at {
         return malformed();
     }
     if names.len() - at < len {
         return malformed();
     }
-    let got = io::read_full(0, &mut names[at..at + len]);
+    let got = streams::read_full(input, &mut names[at..at + len]);
     if got < len {
         return malformed();
     }
@@ -55,12 +56,12 @@ fn stored(used: usize, count: u8, names: &mut [u8], at: usize, len: usize) -> Na
 }
 
 // One more publication after the names that are there.
-fn one_name(n: Names, names: &mut [u8]) -> Names {
+fn one_name(input: Stdin, n: Names, names: &mut [u8]) -> Names {
     if !n.good {
         return n;
     }
     let mut head = [0u8; 2];
-    if io::read_full(0, &mut head) < 2 {
+    if streams::read_full(input, &mut head) < 2 {
         return malformed();
     }
     let len = fields::half(&head, 0);
@@ -69,10 +70,10 @@ fn one_name(n: Names, names: &mut [u8]) -> Names {
         return malformed();
     }
     let at = wire::store::place(names, n.filled, &head);
-    stored(used, n.publications, names, at, len)
+    stored(input, used, n.publications, names, at, len)
 }
 
-fn all_names(slot: usize, count: u8, names: &mut [u8]) -> Names {
+fn all_names(input: Stdin, slot: usize, count: u8, names: &mut [u8]) -> Names {
     let mut n = Names {
         filled: slot,
         used: slot,
@@ -81,33 +82,33 @@ fn all_names(slot: usize, count: u8, names: &mut [u8]) -> Names {
     };
     let mut i: u8 = 0;
     while i < count {
-        n = one_name(n, names);
+        n = one_name(input, n, names);
         i += 1;
     }
     n
 }
 
-fn publications(slot: usize, names: &mut [u8]) -> Names {
+fn publications(input: Stdin, slot: usize, names: &mut [u8]) -> Names {
     let mut count = [0u8; 1];
-    if io::read_full(0, &mut count) < 1 {
+    if streams::read_full(input, &mut count) < 1 {
         return malformed();
     }
-    all_names(slot, count[0], names)
+    all_names(input, slot, count[0], names)
 }
 
 // A slot of the given length, the number of publications, and each of them.
-pub(crate) fn read(slot: usize, names: &mut [u8]) -> Names {
+pub(crate) fn read(input: Stdin, slot: usize, names: &mut [u8]) -> Names {
     if 4096 < slot {
         return malformed();
     }
     if names.len() < slot {
         return malformed();
     }
-    let got = io::read_full(0, &mut names[0..slot]);
+    let got = streams::read_full(input, &mut names[0..slot]);
     if got < slot {
         return malformed();
     }
-    publications(slot, names)
+    publications(input, slot, names)
 }
 
 fn with_names(s: Script, slot: &[u8], publications: &[&[u8]], out: &mut [u8]) -> Opened {

@@ -4,6 +4,8 @@ use crate::script::Script;
 use crate::{names, spelled};
 use error::Written;
 use lsn::Lsn;
+use std::io::Stdout;
+use test_lines::streams;
 use test_playing::spelling;
 use wire::store::least;
 use worker::{Run, Settings};
@@ -23,8 +25,8 @@ fn count(w: Written) -> usize {
 }
 
 // The run that was opened, and its line.
-fn opened(run: Run, refusal: u8, written: usize, out: &[u8]) -> Play {
-    spelled::opened(refusal, written, out);
+fn opened(output: Stdout, run: Run, refusal: u8, written: usize, out: &[u8]) -> Play {
+    spelled::opened(output, refusal, written, out);
     Play {
         run,
         opened: refusal == 0,
@@ -33,39 +35,39 @@ fn opened(run: Run, refusal: u8, written: usize, out: &[u8]) -> Play {
     }
 }
 
-fn already_open(settings: Settings, start: Lsn, out: &[u8]) -> Play {
+fn already_open(output: Stdout, settings: Settings, start: Lsn, out: &[u8]) -> Play {
     let o = worker::session::already_open(settings, start);
     let run = o.run;
     let verdict = o.verdict;
-    opened(run, spelling::number(verdict), 0, out)
+    opened(output, run, spelling::number(verdict), 0, out)
 }
 
-fn asked(s: Script, list: &[u8], out: &mut [u8]) -> Play {
+fn asked(output: Stdout, s: Script, list: &[u8], out: &mut [u8]) -> Play {
     let o = names::open(s, list, out);
     let run = o.run;
     let w = o.written;
-    opened(run, refusal(w), count(w), out)
+    opened(output, run, refusal(w), count(w), out)
 }
 
 // With an output of the script's length.
-fn with_output(s: Script, list: &[u8], out: &mut [u8]) -> Play {
+fn with_output(output: Stdout, s: Script, list: &[u8], out: &mut [u8]) -> Play {
     let t = s.tail;
     test_lines::fill(out, t.output_fill);
     if s.already_open {
         let settings = s.settings;
         let start = s.start;
-        return already_open(settings, start, out);
+        return already_open(output, settings, start, out);
     }
-    asked(s, list, out)
+    asked(output, s, list, out)
 }
 
-fn within(s: Script, list: &[u8], out: &mut [u8]) -> Play {
+fn within(output: Stdout, s: Script, list: &[u8], out: &mut [u8]) -> Play {
     let t = s.tail;
     let n = least(t.output, out.len());
-    with_output(s, list, &mut out[0..n])
+    with_output(output, s, list, &mut out[0..n])
 }
 
-pub(crate) fn begin(s: Script, list: &[u8]) -> Play {
-    let mut out = io::buffer();
-    within(s, list, &mut out)
+pub(crate) fn begin(output: Stdout, s: Script, list: &[u8]) -> Play {
+    let mut out = streams::buffer();
+    within(output, s, list, &mut out)
 }

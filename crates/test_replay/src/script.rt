@@ -1,7 +1,8 @@
 // What stands in a script before its calls.
 use crate::names;
 use lsn::Lsn;
-use test_lines::fields;
+use std::io::Stdin;
+use test_lines::{fields, streams};
 use worker::Settings;
 
 // A script's buffers, how many calls it has, and whether it is well formed up to these.
@@ -106,56 +107,56 @@ fn tail_of(tail: &[u8], calls: u64) -> Tail {
 }
 
 // How many calls follow.
-fn calls(tail: &[u8]) -> Tail {
+fn calls(input: Stdin, tail: &[u8]) -> Tail {
     let mut count = [0u8; 4];
-    if io::read_full(0, &mut count) < 4 {
+    if streams::read_full(input, &mut count) < 4 {
         return malformed();
     }
     tail_of(tail, fields::word(&count, 0) as u64)
 }
 
-fn server_bytes(tail: &[u8], server: &mut [u8]) -> Tail {
+fn server_bytes(input: Stdin, tail: &[u8], server: &mut [u8]) -> Tail {
     let n = fields::word(tail, 10);
     if server.len() < n {
         return malformed();
     }
-    let got = io::read_full(0, &mut server[0..n]);
+    let got = streams::read_full(input, &mut server[0..n]);
     if got < n {
         return malformed();
     }
-    calls(tail)
+    calls(input, tail)
 }
 
 // What follows the names.
-fn read_tail(server: &mut [u8]) -> Tail {
+fn read_tail(input: Stdin, server: &mut [u8]) -> Tail {
     let mut tail = [0u8; 14];
-    if io::read_full(0, &mut tail) < 14 {
+    if streams::read_full(input, &mut tail) < 14 {
         return malformed();
     }
     if !are_lengths(&tail) {
         return malformed();
     }
-    server_bytes(&tail, server)
+    server_bytes(input, &tail, server)
 }
 
 // What follows a well formed head.
-fn read_rest(head: &[u8], list: &mut [u8], server: &mut [u8]) -> Script {
-    let n = names::read(fields::half(head, 53), list);
+fn read_rest(input: Stdin, head: &[u8], list: &mut [u8], server: &mut [u8]) -> Script {
+    let n = names::read(input, fields::half(head, 53), list);
     if !n.good {
         return made(head, false, 0, malformed());
     }
-    let tail = read_tail(server);
+    let tail = read_tail(input, server);
     made(head, false, n.publications, tail)
 }
 
-pub(crate) fn read(list: &mut [u8], server: &mut [u8]) -> Script {
+pub(crate) fn read(input: Stdin, list: &mut [u8], server: &mut [u8]) -> Script {
     let mut head = [0u8; 55];
-    let got = io::read_full(0, &mut head);
+    let got = streams::read_full(input, &mut head);
     if got < 55 {
         return made(&head, got == 0, 0, malformed());
     }
     if !is_head(&head) {
         return made(&head, false, 0, malformed());
     }
-    read_rest(&head, list, server)
+    read_rest(input, &head, list, server)
 }

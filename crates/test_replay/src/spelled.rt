@@ -5,6 +5,7 @@ use error::Written;
 use lsn::Lsn;
 use metrics::Metrics;
 use progress::files::FileVerdict;
+use std::io::Stdout;
 use test_playing::spelling;
 use worker::{Event, Run, State, Stepped, Waited};
 
@@ -23,10 +24,10 @@ fn opened_line(line: &mut [u8], refusal: u8, written: usize, out: &[u8]) -> usiz
     test_lines::end(line, d)
 }
 
-pub(crate) fn opened(refusal: u8, written: usize, out: &[u8]) -> bool {
+pub(crate) fn opened(output: Stdout, refusal: u8, written: usize, out: &[u8]) -> bool {
     let mut line = [0u8; 128];
     let n = opened_line(&mut line, refusal, written, out);
-    test_lines::print(&line, n)
+    test_lines::print(output, &line, n)
 }
 
 fn report_line(line: &mut [u8], position: Lsn) -> usize {
@@ -35,10 +36,10 @@ fn report_line(line: &mut [u8], position: Lsn) -> usize {
     test_lines::end(line, b)
 }
 
-pub(crate) fn report(position: Lsn) -> bool {
+pub(crate) fn report(output: Stdout, position: Lsn) -> bool {
     let mut line = [0u8; 64];
     let n = report_line(&mut line, position);
-    test_lines::print(&line, n)
+    test_lines::print(output, &line, n)
 }
 
 fn file_refusal(verdict: FileVerdict) -> u8 {
@@ -55,11 +56,11 @@ fn file_report_line(line: &mut [u8], refusal: u8, position: Lsn) -> usize {
     test_lines::end(line, c)
 }
 
-pub(crate) fn file_report(verdict: FileVerdict, position: Lsn) -> bool {
+pub(crate) fn file_report(output: Stdout, verdict: FileVerdict, position: Lsn) -> bool {
     let refusal = file_refusal(verdict);
     let mut line = [0u8; 64];
     let n = file_report_line(&mut line, refusal, position);
-    test_lines::print(&line, n)
+    test_lines::print(output, &line, n)
 }
 
 // The refusal, how many bytes were written, the sum of the whole output, and the bytes written.
@@ -72,16 +73,16 @@ fn page_line(line: &mut [u8], refusal: u8, written: usize, out: &[u8]) -> usize 
     test_lines::end(line, e)
 }
 
-fn page_told(refusal: u8, written: usize, out: &[u8]) -> bool {
+fn page_told(output: Stdout, refusal: u8, written: usize, out: &[u8]) -> bool {
     let mut line = [0u8; 512];
     let n = page_line(&mut line, refusal, written, out);
-    test_lines::print(&line, n)
+    test_lines::print(output, &line, n)
 }
 
-pub(crate) fn page(w: Written, out: &[u8]) -> bool {
+pub(crate) fn page(output: Stdout, w: Written, out: &[u8]) -> bool {
     match w {
-        Written::Wrote(n) => page_told(0, n, out),
-        Written::Refused(r) => page_told(r.number(), 0, out),
+        Written::Wrote(n) => page_told(output, 0, n, out),
+        Written::Refused(r) => page_told(output, r.number(), 0, out),
     }
 }
 
@@ -162,10 +163,10 @@ fn step_line(line: &mut [u8], s: Stepped, out: &[u8], payload: &[u8]) -> usize {
     event_line(line, b, w, payload, event)
 }
 
-pub(crate) fn step(s: Stepped, out: &[u8], payload: &[u8]) -> bool {
+pub(crate) fn step(output: Stdout, s: Stepped, out: &[u8], payload: &[u8]) -> bool {
     let mut line = line_buffer();
     let n = step_line(&mut line, s, out, payload);
-    test_lines::print(&line, n)
+    test_lines::print(output, &line, n)
 }
 
 fn counters(line: &mut [u8], m: Metrics) -> usize {
@@ -192,8 +193,8 @@ fn last_line(line: &mut [u8], m: Metrics) -> usize {
     positions(line, b, m)
 }
 
-pub(crate) fn finish(run: Run) -> bool {
+pub(crate) fn finish(output: Stdout, run: Run) -> bool {
     let mut line = [0u8; 256];
     let n = last_line(&mut line, worker::session::metrics(run));
-    test_lines::print(&line, n)
+    test_lines::print(output, &line, n)
 }

@@ -1,26 +1,29 @@
 #![tactic(auto)]
 // Plays the recorded streams of a server, each as the program `events` would.
+use std::fs::File;
+use std::io::Stdout;
+use test_lines::streams;
 
 // The stream's name, then its events.
-fn stream(name: &[u8]) {
-    io::write_all(1, name);
-    io::write_all(1, b"\n");
-    let fd = os::open_read(name);
-    if fd < 0 {
-        return;
-    }
-    test_playing::play(fd);
-    libc::close(fd);
+fn stream(rt: &HostRuntime, output: Stdout, name: &str) {
+    streams::write_all(output, name.as_bytes());
+    streams::write_all(output, b"\n");
+    let mut file = match File::open(rt, name) {
+        Ok(f) => f,
+        Err(_) => return,
+    };
+    test_playing::play(output, &mut file);
 }
 
-fn main() {
-    stream(b"basic-text.bin");
-    stream(b"encoding-sqlascii.bin");
-    stream(b"keepalive-reply.bin");
-    stream(b"limit-over-insert.bin");
-    stream(b"messages.bin");
-    stream(b"origins.bin");
-    stream(b"terminate-idle.bin");
-    stream(b"truncate.bin");
-    stream(b"types-binary.bin");
+fn main(rt: HostRuntime) {
+    let output = rt.stdout();
+    stream(&rt, output, "basic-text.bin");
+    stream(&rt, output, "encoding-sqlascii.bin");
+    stream(&rt, output, "keepalive-reply.bin");
+    stream(&rt, output, "limit-over-insert.bin");
+    stream(&rt, output, "messages.bin");
+    stream(&rt, output, "origins.bin");
+    stream(&rt, output, "terminate-idle.bin");
+    stream(&rt, output, "truncate.bin");
+    stream(&rt, output, "types-binary.bin");
 }

@@ -1,6 +1,6 @@
 -- `open` and `already_open` answer as stated, and make a fresh run of their settings and start: Preserved begins there.
 use mathlib.Core.Path.{◌≡◌, refl}
-use mathlib.Core.List.{List, [], ◌∷◌}
+use mathlib.Core.List.{List}
 use mathlib.Core.Bool.{Bool, true, false}
 use Prim.Native.Nat.{ℕ, ◌+◌}
 use lib.ListN.{length}
@@ -12,7 +12,6 @@ use Rattle.error.specs.Writer.{writing}
 use Rattle.frontend.specs.Frontend.{query}
 use Rattle.lsn.specs.declared.Lsn.{Lsn}
 use Rattle.request.specs.Request.{start_replication}
-use Rattle.worker.specs.declared.Run.{Run}
 use Rattle.worker.specs.declared.Settings.{Settings}
 use Rattle.worker.specs.declared.State.{State}
 use Rattle.worker.specs.declared.State.TheVariants.{Opening, Turn}

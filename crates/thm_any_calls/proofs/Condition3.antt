@@ -1,6 +1,5 @@
 -- Condition 3, its eleven parts together; one of them, that each call answers as the table says, is read off what holds after any list of
 -- calls (Preserved).
-use mathlib.Core.List.{List}
 use mathlib.Core.Path.{ap}
 use Prim.Native.Nat.{ℕ}
 use lib.ListN.{length}

@@ -8,7 +8,7 @@ use native.Mathlib.Omega.{arith}
 use borrow.Author.Tests.{le-ltb}
 use lib.ListN.{length}
 use Rattle.wire.specs.Bytes.{pick}
-use Rattle.wire.proofs.Laws.{by_test, impossible}
+use Rattle.wire.proofs.Laws.{impossible}
 use Rattle.lsn.specs.declared.Lsn.{Lsn}
 use Rattle.lsn.specs.Position.{is_below}
 use Rattle.metrics.specs.declared.Metrics.{Metrics}

@@ -14,7 +14,7 @@ use Rattle.worker.specs.declared.State.TheVariants.{Ended}
 use Rattle.worker.specs.Step.{Outcome, is_ended, step_of}
 use Rattle.worker.specs.Session.{report_of}
 use Rattle.thm_one_call.proofs.Effects.{ended_refused}
-use Rattle.thm_any_calls.specs.Trace.{Setup, Trace, a_step, a_report, Response, state_after, taken_by}
+use Rattle.thm_any_calls.specs.Trace.{Setup, Trace, Response, taken_by}
 use Rattle.thm_any_calls.specs.Calls.{Call, step, report, Played, stepped, lent_to, play_one, play_all, played, begun, run_begun, setup_of}
 use Rattle.thm_any_calls.specs.Table.{limit_by, last_message, response_of}
 use Rattle.thm_any_calls.specs.Traced.{trace_one, trace_all, trace_of}

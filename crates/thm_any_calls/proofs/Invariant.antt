@@ -21,9 +21,7 @@ use Rattle.framing.specs.declared.MessageReader.{MessageReader}
 use Rattle.framing.specs.Read.{more, whole, refused, fresh, Result, limit_of, read_of}
 use Rattle.framing.specs.Feed.{stored, item_of, FollowsCut, feed_all}
 use Rattle.framing.proofs.Feed.{one_more, read_is_cut, fed_is_cut}
-use Rattle.lsn.specs.declared.Lsn.{Lsn}
 use Rattle.worker.specs.declared.Input.{Input}
-use Rattle.worker.specs.declared.Settings.{Settings}
 use Rattle.worker.specs.declared.State.{State}
 use Rattle.worker.specs.declared.State.TheVariants.{Opening, Turn, Drain, Reading, Waiting, Handling, Offering, Ended}
 use Rattle.worker.specs.declared.Whole.{Whole}

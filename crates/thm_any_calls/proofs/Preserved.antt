@@ -13,7 +13,6 @@ use Rattle.wire.specs.Bytes.{pick}
 use Rattle.wire.proofs.Laws.{by_test, impossible}
 use Rattle.framing.specs.Read.{limit_of}
 use Rattle.moment.specs.Moment.{is_before, in_range}
-use Rattle.worker.specs.declared.Run.{Run}
 use Rattle.worker.specs.declared.Settings.{Settings}
 use Rattle.worker.specs.declared.State.{State}
 use Rattle.worker.specs.declared.State.TheVariants.{Opening, Turn, Drain, Reading, Waiting, Handling, Offering, Ended}
@@ -21,14 +20,13 @@ use Rattle.worker.specs.declared.Input.{Input}
 use Rattle.worker.specs.Run.{fresh_run}
 use Rattle.worker.specs.Step.{Lent, Outcome, bad_moment, is_ended, refused_with, step_of}
 use Rattle.worker.specs.Session.{report_of}
-use Rattle.worker.specs.Events as E
 use Rattle.thm_any_calls.specs.Happened.{Happened, happened_of}
 use Rattle.thm_any_calls.specs.Plain.{Observation, is_refused_early, has_opened, given, taken_of}
-use Rattle.thm_any_calls.specs.Trace.{Setup, Trace, a_step, a_report, nothing, Response, state_after, taken_by, handed_by, observations_of}
-use Rattle.thm_any_calls.specs.Calls.{Beginning, is_opening, start_of, Call, step, report, Played, stepped, lent_to, play_one, play_all, begun, played, setup_of}
+use Rattle.thm_any_calls.specs.Trace.{Setup, Trace, nothing, Response, state_after, taken_by, handed_by, observations_of}
+use Rattle.thm_any_calls.specs.Calls.{Beginning, is_opening, start_of, Call, step, report, Played, lent_to, play_one, play_all, begun, played, setup_of}
 use Rattle.thm_any_calls.specs.Table.{respond, last_or, step_response, response_of, is_bad_moment}
 use Rattle.thm_any_calls.specs.Refused.{unchanged}
-use Rattle.thm_any_calls.specs.Traced.{Answers, Follows, trace_one, trace_all, trace_of}
+use Rattle.thm_any_calls.specs.Traced.{Follows, trace_one, trace_all, trace_of}
 use Rattle.thm_any_calls.proofs.Answers.{refused_answers}
 use Rattle.thm_any_calls.proofs.Beginnings.{first_state, run_begun_lem}
 use Rattle.thm_any_calls.proofs.Course.{nothing_offered}

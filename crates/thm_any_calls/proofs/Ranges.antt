@@ -3,11 +3,10 @@ use mathlib.Core.Path.{◌≡◌, refl, sym, subst}
 use mathlib.Core.Bool.{Bool, true, false}
 use mathlib.Core.List.{List, [], ◌∷◌, ◌++◌}
 use mathlib.Core.Option.{Option, some, none}
-use Prim.Native.Nat.{ℕ, ◌+◌, ◌-◌, ◌%◌, ◌<◌, ◌≤◌}
+use Prim.Native.Nat.{ℕ, ◌+◌, ◌-◌, ◌<◌, ◌≤◌}
 use native.Mathlib.Omega.{arith}
 use borrow.Author.Tests.{le-ltb, lt-leb}
 use lib.ListN.{length, drop}
-use lib.IntN.{ℤ}
 use lib.Dec.{ltb, leb, eqb}
 use Rattle.wire.specs.Bytes.{pick, at}
 use Rattle.wire.specs.Field.{field_at}
@@ -17,7 +16,7 @@ use Rattle.wire.proofs.Laws.{impossible}
 use Rattle.frames.specs.Cut.{Item, message, Ending, header, payload, over, Cut, cut_of}
 use Rattle.frames.specs.Cut.{refused as bad}
 use Rattle.frames.specs.Tag.{is_error, is_copy_both_response, is_copy_data}
-use Rattle.framing.specs.Read.{Said, more, whole, refused, unfinished}
+use Rattle.framing.specs.Read.{Said, more, whole, refused}
 use Rattle.framing.specs.Feed.{first_answer}
 use Rattle.pgoutput.specs.Boundary.{boundary_of, need, begin_at, commit_at, content_at, prefix_by, message_at}
 use Rattle.pgoutput.specs.Boundary as B

@@ -23,7 +23,7 @@ use Rattle.frames.specs.Tag.{is_error, is_copy_both_response, is_copy_data}
 use Rattle.framing.proofs.Feed.{read_is_cut}
 use Rattle.lsn.specs.declared.Lsn.{Lsn}
 use Rattle.metrics.specs.declared.Metrics.{Metrics}
-use Rattle.metrics.specs.Metrics.{more, metrics, with_stall, with_reply, with_end}
+use Rattle.metrics.specs.Metrics.{more, with_reply, with_end}
 use Rattle.moment.specs.declared.Moment.{Moment}
 use Rattle.moment.specs.Moment.{since_of}
 use Rattle.pgoutput.specs.Boundary.{boundary_of}
@@ -52,7 +52,7 @@ use Rattle.thm_any_calls.specs.Happened.{Happened, happened_of, Parts}
 use Rattle.thm_any_calls.specs.Happened as H
 use Rattle.thm_any_calls.specs.Plain.{Msg, Gives, gives, reaching, data_gives, payload_gives, is_cut_off, is_full, by_queue}
 use Rattle.thm_any_calls.specs.Begins.{is_closed}
-use Rattle.thm_any_calls.specs.Trace.{Setup, Trace, a_step, nothing, done, status, Response, taken_by, confirmed_of, read_in_wait, full_before, gone_of}
+use Rattle.thm_any_calls.specs.Trace.{Setup, Trace, a_step, nothing, done, status, Response, taken_by, confirmed_of, full_before}
 use Rattle.thm_any_calls.specs.Calls.{Played, stepped, lent_to}
 use Rattle.thm_any_calls.specs.Table.{Found, respond, enters, writes, refuses, is_passed, is_idle, status_if, read_response, opening_response, reading_response, idle_response, waiting_response, last_message, boundary_response, copy_data_response, left_of, passed_on, hands_over, drops, again_response, table_of}
 use Rattle.thm_any_calls.specs.Counters.{end_after, last_end}

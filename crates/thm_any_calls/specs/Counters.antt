@@ -1,6 +1,6 @@
 -- Counters over a list of calls, in words of the calls and the server's bytes: what each of the seven numbers of `metrics` counts. Waiting times
 -- stand in Traced, since a step answers them. SCOPE 8.7; 01, "Progress".
-use Rattle.std.specs.Prelude.{◌≡◌, Bool, true, false, not, List, [], ◌∷◌, ℕ, ◌+◌, ◌%◌, ◌^◌, length, take, eqb}
+use Rattle.std.specs.Prelude.{◌≡◌, Bool, not, List, [], ◌∷◌, ℕ, ◌+◌, ◌%◌, ◌^◌, length, take, eqb}
 use Rattle.wire.specs.Bytes.{pick}
 use Rattle.lsn.specs.declared.Lsn.{Lsn}
 use Rattle.metrics.specs.declared.Metrics.{Metrics}

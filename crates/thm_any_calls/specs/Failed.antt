@@ -1,6 +1,6 @@
 -- Condition 3, errors of the server: after a step that is refused with 19, in Opening too, `error_part` names the payload of the last whole
 -- message, which stands at the front of the payload buffer, whatever calls follow. SCOPE 5.8, 8.9; 01, "Where each call turns back", 19.
-use Rattle.std.specs.Prelude.{◌≡◌, true, List, [], ◌∷◌, ◌++◌, ℕ, ◌+◌, length, take}
+use Rattle.std.specs.Prelude.{◌≡◌, true, List, ◌∷◌, ◌++◌, ℕ, ◌+◌, length, take}
 use Rattle.std.proofs.Math.Option.{some}
 use Rattle.worker.specs.declared.Input.{Input}
 use Rattle.worker.specs.declared.Run.{Run}

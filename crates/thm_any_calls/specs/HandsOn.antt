@@ -1,7 +1,7 @@
 -- Condition 3, events: what a run has handed on after a list of calls is the plain reading of the bytes, which is told the refusals and taken
 -- counts of the step table. And of two lists over the same bytes, the events of one begin the other's. SCOPE 8.5, 8.6; 01, "Events and
 -- confirmations".
-use Rattle.std.specs.Prelude.{◌≡◌, Bool, false, List, [], ◌∷◌, ◌⊎◌, ℕ, length}
+use Rattle.std.specs.Prelude.{◌≡◌, false, List, [], ◌∷◌, ◌⊎◌, ℕ, length}
 use Rattle.worker.specs.declared.Settings.{Settings}
 use Rattle.thm_any_calls.specs.Happened.{Happened}
 use Rattle.thm_any_calls.specs.Plain.{plain_of}

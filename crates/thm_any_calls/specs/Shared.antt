@@ -2,23 +2,20 @@
 -- the choice between two values. Each is named here with the theorems that hold it over all values; the gate refuses a file of these specs that uses
 -- anything else of another crate, save types and the calls that condition 3 is about. SCOPE 8.3.
 use Rattle.std.specs.Prelude.{◌≡◌, Bool, true, false, List, [], ◌∷◌, ◌++◌, ℕ, ◌+◌, length, ℤ}
-use Rattle.wire.specs.Bytes.{pick, be, be_bytes}
-use Rattle.wire.specs.Int.{int, value}
+use Rattle.wire.specs.Bytes.{pick, be_bytes}
+use Rattle.wire.specs.Int.{value}
 use Rattle.wire.specs.AllValues.{NumberLaws, IntLaws, SearchLaws}
 use Rattle.wire.specs.Cases.{OrderLaws, SignedLaws, FindLawsOf}
-use Rattle.frames.specs.Message.{framed, front_of}
-use Rattle.frames.specs.Cut.{cut_of}
+use Rattle.frames.specs.Message.{framed}
 use Rattle.frames.specs.Frame.{CutByFront, LaidIsCut, CutIsLaid}
-use Rattle.replication.specs.CopyData.{copy_data_of, xlog_data, keep_alive}
+use Rattle.replication.specs.CopyData.{xlog_data, keep_alive}
 use Rattle.replication.specs.CopyDataLayout.{XLogDataIsRead, ReadIsXLogData, KeepAliveIsRead, ReadIsKeepAlive}
 use Rattle.replication.specs.CopyDataCases.{CopyDataLaws}
-use Rattle.pgoutput.specs.Boundary.{boundary_of, begin_bytes, commit_bytes, message_bytes}
+use Rattle.pgoutput.specs.Boundary.{begin_bytes, commit_bytes, message_bytes}
 use Rattle.pgoutput.specs.BoundaryLayout.{BeginIsRead, ReadIsBegin, CommitIsRead, ReadIsCommit, MessageIsRead, ReadIsMessage}
 use Rattle.pgoutput.specs.BoundaryCases.{LetterLaws, BeginRefusals, CommitRefusals, MessageRefusals}
-use Rattle.frontend.specs.Frontend.{status_update, copy_done_message, query}
-use Rattle.frontend.specs.ReadBack.{status_of, Status, confirming}
+use Rattle.frontend.specs.Frontend.{status_update, copy_done_message}
 use Rattle.frontend.specs.ReadBack.{StatusReadBack, StatusReadBackModulo, QueryReadBack, QueryCutAtZero}
-use Rattle.request.specs.Request.{start_replication}
 use Rattle.request.specs.ReadBack.{RequestReadBack}
 
 pub record SharedHeld : Type 1 where

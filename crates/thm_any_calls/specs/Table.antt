@@ -15,7 +15,7 @@ use Rattle.worker.specs.declared.Input.{Input}
 use Rattle.thm_any_calls.specs.Tests.{◌⇒◌, first_of, both, unless, part, while_opening, by_tag, is_ended, is_moment, is_before, since, longest}
 use Rattle.thm_any_calls.specs.Happened.{Happened}
 use Rattle.thm_any_calls.specs.Plain.{Msg, Gives, message_gives, whole_ones, by_queue}
-use Rattle.thm_any_calls.specs.Trace.{Setup, bounds_of, Writing, nothing, done, status, Response, Trace, a_step, a_report, state_after, taken_by, last_accepted, has_sent, sent_at, wait_began, pending_of, signalled_of, drained_of, read_in_wait, full_before, gone_of}
+use Rattle.thm_any_calls.specs.Trace.{Setup, bounds_of, Writing, nothing, done, status, Response, Trace, state_after, taken_by, last_accepted, has_sent, sent_at, wait_began, pending_of, signalled_of, drained_of, read_in_wait, full_before, gone_of}
 
 -- a response that takes no byte: its refusal, writing, state entered and event
 abbrev pub respond : ℕ → Writing → State → List Happened → Response

@@ -1,8 +1,7 @@
 -- Opening a run, a run that is already open, and a file's report, apart from their definitions: where each argument goes, what is refused with 1 and
 -- with 31, and what a report changes. SCOPE 5.1, 5.2, 5.3, 5.7; 01, "Events and confirmations"; 02, wish 5.
-use Rattle.std.specs.Prelude.{ℕ, ◌+◌, ◌*◌, ◌≤◌, ◌<◌, min, max, Bool, true, false, List, [], ◌∷◌, ◌⊎◌, ◌≡◌, length, get_or, ltb}
+use Rattle.std.specs.Prelude.{ℕ, ◌+◌, ◌*◌, ◌≤◌, ◌<◌, min, max, true, false, List, [], ◌∷◌, ◌⊎◌, ◌≡◌, length, get_or}
 use Rattle.std.specs.Borrow.{Bor}
-use Rattle.wire.specs.Bytes.{pick}
 use Rattle.error.specs.Inputs.{total}
 use Rattle.error.specs.Writer.{writing}
 use Rattle.frontend.specs.Frontend.{query}
@@ -15,8 +14,6 @@ use Rattle.progress.specs.FileCalls.{NamesAll}
 use Rattle.request.specs.Request.{start_replication}
 use Rattle.worker.specs.declared.Run.{Run}
 use Rattle.worker.specs.declared.Settings.{Settings}
-use Rattle.worker.specs.declared.State.{State}
-use Rattle.worker.specs.declared.State.TheVariants.{Opening, Turn}
 use Rattle.worker.specs.Session.{Opened, open_of, already_open_of, report_of}
 use Rattle.worker.specs.Run.{state_number, cell_in, with_progress}
 

@@ -260,11 +260,11 @@ walk_has es ts (suc (suc (suc zero))) l h = h
 walk_has es ts (suc (suc (suc (suc f)))) l h = absurd (omega (arith, l))
 
 has_walk : (es : List (ℕ × ℕ)) (ts : List Told) (f : ℕ) → Has (walk_of es ts) f → is_among es f (all_changed (since_begin ts)) ≡ true
-has_walk es ts zero h = h
-has_walk es ts (suc zero) h = h
-has_walk es ts (suc (suc zero)) h = h
-has_walk es ts (suc (suc (suc zero))) h = h
-has_walk es ts (suc (suc (suc (suc f)))) h = absurd h
+has_walk _ ts zero h = h
+has_walk _ ts (suc zero) h = h
+has_walk _ ts (suc (suc zero)) h = h
+has_walk _ ts (suc (suc (suc zero))) h = h
+has_walk _ ts (suc (suc (suc (suc f)))) h = absurd h
 
 touched_since : (ids fs : List ℕ) → AllFiles ids fs → (ts : List Told) (f : ℕ) → TouchedSince ids fs f ts
     → Has (left_by (entries_of ids fs) none_touched ts) f
@@ -286,7 +286,7 @@ touched_since ids fs a ts f w =
     rw (left_is_the_walk es ts (list_accepted ids fs a)) (walk_has es ts f small (walk_laws.finds es f ts m))
 
 entry_file : (es : List (ℕ × ℕ)) (id f : ℕ) → FirstEntry es id f → file_of es id ≡ some f
-entry_file es id f w = ap (λ (x : List (ℕ × ℕ)). file_of x id) w.there ∙ entry_finds w.front w.back id f w.first
+entry_file _ id f w = ap (λ (x : List (ℕ × ℕ)). file_of x id) w.there ∙ entry_finds w.front w.back id f w.first
 
 since_touched : (ids fs : List ℕ) → AllFiles ids fs → (ts : List Told) → AllBytes ts → (f : ℕ)
     → Has (left_by (entries_of ids fs) none_touched ts) f → TouchedSince ids fs f ts

@@ -1,7 +1,6 @@
 -- Inside the ring the three words are there.
 use borrow.Author.Tests.{lt-leb, le-leb}
 use Rattle.ledger.specs.Ledger.{entry_at}
-use borrow.Author.Rules.{rules}
 use Rattle.ledger.proofs.entry_at.Goals as goal
 
 pub returns-then-ring-slot : goal.returns-then-ring-slot

@@ -3,7 +3,6 @@ use Prim.Native.Nat.{◌+◌}
 use borrow.Author.Tests.{lt-ltb, le-ltb}
 use native.Mathlib.Omega.{arith}
 use Rattle.ledger.specs.Ledger.{next_of}
-use borrow.Author.Rules.{rules}
 use Rattle.ledger.proofs.next.Goals as goal
 
 pub returns-then-capacity-slot : goal.returns-then-capacity-slot

@@ -3,7 +3,6 @@ use borrow.Author.Tests.{lt-leb, le-leb}
 use native.Mathlib.Omega.{arith}
 use lib.ListN.{length-set}
 use Rattle.ledger.specs.Ledger.{entry_in}
-use borrow.Author.Rules.{rules}
 use Rattle.ledger.proofs.set_entry.Goals as goal
 
 pub returns-then-ring-slot : goal.returns-then-ring-slot

@@ -1,7 +1,6 @@
 -- By the tests.
 use borrow.Author.Tests.{lt-ltb, le-ltb, lt-leb, le-leb}
 use Rattle.ledger.specs.Ledger.{slot_of}
-use borrow.Author.Rules.{rules}
 use Rattle.ledger.proofs.slot_after.Goals as goal
 
 pub returns-then-capacity-front : goal.returns-then-capacity-front

@@ -1,5 +1,4 @@
 -- File by file.
-use borrow.Author.Rules.{rules}
 use Rattle.ledger.proofs.Ledger.all_raised.Goals as goal
 
 pub returns : goal.returns

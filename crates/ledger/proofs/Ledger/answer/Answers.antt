@@ -1,7 +1,6 @@
 -- 31, or the walk's answer.
-use mathlib.Core.Path.{refl, sym, ap, ◌∙◌}
+use mathlib.Core.Path.{refl, sym}
 use Rattle.ledger.proofs.CallLaws.{asked_file, asked_taken}
-use borrow.Author.Rules.{rules}
 use Rattle.ledger.proofs.Ledger.answer.Goals as goal
 
 pub returns-then-file-gt-LAST_FILE : goal.returns-then-file-gt-LAST_FILE

@@ -1,10 +1,8 @@
 -- Every entry passed is done for the file.
-use mathlib.Core.Path.{◌≡◌, refl, sym, ap, ◌∙◌}
+use mathlib.Core.Path.{refl, sym, ap, ◌∙◌}
 use native.Mathlib.Omega.{arith}
 use Rattle.ledger.specs.declared.Entry.{Entry}
-use Rattle.ledger.specs.Ledger.{answer_from}
 use Rattle.ledger.proofs.RingLaws.{answer_here, answer_next, answer_none}
-use borrow.Author.Rules.{rules}
 use Rattle.ledger.proofs.Ledger.answer_from.Goals as goal
 
 pub loop-count-init : goal.loop-count-init

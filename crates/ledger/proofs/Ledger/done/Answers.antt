@@ -1,7 +1,6 @@
 -- The refusal, or the larger positions.
-use mathlib.Core.Path.{refl, sym, ap, ◌∙◌}
+use mathlib.Core.Path.{sym, ◌∙◌}
 use Rattle.ledger.proofs.CallLaws.{done_refused, done_taken}
-use borrow.Author.Rules.{rules}
 use Rattle.ledger.proofs.Ledger.done.Goals as goal
 
 pub returns-then-refusal-ne0 : goal.returns-then-refusal-ne0

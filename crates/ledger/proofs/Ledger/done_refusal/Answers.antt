@@ -1,7 +1,6 @@
 -- By the tests.
 use borrow.Author.Tests.{eq-eqb, ne_eqb, lt-ltb, le-ltb}
 use Rattle.ledger.specs.Ledger.{done_refusal}
-use borrow.Author.Rules.{rules}
 use Rattle.ledger.proofs.Ledger.done_refusal.Goals as goal
 
 pub returns-then-self-ne0 : goal.returns-then-self-ne0

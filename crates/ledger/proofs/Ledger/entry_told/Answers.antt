@@ -1,8 +1,6 @@
 -- By the tests; an entry that is kept goes after the others.
-use mathlib.Core.Path.{refl, sym, ap, ◌∙◌}
+use mathlib.Core.Path.{sym, ◌∙◌}
 use Rattle.ledger.proofs.CallLaws.{refused_left, entry_below, entry_full, entry_kept, kept_is}
-use native.Mathlib.Omega.{arith}
-use borrow.Author.Rules.{rules}
 use Rattle.ledger.proofs.Ledger.entry_told.Goals as goal
 
 pub returns-then-position-self : goal.returns-then-position-self

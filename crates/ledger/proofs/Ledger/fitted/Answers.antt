@@ -1,7 +1,6 @@
 -- By the test.
 use borrow.Author.Tests.{lt-ltb, le-ltb}
 use Rattle.ledger.specs.Ledger.{fitted_of}
-use borrow.Author.Rules.{rules}
 use Rattle.ledger.proofs.Ledger.fitted.Goals as goal
 
 pub returns-then-self-capacity : goal.returns-then-self-capacity

@@ -1,6 +1,5 @@
 -- File by file.
 use Rattle.ledger.specs.Ledger.{undone_some}
-use borrow.Author.Rules.{rules}
 use Rattle.ledger.proofs.Ledger.is_held.Goals as goal
 
 pub returns-then-is_undone : goal.returns-then-is_undone

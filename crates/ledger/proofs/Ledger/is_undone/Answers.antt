@@ -1,7 +1,6 @@
 -- By the tests.
 use borrow.Author.Tests.{lt-leb, le-leb}
 use Rattle.ledger.specs.Ledger.{undone_for}
-use borrow.Author.Rules.{rules}
 use Rattle.ledger.proofs.Ledger.is_undone.Goals as goal
 
 pub returns-then-entry-self : goal.returns-then-entry-self

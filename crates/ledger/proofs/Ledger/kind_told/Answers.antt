@@ -1,9 +1,8 @@
 -- By the kind.
-use mathlib.Core.Path.{refl, sym, ap, ◌∙◌}
+use mathlib.Core.Path.{sym, ap, ◌∙◌}
 use Rattle.ledger.proofs.CallLaws.{answered_left, told_commit, told_begin, told_open, told_seen, told_message, told_other}
 use Rattle.ledger.specs.Ledger.{with_seen}
 use Rattle.ledger.specs.declared.Ledger.{Ledger}
-use borrow.Author.Rules.{rules}
 use Rattle.ledger.proofs.Ledger.kind_told.Goals as goal
 
 pub returns-then-kind-eq-COMMIT : goal.returns-then-kind-eq-COMMIT

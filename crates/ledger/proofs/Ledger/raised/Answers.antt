@@ -1,7 +1,6 @@
 -- By the file's number.
 use borrow.Author.Tests.{eq-eqb, ne_eqb}
 use Rattle.ledger.specs.Ledger.{raised_in}
-use borrow.Author.Rules.{rules}
 use Rattle.ledger.proofs.Ledger.raised.Goals as goal
 
 pub returns-then-file-eq0 : goal.returns-then-file-eq0

@@ -1,6 +1,5 @@
 -- What the ring holds less what it has.
 use Rattle.ledger.specs.Ledger.{room_of}
-use borrow.Author.Rules.{rules}
 use Rattle.ledger.proofs.Ledger.room.Goals as goal
 
 pub returns : goal.returns

@@ -1,9 +1,7 @@
 -- Every entry passed is undone for no file.
-use mathlib.Core.Path.{◌≡◌, refl, sym, ◌∙◌}
+use mathlib.Core.Path.{refl, sym, ◌∙◌}
 use native.Mathlib.Omega.{arith}
-use Rattle.ledger.specs.Ledger.{settled_from}
 use Rattle.ledger.proofs.RingLaws.{settled_here, settled_next, settled_none, settled_ends}
-use borrow.Author.Rules.{rules}
 use Rattle.ledger.proofs.Ledger.settled.Goals as goal
 
 pub loop-count-init : goal.loop-count-init

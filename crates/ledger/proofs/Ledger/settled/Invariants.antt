@@ -1,9 +1,6 @@
 -- Every entry passed is undone for no file.
-use mathlib.Core.Path.{◌≡◌, refl, sym, ◌∙◌}
-use native.Mathlib.Omega.{arith}
+use mathlib.Core.Path.{◌≡◌}
 use Rattle.ledger.specs.Ledger.{settled_from}
-use Rattle.ledger.proofs.RingLaws.{settled_here, settled_next, settled_none, settled_ends}
-use borrow.Author.Rules.{rules}
 use Rattle.ledger.proofs.Ledger.settled.Given as goal
 
 abbrev pub invariant-loop-count : goal.invariant-loop-count

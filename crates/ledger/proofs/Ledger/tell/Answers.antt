@@ -1,7 +1,6 @@
 -- The mark, then the list, then the kind.
-use mathlib.Core.Path.{refl, sym, ap, ◌∙◌}
+use mathlib.Core.Path.{refl, sym, ◌∙◌}
 use Rattle.ledger.proofs.CallLaws.{answered_left, refused_left, tell_marked, tell_refused, tell_kind}
-use borrow.Author.Rules.{rules}
 use Rattle.ledger.proofs.Ledger.tell.Goals as goal
 
 pub returns-then-mark-ne0 : goal.returns-then-mark-ne0

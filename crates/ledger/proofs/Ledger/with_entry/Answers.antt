@@ -1,5 +1,4 @@
 -- The larger end.
-use borrow.Author.Rules.{rules}
 use Rattle.ledger.proofs.Ledger.with_entry.Goals as goal
 
 pub returns : goal.returns

@@ -1,5 +1,4 @@
 -- The larger position.
-use borrow.Author.Rules.{rules}
 use Rattle.ledger.proofs.Ledger.with_seen.Goals as goal
 
 pub returns : goal.returns

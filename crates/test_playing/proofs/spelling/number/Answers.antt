@@ -1,0 +1,4 @@
+use Rattle.test_playing.proofs.spelling.number.Goals as goal
+
+pub returns-in-Refused : goal.returns-in-Refused
+returns-in-Refused c = rw c.in-Refused.is c.number.ensures

@@ -1,0 +1,12 @@
+use lib.ListN.{length}
+use Rattle.test_lines.proofs.Laws.{left_less}
+use native.Mathlib.Omega.{arith}
+use borrow.Author.Rules.{rules}
+use mathlib.Core.Path.{◌≡◌}
+use Rattle.test_replay.proofs.run.Given as goal
+
+abbrev pub invariant-loop-left : goal.invariant-loop-left
+invariant-loop-left l = (length l.server ≡ length l.initial.server) × (length l.payload ≡ length l.initial.payload)
+
+abbrev pub decreases-loop-left : goal.decreases-loop-left
+decreases-loop-left l = l.left
