@@ -2,7 +2,7 @@
 use Prim.Native.Nat.{ℕ, zero, suc, ◌+◌}
 use mathlib.Core.Path.{◌≡◌, refl}
 use mathlib.Core.Bool.{Bool, true, false}
-use mathlib.Core.List.{List, [], ◌∷◌}
+use mathlib.Core.List.{List, []}
 use mathlib.Core.Option.{Option, some, none}
 use lib.ListN.{drop}
 use lib.Dec.{eqb}
@@ -10,7 +10,6 @@ use Rattle.wire.specs.Bytes.{pick}
 use Rattle.wire.proofs.Laws.{impossible}
 use Rattle.moment.specs.declared.Moment.{Moment}
 use Rattle.worker.specs.declared.Run.{Run}
-use Rattle.advance.specs.declared.at_hand.AtHand.{AtHand}
 use Rattle.advance.specs.AtHand.{handed_run}
 use Rattle.drain.specs.Drain.{Drained, stays, further, entering, entered_in, is_ready, hand_of, drain_from}
 use Rattle.drain.specs.Laws.{Chained, DrainLaws}

@@ -1,6 +1,6 @@
 -- All messages at hand in one call: as many whole messages as lie in the unread bytes and as there is room for are handed on, as the same steps
 -- would. Nothing is copied; parts of an event are places in the unread bytes. SCOPE 8.14.
-use Rattle.std.specs.Prelude.{ℕ, zero, suc, ◌+◌, ◌/◌, min, Bool, true, false, List, [], ◌∷◌, drop, ltb, eqb}
+use Rattle.std.specs.Prelude.{ℕ, zero, suc, ◌+◌, ◌/◌, min, Bool, List, [], ◌∷◌, drop, ltb, eqb}
 use Rattle.std.proofs.Math.Option.{Option, some, none}
 use Rattle.wire.specs.Bytes.{pick, at}
 use Rattle.frames.specs.Message.{Front, in_header, in_payload, bad_length, too_large, whole, front_of}

@@ -1,6 +1,6 @@
 -- The four steps of a message, the steps between two rounds, and then any number of messages.
 use mathlib.Core.Path.{◌≡◌, refl, sym, ap, ◌∙◌, subst}
-use mathlib.Core.Bool.{Bool, true, false, not}
+use mathlib.Core.Bool.{Bool, true, false}
 use mathlib.Core.List.{List, [], ◌∷◌, ◌++◌}
 use Prim.Native.Nat.{ℕ, zero, suc, ◌+◌, ◌≤◌, ◌<◌}
 use native.Mathlib.Nat.{min-le_left}
@@ -27,7 +27,7 @@ use Rattle.replication.specs.CopyData.{copy_data_of}
 use Rattle.replication.specs.CopyData as C
 use Rattle.replication.proofs.LayoutXLogData.{data_within}
 use Rattle.worker.specs.declared.Event.{Event}
-use Rattle.worker.specs.declared.Event.TheVariants.{KeepAlive, StoppedAt}
+use Rattle.worker.specs.declared.Event.TheVariants.{KeepAlive}
 use Rattle.worker.specs.declared.Input.{Input}
 use Rattle.worker.specs.declared.Queue.{Queue}
 use Rattle.worker.specs.declared.Queue.TheVariants.{Free}
@@ -42,7 +42,7 @@ use Rattle.worker.specs.Step.{Outcome, Lent, handing, moved, having, is_ended, b
 use Rattle.worker.specs.Step.{handling_of, first_offer_by, offering_of, offers, is_stopped_at, status_due, turn_of, step_in, step_of}
 use Rattle.advance.specs.declared.at_hand.AtHand.{AtHand}
 use Rattle.advance.specs.Advance.{is_nothing, lent_after}
-use Rattle.advance.specs.AtHand.{at_hand, nothing, has_room_for, handed_run}
+use Rattle.advance.specs.AtHand.{at_hand, has_room_for, handed_run}
 use Rattle.drain.specs.Drain.{hand_given, hand_payload, hand_front, hand_of, round_begun, entered_in, is_ready, Drained, stays, further, entering, drain_from}
 use Rattle.drain.proofs.DrainLaws.{choose, each, drain_none, drain_more}
 use Rattle.thm_held_front.specs.HeldFront.{parts_end, held, SameHeld, parts}

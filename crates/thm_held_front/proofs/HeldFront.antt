@@ -45,7 +45,7 @@ use Rattle.worker.specs.Step.{offering_of, offers, opening_by, opening_of, reach
 use Rattle.worker.specs.Step.{stalled_by, stalled_of, stalls}
 use Rattle.worker.specs.Step.{status_due, step_in, step_of, to_handle, turn_of, waiting_by, waiting_of, waits}
 use Rattle.worker.specs.Streaming.{is_copy_done}
-use Rattle.thm_held_front.specs.HeldFront.{parts_end, error_held, whole_held, held, SameHeld, parts, SameOutcome, StepSeesHeld, HeldCases}
+use Rattle.thm_held_front.specs.HeldFront.{parts_end, error_held, whole_held, held, parts, SameOutcome, StepSeesHeld, HeldCases}
 use Rattle.thm_held_front.proofs.ReadSame.{Agree, shorter, same_part, whole_length, SameRead, read_same}
 
 -- ---- counts of held bytes

@@ -1,12 +1,12 @@
 -- A run comes to rest, state by state: after a step of Turn the status interval has not passed at this moment, and a wait that begins now is at
 -- rest then.
-use Prim.Native.Nat.{ℕ, zero, suc, ◌+◌, ◌-◌, ◌<◌, ◌≤◌, min}
+use Prim.Native.Nat.{ℕ, zero, suc, ◌+◌, ◌-◌, ◌<◌, min}
 use native.Mathlib.Omega.{arith}
-use borrow.Author.Tests.{le-ltb, lt-leb, leb-false, ltb-true, eqb-true}
+use borrow.Author.Tests.{le-ltb, lt-leb, leb-false, eqb-true}
 use mathlib.Core.Bool.{Bool, true, false}
 use mathlib.Core.Path.{◌≡◌, refl, sym, ap, ◌∙◌, subst}
-use mathlib.Core.List.{List, []}
-use mathlib.Core.Logic.{◌⊎◌, inl, inr}
+use mathlib.Core.List.{List}
+use mathlib.Core.Logic.{inl, inr}
 use lib.ListN.{length, get_or, take}
 use lib.IntN.{ℤ}
 use lib.Dec.{ltb, leb, eqb}
@@ -19,7 +19,7 @@ use Rattle.frames.specs.Tag.{is_error, is_copy_both_response, is_copy_data}
 use Rattle.lsn.specs.declared.Lsn.{Lsn}
 use Rattle.metrics.specs.Metrics.{more, with_event, with_reply, with_end}
 use Rattle.moment.specs.declared.Moment.{Moment}
-use Rattle.moment.specs.Moment.{in_range, is_before, since_of}
+use Rattle.moment.specs.Moment.{since_of}
 use Rattle.pgoutput.specs.Boundary.{boundary_of}
 use Rattle.pgoutput.specs.Boundary as B
 use Rattle.progress.specs.Progress.{cell_signal, looked_of}
@@ -36,8 +36,8 @@ use Rattle.worker.specs.declared.State.TheVariants.{Opening, Turn, Drain, Readin
 use Rattle.worker.specs.Tests.{both, unless}
 use Rattle.worker.specs.Run.{lsn, cell_in, with_state, whole_of, with_drained, with_metrics, with_reader, with_whole, accepted}
 use Rattle.worker.specs.Streaming.{is_copy_done}
-use Rattle.worker.specs.Step.{Lent, Outcome, after_event, back, bad_moment, boundary_by, copy_data_by, done_with, drain_of, drops, ended_with, handing, hands_on, handling_of, having, idle_of, interval_passed, is_ended, is_stopped_at, moved, next_event, offering_of, offers, opening_by, opening_of, reaches, reading_by, reading_of, stall_ended, stalled_of, stalls, step_in, status_due, feedback_of, step_of, turn_of, waiting_of, waits}
-use Rattle.schedule.specs.NextStep.{Next, at_once, by_clock, due_of, idle_moment, beyond, is_whole, next_step_of, offering_next, opening_next, reading_next, state_next, status_moment, waiting_next}
+use Rattle.worker.specs.Step.{Lent, Outcome, after_event, back, boundary_by, copy_data_by, done_with, drain_of, drops, ended_with, handing, hands_on, handling_of, having, interval_passed, is_ended, is_stopped_at, moved, next_event, offering_of, offers, opening_by, opening_of, reaches, reading_by, reading_of, stall_ended, stalled_of, stalls, step_in, feedback_of, step_of, turn_of, waiting_of, waits}
+use Rattle.schedule.specs.NextStep.{at_once, by_clock, idle_moment, beyond, is_whole, next_step_of, offering_next, opening_next, reading_next, state_next, status_moment, waiting_next}
 use Rattle.schedule.specs.Promise.{quiet, no_byte, quiet_step, Accepts}
 use Rattle.schedule.proofs.Clock.{good_moment, in_range_lem, passed_by}
 use Rattle.schedule.proofs.Read.{quiet_read, read_quietly}

@@ -5,15 +5,14 @@ use mathlib.Core.Bool.{Bool, true, false}
 use mathlib.Core.List.{List, [], ◌∷◌, ◌++◌, append-nil}
 use mathlib.Core.Logic.{inl, inr}
 use mathlib.Core.Option.{Option}
-use Prim.Native.Nat.{ℕ, ◌+◌, ◌<◌, ◌≤◌}
+use Prim.Native.Nat.{ℕ, ◌+◌, ◌<◌}
 use native.Mathlib.Omega.{arith}
 use borrow.Author.Tests.{lt-ltb}
-use lib.ListN.{length, take, drop}
+use lib.ListN.{length, drop}
 use lib.Seq.{drop-nil}
 use lib.Dec.{ltb}
 use Rattle.wire.specs.Bytes.{pick, put, be_bytes}
 use Rattle.wire.proofs.Laws.{by_test, impossible}
-use Rattle.frames.specs.Cut.{cut_of}
 use Rattle.frames.specs.Message.{framed}
 use Rattle.frames.specs.Tag.{is_error, is_copy_both_response}
 use Rattle.framing.specs.Read.{limit_of}
@@ -29,10 +28,10 @@ use Rattle.worker.specs.Step.{Outcome, Lent, bad_moment, done_with, handling_of,
 use Rattle.worker.specs.Streaming.{is_copy_done}
 use Rattle.worker.specs.Session.{report_of}
 use Rattle.thm_any_calls.specs.Happened.{Happened}
-use Rattle.thm_any_calls.specs.Plain.{Msg, Observation, Gives, message_gives, whole_ones, has_opened, after_opening, given, events_of, span_of, after_byte, accepted_ones, is_refused_early}
+use Rattle.thm_any_calls.specs.Plain.{Msg, Observation, Gives, message_gives, has_opened, after_opening, given, span_of, after_byte, accepted_ones, is_refused_early}
 use Rattle.thm_any_calls.specs.Tests.{is_ended}
-use Rattle.thm_any_calls.specs.Trace.{Setup, Trace, state_after, taken_by, observations_of}
-use Rattle.thm_any_calls.specs.Table.{last_or, step_response, response_of}
+use Rattle.thm_any_calls.specs.Trace.{Setup, Trace, state_after}
+use Rattle.thm_any_calls.specs.Table.{last_or, response_of}
 use Rattle.thm_any_calls.specs.Calls.{Beginning, run_begun, Call, step, report, Played, stepped, lent_to, play_one, play_all, begun, played, setup_of}
 use Rattle.thm_any_calls.specs.Traced.{trace_of}
 use Rattle.thm_any_calls.specs.Refused.{unchanged}
@@ -42,7 +41,7 @@ use Rattle.thm_any_calls.proofs.Facts.{gone_by}
 use Rattle.thm_any_calls.proofs.Invariant.{Goings, Placed, Invariant, Short, last_one, last_at, limit, stop, message_of}
 use Rattle.thm_any_calls.proofs.Preserved.{Preserved, step_next, played_preserved}
 use Rattle.thm_any_calls.proofs.Spans.{span_more}
-use Rattle.thm_server_done.specs.ServerDone.{done, AfterOpening, Arrived, Answered, Over, ServerDone, ServerEnds, EventsStop}
+use Rattle.thm_server_done.specs.ServerDone.{done, Arrived, Answered, Over, ServerEnds, EventsStop}
 
 -- ---- the event list
 

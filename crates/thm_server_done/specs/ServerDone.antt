@@ -9,8 +9,7 @@ use Rattle.worker.specs.declared.Settings.{Settings}
 use Rattle.worker.specs.declared.State.TheVariants.{Ended}
 use Rattle.worker.specs.Events as E
 use Rattle.worker.specs.Step.{Outcome, Lent, step_of}
-use Rattle.thm_any_calls.specs.Happened.{Happened}
-use Rattle.thm_any_calls.specs.Plain.{Msg, Observation, whole_ones, has_opened, events_of, span_of, after_byte, accepted_ones, is_refused_early}
+use Rattle.thm_any_calls.specs.Plain.{Msg, whole_ones, has_opened, events_of, span_of, after_byte, accepted_ones, is_refused_early}
 use Rattle.thm_any_calls.specs.Tests.{onto}
 use Rattle.thm_any_calls.specs.Trace.{Setup, Trace, taken_by, observations_of}
 use Rattle.thm_any_calls.specs.Table.{limit_by}

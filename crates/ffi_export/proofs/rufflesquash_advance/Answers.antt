@@ -7,5 +7,5 @@ use Rattle.ffi_export.proofs.rufflesquash_advance.Goals as goal
 
 pub returns : goal.returns
 returns c =
-    let back = to_z-of_z w64 c.args.client-time c.ranges.client-time in
-    made c.run_of-before.ensures advance_of _ c.advance-s.result (rw back at at-advance.before.before.before.Input-of.ensures) c.advance-s.ensures c.words_of.ensures c.answer_words.ensures
+    let back = to_z-of_z w64 c.args.client_time c.ranges.client_time in
+    made c.run_of-before.ensures advance_of _ c.advance-s.result (rw back at c.input_of-input.ensures) c.advance-s.ensures c.words_of.ensures c.answer_words.ensures

@@ -4,8 +4,8 @@ use Rattle.ffi_export.proofs.rufflesquash_open.Goals as goal
 
 pub returns-then-reply-eq0 : goal.returns-then-reply-eq0
 returns-then-reply-eq0 c =
-    opened at_open.«open».result (open_by c.settings_of-s.ensures _ _ _ _ _ at_open.«open».ensures) c.written_reply-reply.ensures _ c.if-reply-eq0.true c.words_of.ensures
+    opened c.«open»-o.result (open_by c.settings_of-s.ensures _ _ _ _ _ c.«open»-o.ensures) c.written_reply-reply.ensures _ c.if-reply-eq0.true c.words_of.ensures
 
 pub returns-else-reply-eq0 : goal.returns-else-reply-eq0
 returns-else-reply-eq0 c =
-    not_opened at_open.«open».result (open_by c.settings_of-s.ensures _ _ _ _ _ at_open.«open».ensures) c.written_reply-reply.ensures c.if-reply-eq0.false
+    not_opened c.«open»-o.result (open_by c.settings_of-s.ensures _ _ _ _ _ c.«open»-o.ensures) c.written_reply-reply.ensures c.if-reply-eq0.false

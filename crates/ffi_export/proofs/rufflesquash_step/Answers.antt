@@ -7,5 +7,5 @@ use Rattle.ffi_export.proofs.rufflesquash_step.Goals as goal
 
 pub returns : goal.returns
 returns c =
-    let back = to_z-of_z w64 c.args.client-time c.ranges.client-time in
-    made c.run_of-before.ensures step_of _ c.step-s.result (rw back at at-step.before.before.before.Input-of.ensures) c.step-s.ensures c.words_of.ensures c.answer_words.ensures
+    let back = to_z-of_z w64 c.args.client_time c.ranges.client_time in
+    made c.run_of-before.ensures step_of _ c.step-s.result (rw back at c.input_of-input.ensures) c.step-s.ensures c.words_of.ensures c.answer_words.ensures
