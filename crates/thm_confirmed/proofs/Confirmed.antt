@@ -1,34 +1,29 @@
 -- No file's reports pass the ledger's answer, no answer falls, and no file lies behind a confirmation.
-use mathlib.Core.Path.{◌≡◌, refl, sym, ap, subst, ◌∙◌}
-use mathlib.Core.Bool.{Bool, true, false}
+use mathlib.Core.Path.{◌≡◌, refl, subst, ◌∙◌}
 use mathlib.Core.List.{List, [], ◌∷◌}
-use mathlib.Core.Option.{some}
-use Prim.Native.Nat.{ℕ, ◌≤◌, ◌<◌, max}
+use Prim.Native.Nat.{ℕ, ◌≤◌, ◌<◌}
 use native.Mathlib.Omega.{arith}
-use lib.ListN.{length, take}
+use lib.ListN.{length}
 use lib.Dec.{eqb, ltb}
-use borrow.Author.Tests.{eqb-true, le-ltb}
-use Rattle.wire.specs.Bytes.{pick}
+use borrow.Author.Tests.{eqb-true}
 use Rattle.wire.proofs.Laws.{by_test}
-use Rattle.frontend.specs.ReadBack.{status_of, Status}
 use Rattle.lsn.specs.declared.Lsn.{Lsn}
 use Rattle.worker.specs.declared.Run.{Run}
-use Rattle.worker.specs.Step.{Outcome, step_of}
+use Rattle.worker.specs.Step.{step_of}
 use Rattle.worker.specs.Session.{report_of}
-use Rattle.thm_any_calls.specs.Calls.{Beginning, start_of, run_begun}
+use Rattle.thm_any_calls.specs.Calls.{start_of, run_begun}
 use Rattle.thm_any_calls.specs.Confirms.{AnyCall, Reached, reached_with, NotAbove, NoneBehind}
 use Rattle.thm_any_calls.specs.Confirms as any
 use Rattle.thm_any_calls.proofs.Confirms.{no_file_behind}
 use Rattle.touched.specs.Touched.{entries_of}
 use Rattle.ledger.specs.declared.Ledger.{Ledger}
-use Rattle.ledger.specs.declared.Entry.{Entry}
-use Rattle.ledger.specs.Ledger.{cap_of, answer_of}
+use Rattle.ledger.specs.Ledger.{cap_of}
 use Rattle.ledger.specs.History.{Call, History, start_in, seen_in, stable_in, answer_in}
 use Rattle.ledger.specs.Stands.{call_on, answers_in, mark_after, history_after, Stands, Called}
-use Rattle.ledger.specs.Laws.{Accepted, Within, AnswerLaws}
+use Rattle.ledger.specs.Laws.{Accepted, Within}
 use Rattle.ledger.proofs.OneCall.{one_call, asked}
 use Rattle.ledger.proofs.Laws.{answer_laws, accepted_after}
-use Rattle.thm_confirmed.specs.Confirmed.{BothCall, step, report, ledger, Allowed, NothingLost, Told, NoneLost, Begins, NothingIsLost}
+use Rattle.thm_confirmed.specs.Confirmed.{BothCall, step, report, ledger, Allowed, NothingLost, NoneLost, NothingIsLost}
 
 -- the calls of the run among them
 abbrev run_calls : List BothCall → List AnyCall

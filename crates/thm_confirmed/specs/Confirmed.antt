@@ -14,7 +14,7 @@ use Rattle.thm_any_calls.specs.Calls.{Beginning, start_of, run_begun}
 use Rattle.touched.specs.Touched.{entries_of}
 use Rattle.ledger.specs.declared.Ledger.{Ledger}
 use Rattle.ledger.specs.declared.Entry.{Entry}
-use Rattle.ledger.specs.Ledger.{Left, cap_of, bit_for, answer_of}
+use Rattle.ledger.specs.Ledger.{cap_of, bit_for, answer_of}
 use Rattle.ledger.specs.History.{Call, History, start_in, seen_in}
 use Rattle.ledger.specs.Stands.{call_on, answers_in, mark_after, history_after, Stands}
 use Rattle.ledger.specs.Laws.{Accepted, Covered, EntryIn, Within}

@@ -25,19 +25,19 @@ use Rattle.thm_any_calls.specs.Happened.{Happened}
 use Rattle.thm_any_calls.specs.Begins.{is_closed, NoneClosed}
 use Rattle.thm_any_calls.specs.Plain.{Msg, Gives, gives, message_gives, whole_ones, given, taken_of}
 use Rattle.thm_any_calls.specs.Tests.{both, unless, is_ended, longest}
-use Rattle.thm_any_calls.specs.Trace.{Setup, bounds_of, Writing, nothing, done, status, Response, Trace, a_step, a_report, state_after, taken_by, handed_by, observations_of}
-use Rattle.thm_any_calls.specs.Trace.{has_sent, pending_of, signalled_of, drained_of, read_in_wait, full_before, gone_of}
+use Rattle.thm_any_calls.specs.Trace.{Setup, bounds_of, nothing, done, status, Response, Trace, state_after, taken_by, handed_by}
+use Rattle.thm_any_calls.specs.Trace.{pending_of, signalled_of, drained_of, read_in_wait, full_before, gone_of}
 use Rattle.thm_any_calls.specs.Table.{Found, unfinished, whole, refused, found_by, used_by, payload_by, respond, enters, writes, limit_by, is_passed, is_idle, status_if, read_response, reading_response, waiting_response, idle_response}
-use Rattle.thm_any_calls.specs.Table.{last_or, last_message, last_gives, back_of, handling_response, drain_response, waiting_tests, hands_over, drops, offering_response}
-use Rattle.thm_any_calls.specs.Table.{table_of, is_bad_moment, step_response, response_of}
+use Rattle.thm_any_calls.specs.Table.{last_or, last_message, last_gives, back_of, handling_response, waiting_tests, hands_over, drops, offering_response}
+use Rattle.thm_any_calls.specs.Table.{table_of, is_bad_moment, step_response}
 use Rattle.thm_any_calls.specs.Calls.{is_open, Call, step, report, Played, play_one, play_all, setup_of}
 use Rattle.thm_any_calls.specs.Traced.{trace_one, trace_all}
 use Rattle.thm_any_calls.proofs.Begins.{closed_more}
-use Rattle.thm_any_calls.proofs.Invariant.{Goings, Invariant, Short, limit, stop}
+use Rattle.thm_any_calls.proofs.Invariant.{Goings, Invariant, Short}
 use Rattle.thm_any_calls.proofs.Preserved.{Preserved, step_preserved, calls_preserved}
 use Rattle.load.specs.declared.Message.{Message}
-use Rattle.load.specs.Load.{payload_of, all_bytes, messages_of, stream_of}
-use Rattle.thm_load_handed.specs.LoadHanded.{event_of, Undisturbed}
+use Rattle.load.specs.Load.{payload_of, messages_of, stream_of}
+use Rattle.thm_load_handed.specs.LoadHanded.{Undisturbed}
 use Rattle.thm_load_handed.proofs.Drawn.{Fits, AllFit, all_fit}
 use Rattle.thm_load_handed.proofs.Stream.{event_given, handled, items_of}
 use Rattle.thm_load_handed.proofs.Prefix.{Generated, prefix_items, prefix_not_over, last_items}

@@ -1,10 +1,10 @@
 -- What is observed of calls.
 use mathlib.Core.Path.{◌≡◌, refl, ap, ◌∙◌}
-use mathlib.Core.Bool.{Bool, false}
+use mathlib.Core.Bool.{false}
 use mathlib.Core.List.{List, [], ◌∷◌}
 use Prim.Native.Nat.{ℕ, ◌+◌}
 use Rattle.thm_any_calls.specs.Begins.{is_closed, NoneClosed}
-use Rattle.thm_any_calls.specs.Plain.{Observation, taken_of}
+use Rattle.thm_any_calls.specs.Plain.{taken_of}
 use Rattle.thm_any_calls.specs.Trace.{Trace, a_step, a_report, taken_by, observations_of}
 use Rattle.thm_any_calls.specs.Calls.{Call, step, report, Played, play_one, play_all}
 use Rattle.thm_any_calls.proofs.Account.{taken_more}

@@ -1,10 +1,10 @@
 -- By the run's state, as what holds after any list of calls says (claims, Preserved).
 use mathlib.Core.Path.{◌≡◌, refl, sym, ap, ◌∙◌}
-use mathlib.Core.Bool.{Bool, true, false}
+use mathlib.Core.Bool.{Bool, false}
 use mathlib.Core.List.{List, [], ◌∷◌}
 use mathlib.Core.Logic.{inl, inr}
 use mathlib.Core.Option.{Option, some, none}
-use Prim.Native.Nat.{ℕ, zero, suc, ◌+◌, ◌≤◌, ◌<◌, ◌^◌}
+use Prim.Native.Nat.{ℕ, ◌+◌, ◌≤◌, ◌<◌, ◌^◌}
 use native.Mathlib.Omega.{arith}
 use lib.ListN.{length, take, length-append}
 use lib.Seq.{take-length}
@@ -13,17 +13,14 @@ use Rattle.wire.proofs.Laws.{impossible}
 use Rattle.frames.specs.Cut.{cut_of}
 use Rattle.frames.proofs.Frame.{length_framed}
 use Rattle.lsn.specs.declared.Lsn.{Lsn}
-use Rattle.worker.specs.declared.Queue.{Queue}
-use Rattle.worker.specs.declared.Queue.TheVariants.{Free}
 use Rattle.worker.specs.declared.Settings.{Settings}
 use Rattle.worker.specs.declared.State.{State}
 use Rattle.worker.specs.declared.State.TheVariants.{Opening, Turn, Drain, Reading, Waiting, Handling, Offering, Ended}
-use Rattle.thm_any_calls.specs.Happened.{Happened}
-use Rattle.thm_any_calls.specs.Begins.{is_closed, NoneClosed}
+use Rattle.thm_any_calls.specs.Begins.{NoneClosed}
 use Rattle.thm_any_calls.specs.Tests.{longest}
-use Rattle.thm_any_calls.specs.Plain.{Msg, Observation, whole_ones, given, taken_of}
+use Rattle.thm_any_calls.specs.Plain.{Msg, whole_ones, given, taken_of}
 use Rattle.thm_any_calls.specs.Trace.{Setup, state_after, taken_by}
-use Rattle.thm_any_calls.specs.Calls.{is_open, run_begun, Call, step, report, Played, play_one, play_all, begun, played, setup_of}
+use Rattle.thm_any_calls.specs.Calls.{is_open, run_begun, Call, Played, play_all, begun, played, setup_of}
 use Rattle.thm_any_calls.specs.Traced.{trace_all, trace_of}
 use Rattle.thm_any_calls.proofs.Invariant.{Goings, Invariant, Short, limit, stop}
 use Rattle.thm_any_calls.proofs.Preserved.{Preserved, played_preserved}

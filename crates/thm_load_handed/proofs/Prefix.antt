@@ -4,9 +4,9 @@ use mathlib.Core.List.{List, [], ◌∷◌, ◌++◌}
 use Prim.Native.Nat.{ℕ, ◌≤◌}
 use lib.ListN.{take, drop, take-append-drop}
 use Rattle.wire.proofs.Laws.{impossible}
-use Rattle.frames.specs.Cut.{Item, message, refused, Ending, header, payload, over, Cut, cut_of}
+use Rattle.frames.specs.Cut.{Item, message, Ending, header, over, Cut, cut_of}
 use Rattle.frames.proofs.Laws.{continued, cut_append, cut_ending, cut_too_large, over_kept, front_at}
-use Rattle.frames.specs.Message.{Front, too_large, front_of}
+use Rattle.frames.specs.Message.{too_large, front_of}
 use Rattle.load.specs.declared.Message.{Message}
 use Rattle.load.specs.Load.{payload_of, all_bytes}
 use Rattle.thm_load_handed.proofs.Drawn.{AllFit}

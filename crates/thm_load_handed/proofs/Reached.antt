@@ -4,11 +4,11 @@ use mathlib.Core.Bool.{Bool, true, false}
 use mathlib.Core.List.{List, [], ◌∷◌, ◌++◌, append_assoc, append-nil}
 use mathlib.Core.Logic.{◌⊎◌, inl, inr}
 use mathlib.Core.Option.{Option, some, none}
-use Prim.Native.Nat.{ℕ, zero, suc, ◌+◌, ◌*◌, ◌-◌, ◌≤◌, ◌<◌, ◌^◌}
+use Prim.Native.Nat.{ℕ, suc, ◌+◌, ◌*◌, ◌-◌, ◌≤◌, ◌<◌, ◌^◌}
 use native.Mathlib.Omega.{arith}
 use borrow.Author.Tests.{ltb-false, eqb-true, leb-true, leb-false}
 use lib.ListN.{length, take, drop, length-append}
-use lib.Seq.{take-length, take-append_seam, drop-append_seam, take_all}
+use lib.Seq.{take-append_seam, drop-append_seam, take_all}
 use lib.Dec.{ltb, leb, eqb}
 use Rattle.wire.specs.Bytes.{pick}
 use Rattle.wire.proofs.Laws.{impossible}
@@ -27,17 +27,17 @@ use Rattle.thm_any_calls.specs.Plain.{Msg, Observation, Gives, gives, message_gi
 use Rattle.thm_any_calls.specs.Tests.{both, unless, longest}
 use Rattle.thm_any_calls.specs.Trace.{Setup, bounds_of, Writing, nothing, done, status, Response, Trace, a_step, a_report, state_after, taken_by, handed_by, observations_of}
 use Rattle.thm_any_calls.specs.Trace.{went, has_sent, pending_of, signalled_of, drained_of, read_in_wait, offers_on, full_before, gone_of}
-use Rattle.thm_any_calls.specs.Table.{Found, unfinished, whole, refused, found_by, used_by, payload_by, respond, enters, writes, limit_by, is_passed, is_idle, status_if, read_response, reading_response, waiting_response, idle_response}
+use Rattle.thm_any_calls.specs.Table.{Found, found_by, used_by, payload_by, respond, enters, writes, limit_by, is_passed, is_idle, status_if, read_response, reading_response, waiting_response, idle_response}
 use Rattle.thm_any_calls.specs.Table.{last_or, last_message, last_gives, back_of, handling_response, drain_response, waiting_tests, hands_over, drops, offering_response}
 use Rattle.thm_any_calls.specs.Table.{table_of, is_bad_moment, step_response, response_of}
-use Rattle.thm_any_calls.specs.Calls.{is_open, Call, step, report, Played, played, setup_of}
+use Rattle.thm_any_calls.specs.Calls.{is_open, Call, step, report, played, setup_of}
 use Rattle.thm_any_calls.specs.Traced.{trace_one, trace_all, trace_of}
 use Rattle.thm_any_calls.proofs.Preserved.{played_preserved}
 use Rattle.load.specs.declared.Message.{Message}
 use Rattle.load.specs.Load.{payload_of, bytes_of, all_bytes, messages_of, stream_of}
 use Rattle.load.proofs.Draws.{how_many}
 use Rattle.thm_load_handed.specs.LoadHanded.{event_of, events_of, list_of, Undisturbed, holds_back}
-use Rattle.thm_load_handed.specs.Reached.{AllUnread, enough, Reached, LoadIsReached}
+use Rattle.thm_load_handed.specs.Reached.{AllUnread, enough, LoadIsReached}
 use Rattle.thm_load_handed.proofs.Drawn.{Fits, AllFit, all_fit}
 use Rattle.thm_load_handed.proofs.Stream.{event_given, items_of, stream_cut, handled}
 

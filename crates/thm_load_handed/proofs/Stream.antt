@@ -2,14 +2,13 @@
 use mathlib.Core.Path.{◌≡◌, refl, sym, ap, ◌∙◌}
 use mathlib.Core.Bool.{Bool, true, false}
 use mathlib.Core.List.{List, [], ◌∷◌, ◌++◌, append-nil}
-use mathlib.Core.Option.{Option, some, none}
+use mathlib.Core.Option.{none}
 use Prim.Native.Nat.{ℕ, ◌+◌, ◌≤◌, ◌<◌, ◌^◌}
 use native.Mathlib.Omega.{arith}
 use lib.ListN.{length, replicate, length-append, length-replicate}
 use lib.IntN.{pos}
 use lib.Signed.{mag}
-use Rattle.wire.specs.Bytes.{pick, be_bytes}
-use Rattle.wire.specs.Int.{half}
+use Rattle.wire.specs.Bytes.{pick}
 use Rattle.wire.proofs.Laws.{length_be_bytes}
 use Rattle.frames.specs.Cut.{Item, message, header, Cut, cut_of}
 use Rattle.frames.specs.Frame.{Laid, all, one}

@@ -326,7 +326,7 @@ module _ (x x' : Setup) (es : x.settings ≡ x'.settings) (al : Alike (limit x) 
       }
 
   -- call after call
-  calls_stand : {z y : Played} {cs ds : List Call} → AlikeCalls cs ds → Stand z y → Stand (mix_all x.bytes z cs) (mix_all x'.bytes y ds)
+  calls_stand : {cs ds : List Call} → AlikeCalls cs ds → {z y : Played} → Stand z y → Stand (mix_all x.bytes z cs) (mix_all x'.bytes y ds)
   unfolding mix_all
   calls_stand none w = w
   calls_stand (step {i = i} {n = n} {out = out} {out' = out'} lo h) w = calls_stand h (call_stand step_of step_good w i n out out' lo)
