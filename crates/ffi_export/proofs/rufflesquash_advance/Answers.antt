@@ -2,7 +2,6 @@ use Rattle.advance.specs.Advance.{advance_of}
 use Rattle.ffi_export.proofs.Laws.{made}
 use mir.Syntax.{w64}
 use mir.ValLaws.{to_z-of_z}
-use borrow.Author.Rules.{rules}
 use Rattle.ffi_export.proofs.rufflesquash_advance.Goals as goal
 
 pub returns : goal.returns

@@ -1,5 +1,4 @@
 use Rattle.ffi_export.proofs.Laws.{already, not_already, already_by}
-use borrow.Author.Rules.{rules}
 use Rattle.ffi_export.proofs.rufflesquash_already_open.Goals as goal
 
 pub returns-then-refusal-eq0 : goal.returns-then-refusal-eq0

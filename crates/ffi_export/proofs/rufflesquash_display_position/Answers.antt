@@ -1,5 +1,4 @@
 use Rattle.ffi_export.proofs.Laws.{replied}
-use borrow.Author.Rules.{rules}
 use Rattle.ffi_export.proofs.rufflesquash_display_position.Goals as goal
 
 pub returns : goal.returns

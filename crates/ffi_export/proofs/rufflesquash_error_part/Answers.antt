@@ -1,5 +1,4 @@
 use Rattle.ffi_export.proofs.Laws.{error_part_lem}
-use borrow.Author.Rules.{rules}
 use Rattle.ffi_export.proofs.rufflesquash_error_part.Goals as goal
 
 pub returns : goal.returns

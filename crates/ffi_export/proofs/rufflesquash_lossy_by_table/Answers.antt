@@ -1,5 +1,4 @@
 use Rattle.ffi_export.proofs.Laws.{shown}
-use borrow.Author.Rules.{rules}
 use Rattle.ffi_export.proofs.rufflesquash_lossy_by_table.Goals as goal
 
 pub returns : goal.returns

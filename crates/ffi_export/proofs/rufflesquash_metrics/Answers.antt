@@ -1,6 +1,5 @@
 use mathlib.Core.Path.{ap, ◌∙◌}
 use Rattle.ffi_words.specs.Words.{metrics_words}
-use borrow.Author.Rules.{rules}
 use Rattle.ffi_export.proofs.rufflesquash_metrics.Goals as goal
 
 pub returns : goal.returns

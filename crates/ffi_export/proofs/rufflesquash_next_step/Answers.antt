@@ -1,5 +1,4 @@
 use Rattle.ffi_export.proofs.Laws.{next}
-use borrow.Author.Rules.{rules}
 use Rattle.ffi_export.proofs.rufflesquash_next_step.Goals as goal
 
 pub returns : goal.returns

@@ -1,5 +1,4 @@
 use mathlib.Core.Path.{◌∙◌}
-use borrow.Author.Rules.{rules}
 use Rattle.ffi_export.proofs.rufflesquash_parse_position.Goals as goal
 
 pub returns : goal.returns

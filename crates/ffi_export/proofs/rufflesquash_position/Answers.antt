@@ -1,4 +1,3 @@
-use borrow.Author.Rules.{rules}
 use Rattle.ffi_export.proofs.rufflesquash_position.Goals as goal
 
 pub returns : goal.returns

@@ -1,5 +1,4 @@
 use Rattle.ffi_export.proofs.Laws.{reported, not_reported}
-use borrow.Author.Rules.{rules}
 use Rattle.ffi_export.proofs.rufflesquash_report.Goals as goal
 
 pub returns-then-refusal-eq0 : goal.returns-then-refusal-eq0

@@ -1,5 +1,4 @@
 use Rattle.ffi_export.proofs.Laws.{all_reported}
-use borrow.Author.Rules.{rules}
 use Rattle.ffi_export.proofs.rufflesquash_report_each.Goals as goal
 
 pub returns : goal.returns

@@ -2,7 +2,6 @@ use Rattle.worker.specs.Step.{step_of}
 use Rattle.ffi_export.proofs.Laws.{made}
 use mir.Syntax.{w64}
 use mir.ValLaws.{to_z-of_z}
-use borrow.Author.Rules.{rules}
 use Rattle.ffi_export.proofs.rufflesquash_step.Goals as goal
 
 pub returns : goal.returns

@@ -1,6 +1,5 @@
 use mathlib.Core.Path.{ap, ◌∙◌}
 use Rattle.packed_relations.specs.Words.{count_reply}
-use borrow.Author.Rules.{rules}
 use Rattle.ffi_export.proofs.caches.rufflesquash_cache_count.Goals as goal
 
 pub returns : goal.returns

@@ -2,7 +2,6 @@ use mathlib.Core.Path.{ap, ◌∙◌}
 use mir.Syntax.{w64}
 use mir.ValLaws.{to_z-of_z}
 use Rattle.hours.specs.Words.{answer_reply}
-use borrow.Author.Rules.{rules}
 use Rattle.ffi_export.proofs.calendar.rufflesquash_hours.Goals as goal
 
 pub returns : goal.returns

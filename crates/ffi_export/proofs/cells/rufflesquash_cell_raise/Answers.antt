@@ -1,5 +1,4 @@
 use Rattle.ffi_export.proofs.CellLaws.{raised}
-use borrow.Author.Rules.{rules}
 use Rattle.ffi_export.proofs.cells.rufflesquash_cell_raise.Goals as goal
 
 pub returns : goal.returns

@@ -1,5 +1,4 @@
 use Rattle.ffi_export.proofs.CellLaws.{reported}
-use borrow.Author.Rules.{rules}
 use Rattle.ffi_export.proofs.cells.rufflesquash_cell_take_pending.Goals as goal
 
 pub returns : goal.returns

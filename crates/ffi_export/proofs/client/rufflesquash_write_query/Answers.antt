@@ -1,5 +1,4 @@
 use Rattle.ffi_export.proofs.Laws.{replied}
-use borrow.Author.Rules.{rules}
 use Rattle.ffi_export.proofs.client.rufflesquash_write_query.Goals as goal
 
 pub returns : goal.returns

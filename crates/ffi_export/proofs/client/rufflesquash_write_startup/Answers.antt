@@ -1,7 +1,6 @@
 use mir.Syntax.{w32}
 use mir.ValLaws.{to_z-of_z}
 use Rattle.ffi_export.proofs.Laws.{replied}
-use borrow.Author.Rules.{rules}
 use Rattle.ffi_export.proofs.client.rufflesquash_write_startup.Goals as goal
 
 pub returns : goal.returns

@@ -1,7 +1,6 @@
 use mir.Syntax.{w64}
 use mir.ValLaws.{to_z-of_z}
 use Rattle.ffi_export.proofs.Laws.{replied}
-use borrow.Author.Rules.{rules}
 use Rattle.ffi_export.proofs.client.rufflesquash_write_status.Goals as goal
 
 pub returns : goal.returns

@@ -1,5 +1,3 @@
-use mathlib.Core.Path.{◌∙◌, ap}
-use borrow.Author.Rules.{rules}
 use Rattle.ffi_export.proofs.generated.rufflesquash_load_event.Goals as goal
 
 pub returns : goal.returns

@@ -1,6 +1,5 @@
 use mathlib.Core.Path.{ap, ◌∙◌}
 use Rattle.rows.specs.Words.{row_reply}
-use borrow.Author.Rules.{rules}
 use Rattle.ffi_export.proofs.row.rufflesquash_row.Goals as goal
 
 pub returns : goal.returns

@@ -1,6 +1,5 @@
 use mathlib.Core.Path.{ap, ◌∙◌}
 use Rattle.rows.specs.Words.{identifier_reply}
-use borrow.Author.Rules.{rules}
 use Rattle.ffi_export.proofs.row.rufflesquash_row_identifier.Goals as goal
 
 pub returns : goal.returns

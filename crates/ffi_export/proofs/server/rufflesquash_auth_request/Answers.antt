@@ -1,6 +1,5 @@
 use mathlib.Core.Path.{ap, ◌∙◌}
 use Rattle.ffi_answers.specs.Parts.{auth_words}
-use borrow.Author.Rules.{rules}
 use Rattle.ffi_export.proofs.server.rufflesquash_auth_request.Goals as goal
 
 pub returns : goal.returns

@@ -1,6 +1,5 @@
 use mathlib.Core.Path.{ap, ◌∙◌}
 use Rattle.ffi_answers.specs.Parts.{column_reply}
-use borrow.Author.Rules.{rules}
 use Rattle.ffi_export.proofs.server.rufflesquash_column.Goals as goal
 
 pub returns : goal.returns

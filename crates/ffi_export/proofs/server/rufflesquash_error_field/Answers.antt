@@ -1,5 +1,4 @@
 use Rattle.ffi_export.proofs.ServerLaws.{field_of}
-use borrow.Author.Rules.{rules}
 use Rattle.ffi_export.proofs.server.rufflesquash_error_field.Goals as goal
 
 pub returns : goal.returns

@@ -1,5 +1,4 @@
 use Rattle.ffi_export.proofs.ServerLaws.{folded}
-use borrow.Author.Rules.{rules}
 use Rattle.ffi_export.proofs.server.rufflesquash_query_message.Goals as goal
 
 pub returns : goal.returns

@@ -1,5 +1,4 @@
 use Rattle.ffi_export.proofs.ServerLaws.{read}
-use borrow.Author.Rules.{rules}
 use Rattle.ffi_export.proofs.server.rufflesquash_read.Goals as goal
 
 pub returns : goal.returns
