@@ -67,7 +67,7 @@ fn is_name(c: char) -> bool {
     c.is_ascii_alphanumeric() || c == '_'
 }
 
-/// The names before `::` in code, and the modules that it declares.
+/// The names before `::` in code, and the modules that it declares or has from std.
 fn paths_in(text: &str) -> (BTreeSet<String>, BTreeSet<String>) {
     let code: Vec<&str> = text.lines().map(|line| line.split("//").next().unwrap_or("")).collect();
     let modules = code.iter().filter_map(|line| line.trim().trim_start_matches("pub ").strip_prefix("mod ")).map(|m| m.trim_end_matches(';').into());
@@ -80,7 +80,9 @@ fn paths_in(text: &str) -> (BTreeSet<String>, BTreeSet<String>) {
             }
         }
     }
-    (names, modules.collect())
+    let items = uses_in(&format!("\n{text}"));
+    let of_std = items.iter().filter(|item| item.starts_with("std::")).flat_map(|item| item.split(|c| !is_name(c))).map(String::from);
+    (names, modules.chain(of_std).collect())
 }
 
 /// The names that a crate's sources cite, those of crates among them.

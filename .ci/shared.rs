@@ -111,11 +111,41 @@ fn specs(krate: &str) -> PathBuf {
     ["crates", krate, "specs"].iter().collect()
 }
 
-// What the lists name: crate, module and definition.
+// The wording of a statement: from the line that declares its name to the next empty one.
+fn wording(text: &str, name: &str) -> String {
+    let declares = |line: &&str| line.split(" : ").next().is_some_and(|left| left.split(' ').any(|word| word == name)) && !line.starts_with(' ');
+    let from_there = text.lines().skip_while(|line| !declares(line));
+    from_there.take_while(|line| !line.is_empty()).flat_map(|line| [line, "\n"]).collect()
+}
+
+fn mentions(text: &str, name: &str) -> bool {
+    text.split(|c: char| !c.is_alphanumeric() && !"_'".contains(c)).any(|word| word == name)
+}
+
+// Of the names that a list has in backquotes, those that a statement which it cites is about: crate, module and definition.
+fn held_by(statement: &Use, list: &str) -> Vec<(String, String, String)> {
+    let text = read(&specs(&statement.krate).join(format!("{}.antt", statement.module.replace('.', "/"))));
+    let code: String = text.lines().filter(|line| !line.starts_with("use ")).flat_map(|line| [line, "\n"]).collect();
+    let about: String = statement.names.iter().map(|name| wording(&code, name)).collect();
+    let quoted = list.lines().filter(|line| line.trim_start().starts_with("-- ")).flat_map(|line| line.split('`').skip(1).step_by(2));
+    let mut found = Vec::new();
+    for name in quoted.filter(|name| mentions(&about, name)) {
+        let brought = text.lines().filter_map(used).find(|u| u.names.iter().any(|n| n == name));
+        found.extend(brought.map(|u| (u.krate, u.module, name.to_string())));
+        if !wording(&code, name).is_empty() {
+            found.push((statement.krate.clone(), statement.module.clone(), name.to_string()));
+        }
+    }
+    found
+}
+
+// What the lists name: crate, module and definition. A name that only statements need is in backquotes, since no file uses it.
 fn held() -> Held {
     let mut held = BTreeSet::new();
     for path in READING.iter().map(|krate| specs(krate).join("Shared.antt")).filter(|path| path.exists()) {
-        for u in read(&path).lines().filter_map(used) {
+        let list = read(&path);
+        for u in list.lines().filter_map(used) {
+            held.extend(held_by(&u, &list));
             held.extend(u.names.into_iter().map(|name| (u.krate.clone(), u.module.clone(), name)));
         }
     }
