@@ -1,8 +1,5 @@
 -- Each turn leaves the buffers' lengths, and the records are counted down.
 use lib.ListN.{length}
-use Rattle.test_lines.proofs.Laws.{left_less}
-use native.Mathlib.Omega.{arith}
-use borrow.Author.Rules.{rules}
 use mathlib.Core.Path.{◌≡◌}
 use Rattle.test_changes.proofs.run.Given as goal
 

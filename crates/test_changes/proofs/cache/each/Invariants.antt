@@ -1,6 +1,5 @@
 -- Each turn passes a message, and leaves the line's length.
 use lib.ListN.{length}
-use borrow.Author.Rules.{rules}
 use mathlib.Core.Path.{◌≡◌}
 use Prim.Native.Nat.{◌≤◌, ◌-◌}
 use Rattle.test_changes.proofs.cache.each.Given as goal

@@ -1,7 +1,5 @@
 -- Each turn passes a message.
 use lib.ListN.{length}
-use borrow.Author.Rules.{rules}
-use native.Mathlib.Omega.{arith}
 use Prim.Native.Nat.{◌≤◌, ◌-◌}
 use Rattle.test_changes.proofs.cache.is_whole.Given as goal
 

@@ -1,6 +1,5 @@
 -- Each turn prints one column into a line of the same length.
 use lib.ListN.{length}
-use borrow.Author.Rules.{rules}
 use mathlib.Core.Path.{◌≡◌}
 use Prim.Native.Nat.{◌≤◌, ◌-◌}
 use Rattle.test_changes.proofs.row.tuple.Given as goal

@@ -1,6 +1,5 @@
 -- The turns are counted.
 use lib.ListN.{length}
-use borrow.Author.Rules.{rules}
 use Prim.Native.Nat.{◌≤◌, ◌-◌}
 use Rattle.test_changes.proofs.touched_files.are_events.Given as goal
 

@@ -1,6 +1,5 @@
 -- The turns are counted, and the line keeps its length.
 use lib.ListN.{length}
-use borrow.Author.Rules.{rules}
 use mathlib.Core.Path.{◌≡◌}
 use Prim.Native.Nat.{◌≤◌, ◌-◌}
 use Rattle.test_changes.proofs.touched_files.events.Given as goal

@@ -1,9 +1,6 @@
 -- Each turn stores one entry; the slices keep their lengths.
-use lib.ListN.{length, length-set}
+use lib.ListN.{length-set}
 use native.Mathlib.Omega.{arith}
-use borrow.Author.Rules.{rules}
-use mathlib.Core.Path.{◌≡◌}
-use Prim.Native.Nat.{◌≤◌, ◌-◌}
 use Rattle.test_changes.proofs.touched_files.fill.Goals as goal
 
 pub loop-k-preserved : goal.loop-k-preserved

@@ -5,7 +5,7 @@ use borrow.Author.Rules.{rules}
 use Rattle.test_leaves.proofs.generated.list.Given as goal
 
 abbrev pub invariant-loop-i : goal.invariant-loop-i
-invariant-loop-i l = (i ≤ l.messages) × (length l.at ≡ length l.initial.line)
+invariant-loop-i l = (l.i ≤ l.messages) × (length l.line ≡ length l.initial.line)
 
 abbrev pub decreases-loop-i : goal.decreases-loop-i
-decreases-loop-i l = l.messages - i
+decreases-loop-i l = l.messages - l.i
