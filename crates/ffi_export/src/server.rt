@@ -12,7 +12,7 @@ use ffi_answers::part::{auth_words, column_reply, field_words};
 use ffi_answers::read::read_words;
 use ffi_answers::reply::data_row_reply;
 use ffi_words::layout;
-use ffi_words::reader::{reader_of, reader_words};
+use ffi_words::message_reader::{reader_of, reader_words};
 use messages::ErrorFields;
 
 // ---- messages of the server, before and after the stream

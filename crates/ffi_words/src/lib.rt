@@ -4,8 +4,8 @@
 pub mod cell;
 mod event;
 pub mod layout;
+pub mod message_reader;
 pub mod names;
-pub mod reader;
 pub mod run;
 pub mod step;
 pub mod word;

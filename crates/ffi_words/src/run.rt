@@ -5,7 +5,7 @@ ghost use Rattle.ffi_words.specs.Words.{state_of, settings_of, reader_of, reader
 
 use crate::event::{event_of, event_words};
 use crate::layout;
-use crate::reader::{header_words, reader_of};
+use crate::message_reader::{header_words, reader_of};
 use crate::word::{byte_of, flag_of, wide};
 use framing::MessageReader;
 use lsn::Lsn;

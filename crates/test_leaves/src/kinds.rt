@@ -1,5 +1,5 @@
 // The kinds of records. A line begins with its kind, which takes one place, and ends with a line feed.
-use crate::{reader, readers, writers};
+use crate::{message_reader, readers, writers};
 
 fn is_writer(kind: u8) -> bool {
     match kind {
@@ -15,7 +15,7 @@ fn after_fields(kind: u8, input: &[u8], out: &mut [u8], line: &mut [u8]) -> usiz
         return writers::after_fields(kind, input, out, line);
     }
     if kind == b'g' {
-        return reader::after_fields(line, input, out);
+        return message_reader::after_fields(line, input, out);
     }
     readers::after_fields(kind, input, line)
 }

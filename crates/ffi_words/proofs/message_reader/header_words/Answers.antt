@@ -2,7 +2,7 @@ use mathlib.Core.Path.{◌≡◌}
 use lib.ListN.{length}
 use Rattle.ffi_words.proofs.RoundTrip.{five_bytes}
 use borrow.Author.Rules.{rules}
-use Rattle.ffi_words.proofs.reader.header_words.Goals as goal
+use Rattle.ffi_words.proofs.message_reader.header_words.Goals as goal
 
 pub returns : goal.returns
 returns c =

@@ -1,6 +1,6 @@
 use Rattle.test_lines.proofs.Laws.{left_less}
 use native.Mathlib.Omega.{arith}
-use Rattle.test_leaves.proofs.reader.feed_all.Goals as goal
+use Rattle.test_leaves.proofs.message_reader.feed_all.Goals as goal
 
 pub loop-turns-smaller : goal.loop-turns-smaller
 loop-turns-smaller c =

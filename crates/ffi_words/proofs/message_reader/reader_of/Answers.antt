@@ -1,4 +1,4 @@
-use Rattle.ffi_words.proofs.reader.reader_of.Goals as goal
+use Rattle.ffi_words.proofs.message_reader.reader_of.Goals as goal
 
 pub returns : goal.returns
 returns c =

@@ -1,6 +1,6 @@
 use mathlib.Core.List.{[], ◌∷◌}
 use Rattle.test_lines.proofs.Laws.{pieces_one, pieces_next}
-use Rattle.test_leaves.proofs.reader.whole.Goals as goal
+use Rattle.test_leaves.proofs.message_reader.whole.Goals as goal
 
 pub returns : goal.returns
 returns c =
