@@ -1,5 +1,4 @@
 -- The writer's answer, and its length.
-use Rattle.std.proofs.Common.{rules}
 use Rattle.ffi_bench.proofs.Written.{written}
 use Rattle.ffi_bench.proofs.bench_lossy_by_table.Goals as goal
 

@@ -1,5 +1,5 @@
 -- A read from the beginning.
-use Rattle.std.proofs.Common.{false, ap, ◌∙◌, rules}
+use Rattle.std.proofs.Common.{false, ap, ◌∙◌}
 use Rattle.framing.specs.Read.{Result, read_of}
 use Rattle.framing.specs.declared.MessageReader.{MessageReader}
 use Rattle.ffi_bench.proofs.bench_read.Goals as goal

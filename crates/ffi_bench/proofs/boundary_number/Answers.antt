@@ -1,5 +1,4 @@
 -- Each case by what its calls answer.
-use Rattle.std.proofs.Common.{rules}
 use Rattle.ffi_bench.proofs.boundary_number.Goals as goal
 
 pub returns-in-Begin : goal.returns-in-Begin

@@ -2,7 +2,6 @@
 use mir.Syntax.{w32}
 use mir.ValLaws.{to_z-of_z}
 use native.Mathlib.Omega.{arith}
-use borrow.Author.Rules.{rules}
 use Rattle.test_leaves.proofs.calendar.minutes.Goals as goal
 
 pub overflow_cast-result : goal.overflow_cast-result

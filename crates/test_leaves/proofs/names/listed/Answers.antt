@@ -1,8 +1,5 @@
-use lib.ListN.{length, length-set}
+use lib.ListN.{length-set}
 use native.Mathlib.Omega.{arith}
-use mathlib.Core.Path.{◌≡◌}
-use Prim.Native.Nat.{◌≤◌, ◌-◌}
-use borrow.Author.Rules.{rules}
 use Rattle.test_leaves.proofs.names.listed.Goals as goal
 
 pub loop-n-preserved : goal.loop-n-preserved

@@ -1,8 +1,6 @@
-use lib.ListN.{length, length-set}
-use native.Mathlib.Omega.{arith}
+use lib.ListN.{length}
 use mathlib.Core.Path.{◌≡◌}
 use Prim.Native.Nat.{◌≤◌, ◌-◌}
-use borrow.Author.Rules.{rules}
 use Rattle.test_leaves.proofs.names.listed.Given as goal
 
 abbrev pub invariant-loop-n : goal.invariant-loop-n

@@ -1,8 +1,5 @@
-use lib.ListN.{length}
 use Rattle.test_lines.proofs.Laws.{left_less}
 use native.Mathlib.Omega.{arith}
-use borrow.Author.Rules.{rules}
-use mathlib.Core.Path.{◌≡◌}
 use Rattle.test_leaves.proofs.reader.feed_all.Goals as goal
 
 pub loop-turns-smaller : goal.loop-turns-smaller

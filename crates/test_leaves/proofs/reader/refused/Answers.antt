@@ -1,6 +1,5 @@
 use mathlib.Core.List.{[], ◌∷◌}
 use Rattle.test_lines.proofs.Laws.{pieces_one, pieces_next}
-use borrow.Author.Rules.{rules}
 use Rattle.test_leaves.proofs.reader.refused.Goals as goal
 
 pub returns : goal.returns

@@ -1,7 +1,6 @@
 use lib.ListN.{length}
 use mathlib.Core.Path.{◌≡◌}
 use Prim.Native.Nat.{◌≤◌, ◌-◌}
-use borrow.Author.Rules.{rules}
 use Rattle.test_leaves.proofs.readers.fields.Given as goal
 
 abbrev pub invariant-loop-i : goal.invariant-loop-i

@@ -1,8 +1,5 @@
 use lib.ListN.{length}
-use Rattle.test_lines.proofs.Laws.{left_less}
-use native.Mathlib.Omega.{arith}
 use mathlib.Core.Path.{◌≡◌}
-use borrow.Author.Rules.{rules}
 use Rattle.test_leaves.proofs.session.play.Given as goal
 
 abbrev pub invariant-loop-turns : goal.invariant-loop-turns

@@ -1,6 +1,5 @@
 use Rattle.test_lines.specs.Line.{number_texts, sum_of}
 use Rattle.test_lines.proofs.Laws.{pieces_next}
-use borrow.Author.Rules.{rules}
 use Rattle.test_leaves.proofs.writers.spelled.Goals as goal
 
 pub returns : goal.returns
