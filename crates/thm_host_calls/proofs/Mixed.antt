@@ -15,12 +15,12 @@ use Rattle.worker.specs.Events as E
 use Rattle.worker.specs.Session.{report_of}
 use Rattle.worker.specs.Step.{Lent, Outcome, step_of}
 use Rattle.advance.specs.Advance.{lent_after, after, advance_of}
-use Rattle.advance.specs.Steps.{Quiet, Several, one, more, UpTo}
+use Rattle.advance.specs.Steps.{Quiet, Several, one, more}
 use Rattle.advance.proofs.Steps.{advance_is_steps}
 use Rattle.thm_any_calls.specs.Happened.{Happened, happened_of}
 use Rattle.thm_any_calls.specs.Calls.{Played, stepped, lent_to, play_one, play_all}
 use Rattle.thm_any_calls.specs.Calls as C
-use Rattle.thm_host_calls.specs.Mixed.{Call, step, advance, report, mix_all, steps_of, Unrolls, none, steps, reports, advances, joined, Same, AsSteps, MixedIsSteps}
+use Rattle.thm_host_calls.specs.Mixed.{Call, step, advance, report, mix_all, steps_of, Unrolls, none, steps, reports, advances, joined, Same, MixedIsSteps}
 
 -- ---- lists
 

@@ -3,21 +3,21 @@
 use mathlib.Core.Path.{◌≡◌, refl, sym, ap, ◌∙◌, subst}
 use mathlib.Core.Bool.{Bool, true, false}
 use mathlib.Core.List.{List, [], ◌∷◌}
-use mathlib.Core.Logic.{◌⊎◌, inl, inr}
-use Prim.Native.Nat.{ℕ, ◌+◌, ◌-◌, ◌≤◌, ◌<◌, min}
+use mathlib.Core.Logic.{inl, inr}
+use Prim.Native.Nat.{ℕ, ◌-◌, ◌≤◌, ◌<◌, min}
 use native.Mathlib.Omega.{arith}
 use borrow.Author.Tests.{lt-ltb, le-ltb, lt-leb}
 use lib.ListN.{length, take}
-use lib.Dec.{ltb, leb, eqb}
+use lib.Dec.{ltb, eqb}
 use Rattle.wire.specs.Bytes.{pick}
-use Rattle.wire.proofs.Laws.{by_test, impossible}
+use Rattle.wire.proofs.Laws.{impossible}
 use Rattle.frames.specs.Message.{length_field, front_of}
 use Rattle.frames.specs.Cut.{Ending, header, payload, over, Cut, cut_of}
 use Rattle.frames.proofs.Front.{Shows, cut_header, cut_payload, shows}
 use Rattle.frames.proofs.Laws.{front_at, cut_ending}
 use Rattle.framing.specs.declared.MessageReader.{MessageReader}
-use Rattle.framing.specs.Read.{fresh, limit_of}
-use Rattle.framing.specs.Feed.{Holds, follows_by}
+use Rattle.framing.specs.Read.{fresh}
+use Rattle.framing.specs.Feed.{follows_by}
 use Rattle.worker.specs.declared.Queue.{Queue}
 use Rattle.worker.specs.declared.Queue.TheVariants.{Free, Full, Closed}
 use Rattle.worker.specs.declared.Run.{Run}
@@ -33,7 +33,7 @@ use Rattle.thm_any_calls.specs.Calls.{Played}
 use Rattle.thm_any_calls.proofs.Facts.{Facts, facts_by, facts_of, Agrees}
 use Rattle.thm_any_calls.proofs.Invariant.{Base, Invariant, limit}
 use Rattle.thm_any_calls.proofs.Preserved.{Preserved}
-use Rattle.thm_host_calls.specs.Told.{due, on_clock, status_due, idle_due, waiting_next, next_in}
+use Rattle.thm_host_calls.specs.Told.{due, on_clock, next_in}
 use Rattle.thm_host_calls.proofs.Reader.{Fine}
 
 -- a flag has one value

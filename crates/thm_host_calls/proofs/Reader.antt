@@ -2,24 +2,20 @@
 -- takes both.
 use mathlib.Core.Path.{◌≡◌, refl, ap, ◌∙◌}
 use mathlib.Core.Bool.{Bool, true, false}
-use mathlib.Core.List.{List, [], ◌∷◌}
+use mathlib.Core.List.{List}
 use mathlib.Core.Logic.{◌⊎◌, inl, inr}
-use Prim.Native.Nat.{ℕ, ◌+◌, ◌-◌, ◌≤◌, ◌<◌, min}
-use native.Mathlib.Omega.{arith}
-use borrow.Author.Tests.{lt-ltb, le-ltb, lt-leb}
+use Prim.Native.Nat.{ℕ, ◌+◌, ◌-◌, min}
 use lib.ListN.{length, take, drop}
 use lib.IntN.{ℤ}
 use lib.Dec.{ltb, leb, eqb}
 use Rattle.wire.specs.Bytes.{pick, at, put}
 use Rattle.wire.specs.Int.{is_negative}
-use Rattle.wire.proofs.Laws.{impossible}
 use Rattle.frames.specs.Message.{length_field}
 use Rattle.frames.specs.Tag.{is_error, is_copy_both_response, is_copy_data}
 use Rattle.framing.specs.declared.MessageReader.{MessageReader}
 use Rattle.framing.specs.Read.{Said, Result, limit_of, payload_of, judged_of, header_of, read_of}
 use Rattle.framing.specs.Read as R
 use Rattle.framing.proofs.Laws.{pick_both}
-use Rattle.lsn.specs.declared.Lsn.{Lsn}
 use Rattle.moment.specs.Moment.{since_of}
 use Rattle.pgoutput.specs.Boundary.{boundary_of}
 use Rattle.pgoutput.specs.Boundary as B
@@ -38,7 +34,7 @@ use Rattle.worker.specs.declared.Event.TheVariants.{Nothing}
 use Rattle.metrics.specs.Metrics.{with_event, with_end}
 use Rattle.worker.specs.Run.{lsn, cell_in, with_reader, with_metrics, accepted}
 use Rattle.worker.specs.Streaming.{is_copy_done}
-use Rattle.worker.specs.Step.{Lent, Outcome, bad_moment, boundary_by, copy_data_by, drain_of, first_offer_by, handling_of, having, idle_of, interval_passed, is_ended, is_readable, is_stopped_at, next_event, offering_of, opening_by, opening_of, read_by, reading_by, reading_of, stall_ended, stalls, stalled_by, stalled_of, status_due, step_in, step_of, feedback_of, turn_of, waiting_by, waiting_of, waiting_read}
+use Rattle.worker.specs.Step.{Lent, Outcome, bad_moment, boundary_by, copy_data_by, drain_of, first_offer_by, handling_of, idle_of, interval_passed, is_ended, is_readable, is_stopped_at, next_event, offering_of, opening_by, opening_of, read_by, reading_by, reading_of, stall_ended, stalls, stalled_by, stalled_of, status_due, step_in, step_of, feedback_of, turn_of, waiting_by, waiting_of}
 
 -- ---- a read
 

@@ -2,17 +2,15 @@
 -- is what the trace says. Told takes both.
 use mathlib.Core.Path.{◌≡◌, refl, sym, ap, ◌∙◌, subst}
 use mathlib.Core.Bool.{Bool, true, false}
-use mathlib.Core.List.{List, [], ◌∷◌, ◌++◌, append_assoc, append-nil}
-use mathlib.Core.Option.{Option}
+use mathlib.Core.List.{List, [], ◌∷◌, ◌++◌, append-nil}
 use Prim.Native.Nat.{ℕ, zero, suc, ◌+◌, ◌-◌, ◌≤◌, ◌<◌}
 use native.Mathlib.Omega.{arith}
 use borrow.Author.Tests.{eqb-true}
-use lib.ListN.{length, take, drop}
+use lib.ListN.{length}
 use lib.IntN.{ℤ}
 use lib.Dec.{eqb}
 use Rattle.wire.specs.Bytes.{pick}
-use Rattle.wire.proofs.Laws.{by_test, impossible}
-use Rattle.frontend.specs.Frontend.{status_update, copy_done_message}
+use Rattle.wire.proofs.Laws.{impossible}
 use Rattle.lsn.specs.declared.Lsn.{Lsn}
 use Rattle.worker.specs.declared.Input.{Input}
 use Rattle.worker.specs.declared.Run.{Run}
@@ -23,14 +21,14 @@ use Rattle.advance.specs.Advance as A
 use Rattle.advance.specs.Steps.{Quiet, Several, one, more}
 use Rattle.thm_any_calls.specs.Tests.{both, onto}
 use Rattle.thm_any_calls.specs.Happened.{Happened, happened_of}
-use Rattle.thm_any_calls.specs.Trace.{Setup, Trace, a_step, Response, Writing, nothing, done, status, state_after, taken_by, handed_by, confirmed_of}
+use Rattle.thm_any_calls.specs.Trace.{Setup, Trace, Response, Writing, nothing, done, status, taken_by, handed_by, confirmed_of}
 use Rattle.thm_any_calls.specs.Calls.{Call, step, Played, stepped, lent_to, play_one}
 use Rattle.thm_any_calls.specs.Table.{response_of}
-use Rattle.thm_any_calls.specs.Traced.{Answers, written_by, waited_by, trace_one, trace_all}
+use Rattle.thm_any_calls.specs.Traced.{Answers, written_by, trace_one, trace_all}
 use Rattle.thm_any_calls.proofs.Confirms.{length_update, length_done}
 use Rattle.thm_any_calls.proofs.Preserved.{Preserved, step_next, step_preserved}
 use Rattle.thm_host_calls.specs.Mixed.{steps_of}
-use Rattle.thm_host_calls.specs.Told.{is_silent, is_empty, is_quiet, up_to, refused_by, waited_after, bytes_by, sent_by, buffer_after}
+use Rattle.thm_host_calls.specs.Told.{is_silent, is_empty, is_quiet, up_to, refused_by, waited_after, bytes_by, sent_by}
 use Rattle.thm_host_calls.proofs.Mixed.{next_lent}
 
 -- ---- nothing to tell, by the run and by the table

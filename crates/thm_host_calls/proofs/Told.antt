@@ -2,20 +2,19 @@
 -- trace by condition 3, and a list of calls call by call.
 use mathlib.Core.Path.{◌≡◌, refl, sym, ap, ◌∙◌, subst}
 use mathlib.Core.Bool.{Bool, true, false}
-use mathlib.Core.List.{List, [], ◌∷◌, ◌++◌, append-nil}
-use mathlib.Core.Logic.{◌⊎◌, inl, inr}
+use mathlib.Core.List.{List, [], ◌∷◌, ◌++◌}
+use mathlib.Core.Logic.{inr}
 use mathlib.Core.Option.{Option, some, none}
-use Prim.Native.Nat.{ℕ, ◌+◌, ◌-◌, ◌≤◌, ◌<◌, min}
+use Prim.Native.Nat.{ℕ, ◌+◌, ◌-◌, ◌<◌}
 use native.Mathlib.Omega.{arith}
-use borrow.Author.Tests.{ltb-true, ltb-false, lt-ltb, eqb-true, ne_eqb}
+use borrow.Author.Tests.{ltb-true, ltb-false, lt-ltb, ne_eqb}
 use lib.ListN.{length, take, drop, get_or}
 use lib.Seq.{take-append_seam}
 use lib.Dec.{ltb, eqb}
-use Rattle.wire.specs.Bytes.{pick, put}
+use Rattle.wire.specs.Bytes.{pick}
 use Rattle.wire.proofs.Laws.{by_test, impossible}
 use Rattle.error.specs.Writer.{writing}
-use Rattle.framing.specs.declared.MessageReader.{MessageReader}
-use Rattle.framing.specs.Read.{fresh, limit_of}
+use Rattle.framing.specs.Read.{fresh}
 use Rattle.lsn.specs.declared.Lsn.{Lsn}
 use Rattle.moment.specs.declared.Moment.{Moment}
 use Rattle.page.specs.declared.Page.{Page}
@@ -26,51 +25,45 @@ use Rattle.progress.proofs.FileLaws.{refused_at, accepted_at}
 use Rattle.worker.specs.declared.Input.{Input}
 use Rattle.worker.specs.declared.Run.{Run}
 use Rattle.worker.specs.declared.Settings.{Settings}
-use Rattle.worker.specs.declared.State.{State}
-use Rattle.worker.specs.declared.State.TheVariants.{Opening, Turn, Drain, Reading, Waiting, Handling, Offering, Ended}
 use Rattle.worker.specs.Answer.{lent, error_part_of}
 use Rattle.worker.specs.Session.{Opened as OpenedRun, open_of, already_open_of, report_of}
 use Rattle.worker.specs.Run.{cell_in, fresh_run, state_number, with_progress}
-use Rattle.worker.specs.Step.{Lent, Outcome, is_ended, refused_with, step_of}
+use Rattle.worker.specs.Step.{Lent, Outcome, step_of}
 use Rattle.schedule.specs.NextStep.{next_step_of}
 use Rattle.advance.specs.Advance.{advance_of}
 use Rattle.advance.specs.Steps.{UpTo}
 use Rattle.advance.proofs.Steps.{advance_is_steps}
-use Rattle.ffi_words.specs.Calls.{Standing, standing, written, answered, step_left, unless_refused, open_left, run_left, reported_each}
+use Rattle.ffi_words.specs.Calls.{Standing, standing, written, answered, step_left, unless_refused, reported_each}
 use Rattle.ffi_words.specs.Step.{queue_of, input_of, clipped, waited_words}
-use Rattle.ffi_words.specs.Words.{settings_of, run_of, words_of, event_words, seven_of, metrics_words, last_status_words}
+use Rattle.ffi_words.specs.Words.{run_of, words_of, event_words, seven_of, metrics_words, last_status_words}
 use Rattle.ffi_answers.specs.Next.{next_words}
 use Rattle.ffi_answers.specs.Parts as P
 use Rattle.run_page.specs.RunPage.{shown_by}
-use Rattle.thm_one_call.proofs.Effects.{ended_refused}
 use Rattle.thm_any_calls.specs.Tests.{onto, lsn}
 use Rattle.thm_any_calls.specs.Tests as T
 use Rattle.thm_any_calls.specs.Plain.{is_refused_early, plain_of}
 use Rattle.thm_any_calls.specs.HandsOn.{NoQueueCloses}
-use Rattle.thm_any_calls.specs.Happened.{Happened, happened_of}
+use Rattle.thm_any_calls.specs.Happened.{happened_of}
 use Rattle.thm_any_calls.specs.Trace.{Setup, bounds_of, Trace, state_after, taken_by, handed_by, observations_of, confirmed_of}
-use Rattle.thm_any_calls.specs.Calls.{Beginning, opens, is_open, Call, step, report, Played, stepped, lent_to, play_one, play_all, begun, played, run_begun, setup_of}
+use Rattle.thm_any_calls.specs.Calls.{Beginning, Call, step, report, Played, stepped, lent_to, play_one, play_all, begun, played, run_begun, setup_of}
 use Rattle.thm_any_calls.specs.Table.{limit_by, last_message, response_of}
-use Rattle.thm_any_calls.specs.Traced.{Answers, trace_one, trace_all, trace_of}
-use Rattle.thm_any_calls.specs.Counters.{counters_of}
+use Rattle.thm_any_calls.specs.Traced.{trace_one, trace_all, trace_of}
 use Rattle.thm_any_calls.specs.Views.{has_failed}
 use Rattle.thm_any_calls.proofs.Tests.{put_front}
 use Rattle.thm_any_calls.proofs.Beginnings.{run_begun_lem, beginnings_answer}
-use Rattle.thm_any_calls.proofs.Facts.{Facts, facts_by, facts_of, agree_now}
-use Rattle.thm_any_calls.proofs.Invariant.{Invariant, limit}
+use Rattle.thm_any_calls.proofs.Invariant.{limit}
 use Rattle.thm_any_calls.proofs.Preserved.{Preserved, refused_leaves, step_next, step_preserved, calls_preserved, played_preserved}
 use Rattle.thm_any_calls.proofs.Counters.{counters_traced}
 use Rattle.thm_any_calls.proofs.Views.{views_traced}
 use Rattle.thm_any_calls.proofs.Failed.{error_traced}
 use Rattle.thm_any_calls.proofs.HandsOn.{hands_on}
-use Rattle.thm_any_calls.proofs.Condition3.{reports_answer}
 use Rattle.thm_page_shown.specs.PageShown.{page_after}
 use Rattle.thm_page_shown.proofs.Shown.{page_traced}
 use Rattle.thm_host_calls.specs.Mixed.{mix_all, steps_of, Same}
-use Rattle.thm_host_calls.specs.HostWords.{word, flag, Words, settings_by, queue_by, input_by, wait_words, error_words}
+use Rattle.thm_host_calls.specs.HostWords.{word, flag, Words, settings_by, queue_by, input_by, wait_words}
 use Rattle.thm_host_calls.specs.Exported.{HostCall, advance, state, metrics, position, last_sent, error_part_lem, next_step, page, Held, Reply, Stepped, Reported, ReportedEach, Called, CalledAll, none, next, mixed_in, mixed_of, Opened, by_open, already, held_first}
 use Rattle.thm_host_calls.specs.Exported as X
-use Rattle.thm_host_calls.specs.Told.{steps_in, after, after_all, steps_all, up_to, refused_by, buffer_after, next_in, StepTold, page_left, ReportTold, ReportEachTold, ErrorTold, Says, Told, OpeningsTold, ExportedTold}
+use Rattle.thm_host_calls.specs.Told.{steps_in, after, after_all, steps_all, up_to, refused_by, buffer_after, next_in, StepTold, page_left, ReportTold, ErrorTold, Says, Told, OpeningsTold, ExportedTold}
 use Rattle.thm_host_calls.proofs.Mixed.{play_append, together}
 use Rattle.thm_host_calls.proofs.Reader.{Fine, step_fine}
 use Rattle.thm_host_calls.proofs.NextStep.{next_told}

@@ -1,6 +1,6 @@
 -- Words as a host's author reads them, by their numbers: the settings, the input of a step, and what is told of an event, a waiting time, an error
 -- and the next step. None of the maps that the code uses stands here. SCOPE 9.1, 9.2.
-use Rattle.std.specs.Prelude.{ℕ, ◌+◌, ◌-◌, ◌≤◌, min, Bool, true, false, List, [], ◌∷◌, ◌++◌, ◌≡◌, ℤ, pos, negsuc, length, get_or, eqb}
+use Rattle.std.specs.Prelude.{ℕ, ◌+◌, ◌-◌, ◌≤◌, min, Bool, true, false, List, [], ◌∷◌, ◌≡◌, ℤ, pos, negsuc, length, get_or, eqb}
 use Rattle.std.proofs.Math.Option.{Option, some, none}
 use Rattle.wire.specs.Bytes.{pick}
 use Rattle.moment.specs.declared.Moment.{Moment}

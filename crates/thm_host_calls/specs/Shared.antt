@@ -1,5 +1,4 @@
 -- What the theorem about exported calls shares with the machine beside the list of thm_any_calls/specs/Shared.antt: the text of a page. SCOPE 5.12.
-use Rattle.page.specs.Page.{page_of}
 use Rattle.page.specs.PageLines.{PageHasLines}
 use Rattle.page.specs.Reader.{PageReadsBack}
 

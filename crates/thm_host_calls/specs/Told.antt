@@ -1,6 +1,6 @@
 -- Condition 3 of exported calls: after any list of them, what the words say is what the trace of the steps and reports that they stand for says. The
 -- trace is the step table's, found from the calls and the server's bytes; no run and no map of the code stands in it. SCOPE 8.8, 9.2.
-use Rattle.std.specs.Prelude.{◌≡◌, Bool, true, false, List, [], ◌∷◌, ◌++◌, ℕ, zero, suc, ◌+◌, ◌-◌, ◌<◌, min, ℤ, length, take, drop, eqb, ltb}
+use Rattle.std.specs.Prelude.{◌≡◌, Bool, true, false, List, [], ◌∷◌, ◌++◌, ℕ, zero, suc, ◌+◌, ◌-◌, ◌<◌, min, ℤ, length, take, eqb, ltb}
 use Rattle.std.proofs.Math.Option.{Option, some, none}
 use Rattle.std.specs.Borrow.{Bor}
 use Rattle.wire.specs.Bytes.{pick}

@@ -12,7 +12,7 @@ use Rattle.wire.specs.Bytes.{pick, at}
 use Rattle.worker.specs.Tests.{both}
 use Rattle.frames.specs.Tag.{is_copy_data}
 use Rattle.frames.specs.Message.{Front, in_header, in_payload, bad_length, too_large, whole, length_field, front_of}
-use Rattle.frames.specs.Cut.{Item, message, Cut, cut_of}
+use Rattle.frames.specs.Cut.{Item, Cut, cut_of}
 use Rattle.frames.proofs.Front.{Shows, complete, shows}
 use Rattle.frames.proofs.Laws.{cut_in_header, cut_in_payload, cut_too_large, cut_bad_length, cut_whole}
 use Rattle.replication.specs.CopyData.{copy_data_of}

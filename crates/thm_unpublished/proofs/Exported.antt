@@ -2,14 +2,14 @@
 -- same, too.
 use mathlib.Core.Path.{◌≡◌, refl, sym, ap, ◌∙◌, subst}
 use mathlib.Core.Bool.{Bool, true, false}
-use mathlib.Core.List.{List, [], ◌∷◌, ◌++◌}
+use mathlib.Core.List.{List, [], ◌∷◌}
 use mathlib.Core.Option.{Option, some, none}
 use Prim.Native.Nat.{ℕ, min, ◌≤◌}
 use native.Mathlib.Omega.{arith}
 use lib.ListN.{length, get_or, take, drop}
 use lib.Seq.{take-append_seam, take-take}
 use lib.Dec.{eqb, ltb}
-use Rattle.wire.specs.Bytes.{pick, put}
+use Rattle.wire.specs.Bytes.{pick}
 use Rattle.wire.proofs.Laws.{by_test}
 use Rattle.error.specs.Writer.{writing}
 use Rattle.page.specs.Page.{page_of}
@@ -21,26 +21,25 @@ use Rattle.worker.specs.Events as E
 use Rattle.worker.specs.Session.{Opened as OpenedRun, open_of, already_open_of, report_of}
 use Rattle.worker.specs.Step.{Lent, Outcome, step_of}
 use Rattle.advance.specs.Advance.{advance_of}
-use Rattle.ffi_words.specs.Calls.{Standing, standing, written, answered, step_left, unless_refused, report_call, report_each_call, state_call, metrics_call, position_call, last_sent_call}
+use Rattle.ffi_words.specs.Calls.{Standing, standing, written, answered, unless_refused, report_call, report_each_call, state_call, metrics_call, position_call, last_sent_call}
 use Rattle.ffi_words.specs.Words.{words_of, run_of}
 use Rattle.ffi_words.specs.Step.{clipped, answer_words}
 use Rattle.ffi_answers.specs.Next.{next_step_call}
 use Rattle.ffi_answers.specs.Parts as P
 use Rattle.run_page.specs.RunPage.{shown_by}
-use Rattle.thm_any_calls.specs.Tests.{longest, lsn, onto}
+use Rattle.thm_any_calls.specs.Tests.{longest, lsn}
 use Rattle.thm_any_calls.specs.Calls.{Beginning, Played, lent_to, begun, run_begun}
 use Rattle.thm_any_calls.proofs.Tests.{put_front}
-use Rattle.thm_host_calls.specs.Mixed.{Call, mix_all}
+use Rattle.thm_host_calls.specs.Mixed.{mix_all}
 use Rattle.thm_host_calls.specs.HostWords.{word, Words, settings_by, input_by}
 use Rattle.thm_host_calls.specs.Exported.{HostCall, Held, Reply, Stepped, Reported, Called, CalledAll, mixed_of, Opened, by_open, already, held_first}
 use Rattle.thm_host_calls.specs.Exported as X
 use Rattle.thm_host_calls.proofs.Told.{Stands, all, opened_run, mixed_stand}
-use Rattle.thm_unpublished.specs.Alike.{Alike}
 use Rattle.thm_unpublished.specs.Same.{Same}
 use Rattle.thm_unpublished.specs.Unpublished.{AlikeCalls, Indistinct}
 use Rattle.thm_unpublished.specs.Unpublished as U
 use Rattle.thm_unpublished.specs.Exported.{AlikeCall, step, advance, report, report_each, state, metrics, position, last_sent, error_part_lem, next_step, page, AlikeHostCalls, none, next}
-use Rattle.thm_unpublished.specs.Exported.{Writes, output_of, RepliesAlike, HeldAlike, ExportedAlike, ExportedIndistinct}
+use Rattle.thm_unpublished.specs.Exported.{Writes, output_of, RepliesAlike, ExportedAlike, ExportedIndistinct}
 use Rattle.thm_unpublished.proofs.Contained.{hidden_is_alike}
 use Rattle.thm_unpublished.proofs.Calls.{alike_indistinct, writes_over}
 

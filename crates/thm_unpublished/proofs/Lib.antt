@@ -10,3 +10,4 @@ pub mod Error
 pub mod Pair
 pub mod Calls
 pub mod Exported
+pub mod Cases

@@ -11,7 +11,7 @@ use borrow.Author.Tests.{ltb-true, ltb-false, leb-true, leb-false}
 use Rattle.wire.specs.Bytes.{at, be}
 use Rattle.wire.proofs.Laws.{by_test, impossible, part_of_front}
 use Rattle.frames.specs.Message.{Front, in_header, in_payload, bad_length, too_large, whole, length_field, front_of}
-use Rattle.frames.specs.Cut.{Item, message, refused, Cut, behind, header, payload, cut_of}
+use Rattle.frames.specs.Cut.{Item, message, refused, Cut, behind, cut_of}
 use Rattle.frames.proofs.Front.{Shows, complete, shows, whole_front}
 use Rattle.frames.proofs.Laws.{cut_in_header, cut_in_payload, cut_too_large, cut_bad_length, cut_whole}
 use Rattle.thm_any_calls.specs.Plain.{Msg, whole_ones}

@@ -21,7 +21,7 @@ use Rattle.frames.specs.Tag.{is_error, is_copy_both_response, is_copy_data}
 use Rattle.frames.proofs.Frame.{length_framed}
 use Rattle.wire.specs.Int.{is_negative}
 use Rattle.frontend.specs.Frontend.{copy_data, copy_done_message, status_body, status_update}
-use Rattle.metrics.specs.Metrics.{more, with_event, with_reply, with_end}
+use Rattle.metrics.specs.Metrics.{with_event, with_reply, with_end}
 use Rattle.moment.specs.Moment.{since_of}
 use Rattle.pgoutput.specs.Boundary.{boundary_of}
 use Rattle.pgoutput.specs.Boundary as B

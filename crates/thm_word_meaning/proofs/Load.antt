@@ -1,6 +1,6 @@
 -- The calls about a bench load answer what specs/Load.antt says.
 use mathlib.Core.Path.{◌≡◌, refl, sym, ap, ◌∙◌}
-use mathlib.Core.Bool.{Bool, true, false}
+use mathlib.Core.Bool.{false}
 use mathlib.Core.List.{List, ◌∷◌, ◌++◌}
 use Prim.Native.Nat.{ℕ, zero, suc, ◌+◌, ◌%◌}
 use native.Mathlib.Omega.{arith}
@@ -18,7 +18,7 @@ use Rattle.load.proofs.Laws.{length_letters, length_xlog, xlog_head_lem, length_
 use Rattle.load.specs.Words.{event_words}
 use Rattle.load.specs.Xorshift.{drawn, next_of}
 use Rattle.thm_load_handed.specs.LoadHanded.{event_of}
-use Rattle.thm_host_calls.specs.HostWords.{flag, StandsAt, TellsOne}
+use Rattle.thm_host_calls.specs.HostWords.{StandsAt, TellsOne}
 use Rattle.thm_any_calls.specs.Tests.{part}
 use Rattle.thm_word_meaning.specs.Load.{LoadWords, LoadEventWords, LoadEventsTold, CallsTell, LoadTells}
 use Rattle.thm_word_meaning.proofs.Texts.{writes}

@@ -1,10 +1,9 @@
 -- Each word about rows and of a relation cache means what specs/Rows.antt says.
-use mathlib.Core.Path.{◌≡◌, refl, ap, ◌∙◌}
-use mathlib.Core.Bool.{Bool, true, false}
+use mathlib.Core.Path.{refl, ap, ◌∙◌}
 use mathlib.Core.List.{List, [], ◌∷◌}
 use Prim.Native.Nat.{ℕ, ◌+◌}
 use lib.ListN.{length}
-use Rattle.rows.specs.Layout.{Read, refused, mapped}
+use Rattle.rows.specs.Layout.{Read, mapped}
 use Rattle.rows.specs.Rows.{Cell, Described, row_said}
 use Rattle.rows.specs.Head.{Answer, cell_at, described_at, answer_of}
 use Rattle.packed_relations.specs.Packed.{emptied, message_of}
