@@ -126,7 +126,14 @@ fn mentions(text: &str, name: &str) -> bool {
 fn held_by(statement: &Use, list: &str) -> Vec<(String, String, String)> {
     let text = read(&specs(&statement.krate).join(format!("{}.antt", statement.module.replace('.', "/"))));
     let code: String = text.lines().filter(|line| !line.starts_with("use ")).flat_map(|line| [line, "\n"]).collect();
-    let about: String = statement.names.iter().map(|name| wording(&code, name)).collect();
+    // A statement's wording, with that of what it cites in its file.
+    let (mut about, mut todo, mut seen) = (String::new(), statement.names.clone(), BTreeSet::new());
+    while let Some(name) = todo.pop() {
+        let words = wording(&code, &name);
+        let cites = words.split(|c: char| !c.is_alphanumeric() && !"_'".contains(c)).filter(|word| word.starts_with(char::is_uppercase));
+        todo.extend(cites.map(String::from).filter(|word| seen.insert(word.clone())));
+        about.push_str(&words);
+    }
     let quoted = list.lines().filter(|line| line.trim_start().starts_with("-- ")).flat_map(|line| line.split('`').skip(1).step_by(2));
     let mut found = Vec::new();
     for name in quoted.filter(|name| mentions(&about, name)) {
