@@ -1,4 +1,5 @@
 -- Display by the spelling of its halves; the refusals by where the slash stands and what its two sides are.
+use mathlib.Core.Bool.{true, false}
 use mathlib.Core.Path.{◌≡◌, refl, sym, ap, ◌∙◌}
 use mathlib.Core.List.{List, [], ◌∷◌, ◌++◌}
 use mathlib.Core.Logic.{◌⊎◌, inl, inr}
@@ -14,9 +15,11 @@ use Rattle.wire.proofs.FindLaws.{nothing_later, found_later}
 use Rattle.text.specs.Numeral.{hex_text}
 use Rattle.text.proofs.Spelling.{spelling_laws}
 use Rattle.lsn.specs.Hex.{hex_part}
-use Rattle.lsn.specs.Position.{joined, position_by_parts, by_slash, position_of, display_of}
+use Rattle.moment.specs.declared.Moment.{Moment}
+use Rattle.lsn.specs.declared.Lsn.{Lsn}
+use Rattle.lsn.specs.Position.{joined, position_by_parts, by_slash, position_of, display_of, is_below, is_below_at}
 use Rattle.lsn.specs.Spelled.{Number, NoSlash, Spells}
-use Rattle.lsn.specs.PositionLaws.{Displayed, DisplayLaws, RefusalLaws, OrderLaws}
+use Rattle.lsn.specs.PositionLaws.{Displayed, DisplayLaws, RefusalLaws}
 use Rattle.lsn.proofs.Spelled.{parted, part_number, number_part, spelled_laws}
 use Rattle.lsn.proofs.ReadBack.{display_spells}
 
@@ -139,6 +142,12 @@ refusal_laws =
       answered = λ p. refl;
       refused = λ r. refl;
     }
+
+-- positions are ordered as numbers, at every moment alike
+pub record OrderLaws : Type 0 where
+  pub below : (a b : Lsn) → a.0 < b.0 → is_below a b ≡ true
+  pub not_below : (a b : Lsn) → b.0 ≤ a.0 → is_below a b ≡ false
+  pub at_a_moment : (m : Moment) (a b : Lsn) → is_below_at m a b ≡ is_below a b
 
 pub order_laws : OrderLaws
 order_laws = record { below = λ a b h. lt-ltb _ _ h; not_below = λ a b h. le-ltb _ _ h; at_a_moment = λ m a b. refl }

@@ -1,14 +1,13 @@
 -- Positions over all values: how Display spells one, which texts each refusal belongs to, what an answer says, and the order. SCOPE 2.1 to 2.3; 01,
 -- "Texts and positions"; the spelling by PostgreSQL's documentation, "pg_lsn Type".
-use Rattle.std.specs.Prelude.{◌≡◌, true, false, List, ◌∷◌, ◌++◌, ◌⊎◌, ℕ, ◌+◌, ◌*◌, ◌^◌, ◌≤◌, ◌<◌, length}
+use Rattle.std.specs.Prelude.{◌≡◌, List, ◌∷◌, ◌++◌, ◌⊎◌, ℕ, ◌+◌, ◌*◌, ◌^◌, ◌≤◌, ◌<◌, length}
 use Prim.Native.Char.{code}
 use Rattle.error.specs.declared.Refusal.{Refusal}
 use Rattle.error.specs.Refusal.{number_of}
-use Rattle.moment.specs.declared.Moment.{Moment}
 use Rattle.text.specs.Spelling.{SpelledTo}
 use Rattle.lsn.specs.declared.Lsn.{Lsn}
 use Rattle.lsn.specs.declared.Parsed.TheVariants.{Position, Refused}
-use Rattle.lsn.specs.Position.{position_of, parse_outcome, display_of, is_below, is_below_at}
+use Rattle.lsn.specs.Position.{position_of, parse_outcome, display_of}
 use Rattle.lsn.specs.Spelled.{Number, NoSlash}
 
 -- s is the text of a position: its high half, a slash and its low half, each in upper case without leading zeros, and one digit for zero
@@ -42,9 +41,3 @@ pub record RefusalLaws : Type 0 where
   -- what the answers of parse say
   pub answered : (p : Lsn) → parse_outcome (Position p) ≡ (0, p.0)
   pub refused : (r : Refusal) → parse_outcome (Refused r) ≡ (number_of r, 0)
-
--- positions are ordered as numbers, at every moment alike
-pub record OrderLaws : Type 0 where
-  pub below : (a b : Lsn) → a.0 < b.0 → is_below a b ≡ true
-  pub not_below : (a b : Lsn) → b.0 ≤ a.0 → is_below a b ≡ false
-  pub at_a_moment : (m : Moment) (a b : Lsn) → is_below_at m a b ≡ is_below a b
