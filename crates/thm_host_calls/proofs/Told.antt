@@ -61,7 +61,7 @@ use Rattle.thm_page_shown.specs.PageShown.{page_after}
 use Rattle.thm_page_shown.proofs.Shown.{page_traced}
 use Rattle.thm_host_calls.specs.Mixed.{mix_all, steps_of, Same}
 use Rattle.thm_host_calls.specs.HostWords.{word, flag, Words, settings_by, queue_by, input_by, wait_words}
-use Rattle.thm_host_calls.specs.Exported.{HostCall, advance, state, metrics, position, last_sent, error_part_lem, next_step, page, Held, Reply, Stepped, Reported, ReportedEach, Called, CalledAll, none, next, mixed_in, mixed_of, Opened, by_open, already, held_first}
+use Rattle.thm_host_calls.specs.Exported.{HostCall, advance, state, metrics, position, last_sent, error_part, next_step, page, Held, Reply, Stepped, Reported, ReportedEach, Called, CalledAll, none, next, mixed_in, mixed_of, Opened, by_open, already, held_first}
 use Rattle.thm_host_calls.specs.Exported as X
 use Rattle.thm_host_calls.specs.Told.{steps_in, after, after_all, steps_all, up_to, refused_by, buffer_after, next_in, StepTold, page_left, ReportTold, ErrorTold, Says, Told, OpeningsTold, ExportedTold}
 use Rattle.thm_host_calls.proofs.Mixed.{play_append, together}
@@ -248,7 +248,7 @@ mixed_stand bytes (state ∷ cs) v (next y c d) = mixed_stand bytes cs (same_hel
 mixed_stand bytes (metrics ∷ cs) v (next y c d) = mixed_stand bytes cs (same_held c.0 v) d
 mixed_stand bytes (position ∷ cs) v (next y c d) = mixed_stand bytes cs (same_held c.0 v) d
 mixed_stand bytes (last_sent ∷ cs) v (next y c d) = mixed_stand bytes cs (same_held c.0 v) d
-mixed_stand bytes (error_part_lem n ∷ cs) v (next y c d) = mixed_stand bytes cs (same_held c.0 v) d
+mixed_stand bytes (error_part n ∷ cs) v (next y c d) = mixed_stand bytes cs (same_held c.0 v) d
 mixed_stand bytes (next_step n queue ∷ cs) v (next y c d) = mixed_stand bytes cs (same_held c.0 v) d
 mixed_stand bytes (page out ∷ cs) v (next y c d) = mixed_stand bytes cs (same_held c.0 v) d
 
@@ -290,7 +290,7 @@ module _ (s : Setup) (h : Trace) (z : Played) (w : Preserved s h z) {b : Held} (
   call_stands metrics g y c = same_held c.0 v
   call_stands position g y c = same_held c.0 v
   call_stands last_sent g y c = same_held c.0 v
-  call_stands (error_part_lem n) g y c = same_held c.0 v
+  call_stands (error_part n) g y c = same_held c.0 v
   call_stands (next_step n queue) g y c = same_held c.0 v
   call_stands (page out) g y c = same_held c.0 v
 
@@ -479,7 +479,7 @@ module _ (s : Settings) (b : Beginning) (bytes p : List ℕ) (ds : List Call) {g
   says last_sent k y c =
       let u = views_traced s b bytes p ds in
       c.1 ∙ (ap (λ (q : Run). last_status_words q.status) v.run ∙ status_words u.sent u.sent_position_lem u.sent_at_lem)
-  says (error_part_lem n) k y c = error_told n y (c.1 ∙ ap (λ (q : Run). P.error_words (error_part_of q) n) v.run)
+  says (error_part n) k y c = error_told n y (c.1 ∙ ap (λ (q : Run). P.error_words (error_part_of q) n) v.run)
   says (next_step n queue) k y c =
       λ room. c.1 ∙ (ap (λ (q : Run). next_words (next_step_of q n (queue_of queue))) v.run
       ∙ (ap (λ (m : ℕ). next_words (next_step_of r m (queue_of queue))) room

@@ -25,7 +25,7 @@ pub data HostCall : Type 0 where
   report : ℕ → ℕ → ℕ → HostCall
   report_each : List ℕ → ℕ → HostCall
   state metrics position last_sent : HostCall
-  error_part_lem : ℕ → HostCall
+  error_part : ℕ → HostCall
   next_step : ℕ → ℕ → HostCall
   page : List ℕ → HostCall
 
@@ -73,7 +73,7 @@ Called bytes h state g y = (g ≡ h) × (y.result ≡ state_call h.words)
 Called bytes h metrics g y = (g ≡ h) × (y.answer ≡ metrics_call h.words)
 Called bytes h position g y = (g ≡ h) × (y.result ≡ position_call h.words)
 Called bytes h last_sent g y = (g ≡ h) × (y.answer ≡ last_sent_call h.words)
-Called bytes h (error_part_lem n) g y = (g ≡ h) × (y.answer ≡ error_part_call h.words n)
+Called bytes h (error_part n) g y = (g ≡ h) × (y.answer ≡ error_part_call h.words n)
 Called bytes h (next_step n queue) g y = (g ≡ h) × (y.answer ≡ next_step_call h.words n queue)
 Called bytes h (page out) g y = (g ≡ h) × (((y.result, word y.answer 0), y.out) ≡ page_call h.words out)
 
@@ -96,7 +96,7 @@ mixed_in state = []
 mixed_in metrics = []
 mixed_in position = []
 mixed_in last_sent = []
-mixed_in (error_part_lem n) = []
+mixed_in (error_part n) = []
 mixed_in (next_step n queue) = []
 mixed_in (page out) = []
 

@@ -27,7 +27,7 @@ use Rattle.thm_any_calls.specs.Views.{has_failed}
 use Rattle.thm_any_calls.specs.HandsOn.{NoQueueCloses}
 use Rattle.thm_page_shown.specs.PageShown.{page_after}
 use Rattle.thm_host_calls.specs.HostWords.{word, flag, moment, settings_by, queue_by, input_by, wait_words, TellsEvent, error_words}
-use Rattle.thm_host_calls.specs.Exported.{HostCall, step, advance, report, report_each, state, metrics, position, last_sent, error_part_lem, next_step, page, Held, Reply, Called, CalledAll, Opened, held_first}
+use Rattle.thm_host_calls.specs.Exported.{HostCall, step, advance, report, report_each, state, metrics, position, last_sent, error_part, next_step, page, Held, Reply, Called, CalledAll, Opened, held_first}
 
 -- ---- the steps and reports that a call stands for
 
@@ -65,7 +65,7 @@ steps_in s h state = []
 steps_in s h metrics = []
 steps_in s h position = []
 steps_in s h last_sent = []
-steps_in s h (error_part_lem n) = []
+steps_in s h (error_part n) = []
 steps_in s h (next_step n queue) = []
 steps_in s h (page out) = []
 
@@ -203,7 +203,7 @@ Says s h metrics b a y =
     ∷ (sent_position s.start h).0 ∷ (last_end s h).0 ∷ []
 Says s h position b a y = y.result ≡ (confirmed_of s.start h).0
 Says s h last_sent b a y = y.answer ≡ flag (has_sent h) ∷ (sent_position s.start h).0 ∷ (sent_at h).0 ∷ []
-Says s h (error_part_lem n) b a y = ErrorTold s h b.payload n y
+Says s h (error_part n) b a y = ErrorTold s h b.payload n y
 Says s h (next_step n queue) b a y = n ≡ s.room → y.answer ≡ next_in (state_after s.opening h) s h (queue_by queue)
 Says s h (page out) b a y = ((y.result, word y.answer 0), y.out) ≡ page_left (page_of (page_after s h)) out
 

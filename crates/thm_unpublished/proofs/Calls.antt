@@ -343,7 +343,7 @@ module _ (x x' : Setup) (es : x.settings ≡ x'.settings) (al : Alike (limit x) 
               page = ap shown_by e;
               metrics = ap (λ (r : Run). r.metrics) e;
               next_step = λ n queue. ap (λ (r : Run). next_step_of r n queue) e;
-              error_part_lem = ap error_part_of e;
+              error_part = ap error_part_of e;
               words = ap words_of e;
             };
         step = λ i n out out' lo. call_same step_of step_good w i n out out' lo;

@@ -38,7 +38,7 @@ use Rattle.thm_host_calls.proofs.Told.{Stands, all, opened_run, mixed_stand}
 use Rattle.thm_unpublished.specs.Same.{Same}
 use Rattle.thm_unpublished.specs.Unpublished.{AlikeCalls, Indistinct}
 use Rattle.thm_unpublished.specs.Unpublished as U
-use Rattle.thm_unpublished.specs.Exported.{AlikeCall, step, advance, report, report_each, state, metrics, position, last_sent, error_part_lem, next_step, page, AlikeHostCalls, none, next}
+use Rattle.thm_unpublished.specs.Exported.{AlikeCall, step, advance, report, report_each, state, metrics, position, last_sent, error_part, next_step, page, AlikeHostCalls, none, next}
 use Rattle.thm_unpublished.specs.Exported.{Writes, output_of, RepliesAlike, ExportedAlike, ExportedIndistinct}
 use Rattle.thm_unpublished.proofs.Contained.{hidden_is_alike}
 use Rattle.thm_unpublished.proofs.Calls.{alike_indistinct, writes_over}
@@ -56,7 +56,7 @@ calls_alike (next state h) = calls_alike h
 calls_alike (next metrics h) = calls_alike h
 calls_alike (next position h) = calls_alike h
 calls_alike (next last_sent h) = calls_alike h
-calls_alike (next error_part_lem h) = calls_alike h
+calls_alike (next error_part h) = calls_alike h
 calls_alike (next next_step h) = calls_alike h
 calls_alike (next (page l) h) = calls_alike h
 
@@ -99,7 +99,7 @@ calls_own bytes (X.state ∷ cs) (X.next y c d) w = calls_own bytes cs d (look_o
 calls_own bytes (X.metrics ∷ cs) (X.next y c d) w = calls_own bytes cs d (look_own c.0 w)
 calls_own bytes (X.position ∷ cs) (X.next y c d) w = calls_own bytes cs d (look_own c.0 w)
 calls_own bytes (X.last_sent ∷ cs) (X.next y c d) w = calls_own bytes cs d (look_own c.0 w)
-calls_own bytes (X.error_part_lem n ∷ cs) (X.next y c d) w = calls_own bytes cs d (look_own c.0 w)
+calls_own bytes (X.error_part n ∷ cs) (X.next y c d) w = calls_own bytes cs d (look_own c.0 w)
 calls_own bytes (X.next_step n queue ∷ cs) (X.next y c d) w = calls_own bytes cs d (look_own c.0 w)
 calls_own bytes (X.page out ∷ cs) (X.next y c d) w = calls_own bytes cs d (look_own c.0 w)
 
@@ -208,7 +208,7 @@ module _ (a b : List ℕ) {g g' : Held} {z z' : Played} (v : Stands g z) (v' : S
   replies metrics k k' y y' c c' = c.1 ∙ (ap metrics_call ew ∙ sym c'.1)
   replies position k k' y y' c c' = c.1 ∙ (ap position_call ew ∙ sym c'.1)
   replies last_sent k k' y y' c c' = c.1 ∙ (ap last_sent_call ew ∙ sym c'.1)
-  replies (error_part_lem {n = n}) k k' y y' c c' = c.1 ∙ (ap (λ (x : List ℕ). P.error_part_call x n) ew ∙ sym c'.1)
+  replies (error_part {n = n}) k k' y y' c c' = c.1 ∙ (ap (λ (x : List ℕ). P.error_part_call x n) ew ∙ sym c'.1)
   replies (next_step {n = n} {queue = queue}) k k' y y' c c' = c.1 ∙ (ap (λ (x : List ℕ). next_step_call x n queue) ew ∙ sym c'.1)
   replies (page {out = out} {out' = out'} l) k k' y y' c c' =
       page_alike (page_of (shown_by (run_of g.words))) out out' y y' l c.1
@@ -245,7 +245,7 @@ exported_alike settings words words' c d oc od h a b p q al lp cs ds k g g' ca c
       error = λ n j j' y y' u u'.
           let same : y.answer ≡ P.error_words (error_part_of (mix_all a (begun (run_begun s c) p) (mixed_of cs)).run) n =
           u.1 ∙ ap (λ (r : Run). P.error_words (error_part_of r) n) x.run in
-          let same' : y'.answer ≡ y.answer = sym (replies a b x x' i ew error_part_lem j j' y y' u u') in
+          let same' : y'.answer ≡ y.answer = sym (replies a b x x' i ew error_part j j' y y' u u') in
           ap (λ (l : List ℕ). take (word l 1) g.payload) same
           ∙ (error_front a b x x' i ew _ n refl ∙ ap (λ (l : List ℕ). take (word l 1) g'.payload) (sym (same' ∙ same)));
     }

@@ -22,7 +22,7 @@ pub data AlikeCall : HostCall → HostCall → Type 0 where
   metrics : AlikeCall X.metrics X.metrics
   position : AlikeCall X.position X.position
   last_sent : AlikeCall X.last_sent X.last_sent
-  error_part_lem : {n : ℕ} → AlikeCall (X.error_part_lem n) (X.error_part_lem n)
+  error_part : {n : ℕ} → AlikeCall (X.error_part n) (X.error_part n)
   next_step : {n queue : ℕ} → AlikeCall (X.next_step n queue) (X.next_step n queue)
   page : {out out' : List ℕ} → length out ≡ length out' → AlikeCall (X.page out) (X.page out')
 
@@ -50,7 +50,7 @@ output_of X.state = []
 output_of X.metrics = []
 output_of X.position = []
 output_of X.last_sent = []
-output_of (X.error_part_lem n) = []
+output_of (X.error_part n) = []
 output_of (X.next_step n queue) = []
 output_of (X.page out) = out
 
@@ -64,7 +64,7 @@ RepliesAlike X.state out' y y' = y.result ≡ y'.result
 RepliesAlike X.metrics out' y y' = y.answer ≡ y'.answer
 RepliesAlike X.position out' y y' = y.result ≡ y'.result
 RepliesAlike X.last_sent out' y y' = y.answer ≡ y'.answer
-RepliesAlike (X.error_part_lem n) out' y y' = y.answer ≡ y'.answer
+RepliesAlike (X.error_part n) out' y y' = y.answer ≡ y'.answer
 RepliesAlike (X.next_step n queue) out' y y' = y.answer ≡ y'.answer
 RepliesAlike (X.page out) out' y y' = (y.result ≡ y'.result) × Writes out out' 0 y y'
 
@@ -76,7 +76,7 @@ pub record HeldAlike (a b : List ℕ) (g g' : Held) : Type 0 where
   pub buffer : length g.payload ≡ length g'.payload
   pub next : {c d : HostCall} → AlikeCall c d → (k k' : Held) (y y' : Reply) → Called a g c k y → Called b g' d k' y'
       → RepliesAlike c (output_of d) y y'
-  pub error : (n : ℕ) (k k' : Held) (y y' : Reply) → Called a g (X.error_part_lem n) k y → Called b g' (X.error_part_lem n) k' y'
+  pub error : (n : ℕ) (k k' : Held) (y y' : Reply) → Called a g (X.error_part n) k y → Called b g' (X.error_part n) k' y'
       → take (word y.answer 1) g.payload ≡ take (word y'.answer 1) g'.payload
 
 -- ---- any list of exported calls

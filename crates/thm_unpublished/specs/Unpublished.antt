@@ -56,7 +56,7 @@ pub record Looks (r q : Run) : Type 0 where
   pub page : shown_by r ≡ shown_by q
   pub metrics : r.metrics ≡ q.metrics
   pub next_step : (n : ℕ) (queue : Queue) → next_step_of r n queue ≡ next_step_of q n queue
-  pub error_part_lem : error_part_of r ≡ error_part_of q
+  pub error_part : error_part_of r ≡ error_part_of q
   pub words : words_of r ≡ words_of q
 
 -- after calls on two runs over the server's bytes a and b: what was left, what can be asked, the next step, advance or report, and the bytes of an

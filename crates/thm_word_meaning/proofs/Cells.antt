@@ -20,7 +20,7 @@ cell_calls =
     record {
       new = λ start timed. rw (flag_is timed);
       load = λ w. refl;
-      pending_since_lem = λ w. refl;
+      pending_since = λ w. refl;
       raise =
           λ w position at.
           let r : Raised = raise_of (cell_in w) (lsn position) (moment at) in

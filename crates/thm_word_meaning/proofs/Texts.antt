@@ -58,7 +58,7 @@ text_words =
       lossy = λ text out. marked (length text) (lossy_of text) (marks_of text) out;
       lossy_by_table = λ text out. marked (length text) (lossy_of text) (marks_of text) out;
       either_way = λ text out. refl;
-      error_text_lem = λ payload out. marked (length payload) (error_text (fields_of payload) payload) (error_marks (fields_of payload) payload) out;
+      error_text = λ payload out. marked (length payload) (error_text (fields_of payload) payload) (error_marks (fields_of payload) payload) out;
       well_formed_prefix = stretch_is_longest;
     }
 

@@ -39,7 +39,7 @@ pub record CellCalls : Type 0 where
   pub new : (start : ℕ) (timed : Bool) → cell_new_call start timed ≡ (start ∷ 0 ∷ 0 ∷ flag timed ∷ [], cell_by start false 0 timed)
   -- a look at the position, and at the pending moment, 0 for none
   pub load : (w : List ℕ) → cell_load_call w ≡ word w 0
-  pub pending_since_lem : (w : List ℕ) → cell_pending_since_call w ≡ word w 2
+  pub pending_since : (w : List ℕ) → cell_pending_since_call w ≡ word w 2
   -- a raise returns 1 where the signal is new, else 0
   pub raise : (w : List ℕ) (position at : ℕ) →
       let r : Raised = raise_of (cell_in w) (lsn position) (moment at) in

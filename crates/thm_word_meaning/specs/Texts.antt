@@ -49,7 +49,7 @@ pub record TextWords : Type 0 where
   pub lossy_by_table : (text out : List ℕ) → WritesMarked (length text) (lossy_of text) (marks_of text) out (lossy_by_table_call text out)
   -- both calls answer and leave the same
   pub either_way : (text out : List ℕ) → lossy_call text out ≡ lossy_by_table_call text out
-  pub error_text_lem : (payload out : List ℕ)
+  pub error_text : (payload out : List ℕ)
       → WritesMarked (length payload) (error_text (fields_of payload) payload) (error_marks (fields_of payload) payload) out (error_text_call payload out)
   pub well_formed_prefix : (text : List ℕ) → Longest text (well_formed_prefix_call text)
 
