@@ -5,6 +5,9 @@ use std::collections::{BTreeMap, BTreeSet};
 use std::fs;
 use std::path::{Path, PathBuf};
 
+/// A page of history, which sets old texts and files beside today's.
+const PORT: &str = "docs/PORT.md";
+
 /// Of each crate its files of Rattle and of proofs, with their contents.
 type Crates = BTreeMap<String, Vec<(PathBuf, String)>>;
 
@@ -338,6 +341,7 @@ fn missing_links(page: &Path, line: &str) -> Vec<String> {
 fn wrong_links(wrong: &mut Vec<String>) {
     let mut pages = vec![(PathBuf::from("README.md"), read("README.md")), (PathBuf::from("NOTICE"), read("NOTICE"))];
     ["docs", "vectors", "compare", "host"].iter().for_each(|folder| files(Path::new(folder), &["md"], &mut pages));
+    pages.retain(|(page, _)| page != Path::new(PORT));
     for (page, text) in &pages {
         for (i, line) in text.lines().enumerate() {
             wrong.extend(missing_links(page, line).into_iter().map(|what| format!("{}:{}: {what}", page.display(), i + 1)));
@@ -349,6 +353,7 @@ fn wrong_links(wrong: &mut Vec<String>) {
 fn wrong_twice(wrong: &mut Vec<String>) {
     let mut pages = vec![(PathBuf::from("README.md"), read("README.md"))];
     ["docs", "vectors", "compare", "attacks"].iter().for_each(|folder| files(Path::new(folder), &["md"], &mut pages));
+    pages.retain(|(page, _)| page != Path::new(PORT));
     for (page, text) in &pages {
         let mut seen = BTreeSet::new();
         let is_heading = |i: usize| text.lines().nth(i + 1).is_some_and(|next| next.starts_with("|---"));
