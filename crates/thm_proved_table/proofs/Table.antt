@@ -1,14 +1,13 @@
 -- Each case by computing the definitions, or by the law of its leaf.
-use mathlib.Core.Path.{◌≡◌, refl, sym, ap, ◌∙◌}
-use mathlib.Core.Bool.{Bool, true, false}
-use mathlib.Core.List.{List, [], ◌∷◌, ◌++◌}
+use mathlib.Core.Path.{◌≡◌, refl}
+use mathlib.Core.List.{List, ◌∷◌}
 use mathlib.Core.Option.{some}
 use Prim.Native.Nat.{ℕ, ◌+◌, ◌-◌, ◌≤◌, ◌<◌, ◌^◌}
 use native.Mathlib.Omega.{arith}
 use lib.ListN.{length, length-append}
 use lib.Seq.{take_at}
 use borrow.Author.Tests.{lt-ltb, le-ltb, lt-leb}
-use Rattle.wire.specs.Bytes.{at, be, be_from, be_bytes, put}
+use Rattle.wire.specs.Bytes.{be, be_from, be_bytes, put}
 use Rattle.wire.specs.Field.{field_at, signed}
 use Rattle.wire.specs.Find.{index_of}
 use Rattle.wire.proofs.Laws.{length_be_bytes}

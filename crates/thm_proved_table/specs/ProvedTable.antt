@@ -1,6 +1,6 @@
 -- The cases marked P (SCOPE 11.1; 01, "Proved table (P) and run cases"), proved of the definitions for every filling of which they speak: any
 -- tag, any bytes after a letter, any limit.
-use Rattle.std.specs.Prelude.{◌≡◌, Bool, true, false, List, [], ◌∷◌, ◌++◌, ℕ, ◌+◌, ◌<◌, ◌^◌, length, replicate}
+use Rattle.std.specs.Prelude.{◌≡◌, true, false, List, [], ◌∷◌, ◌++◌, ℕ, ◌+◌, ◌<◌, ◌^◌, length, replicate}
 use Rattle.std.proofs.Math.Option.{Option, some, none}
 use Rattle.wire.specs.Bytes.{be_bytes}
 use Rattle.frames.specs.Message.{framed, front_of, in_payload, bad_length, too_large, whole}
