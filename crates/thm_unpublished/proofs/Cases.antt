@@ -3,9 +3,9 @@ use Rattle.std.proofs.Common.{refl, [], ◌∷◌}
 use Rattle.wire.specs.Find.{index_of}
 use Rattle.pgoutput.specs.Boundary.{message_bytes}
 use Rattle.thm_any_calls.specs.RunCases.{computed}
-use Rattle.thm_unpublished.specs.Hidden.{hidden_in, hidden_at}
+use Rattle.thm_unpublished.specs.Hidden.{hidden_in, hidden_at, DifferHidden}
 use Rattle.thm_unpublished.specs.Same.{all_left_out}
-use Rattle.thm_unpublished.specs.Cases.{agrees, passes, saying, HiddenCases, ContentRelated, PublicCases}
+use Rattle.thm_unpublished.specs.Cases.{agrees, passes, saying, HiddenCases, PublicCases}
 
 -- each by computing the definitions
 pub hidden_cases : HiddenCases
@@ -29,7 +29,7 @@ hidden_cases =
     }
 
 -- so the theorem is about them
-pub content_related : ContentRelated
+pub content_related : DifferHidden 64 (saying (0x41 ∷ 0x42 ∷ [])) (saying (0x5A ∷ 0 ∷ []))
 content_related = passes 64 (saying (0x41 ∷ 0x42 ∷ [])) (saying (0x5A ∷ 0 ∷ [])) hidden_cases.content_differs
 
 -- each by computing the definitions

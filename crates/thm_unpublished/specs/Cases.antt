@@ -126,7 +126,3 @@ pub record PublicCases : Type 0 where
   pub prefix_differs : test (lends unended) (lends uncounted) ≡ false
   pub no_end : boundary_of unended ≡ B.refused 17
   pub no_length : boundary_of uncounted ≡ B.refused 15
-
--- so the theorem is about them
-abbrev pub ContentRelated : Type 0
-ContentRelated = DifferHidden 64 (saying (0x41 ∷ 0x42 ∷ [])) (saying (0x5A ∷ 0 ∷ []))
