@@ -1,5 +1,5 @@
 -- Steps made together: up to four with the same input, until one of them has something to tell. SCOPE 5.10.
-use Rattle.std.specs.Prelude.{ℕ, ◌+◌, Bool, true, false, not, drop, ◌==◌}
+use Rattle.std.specs.Prelude.{ℕ, ◌+◌, min, Bool, true, false, not, List, length, drop, ◌==◌}
 use Rattle.wire.specs.Bytes.{pick}
 use Rattle.worker.specs.declared.Input.{Input}
 use Rattle.worker.specs.declared.Run.{Run}
@@ -31,6 +31,12 @@ after k o = having (k + o.taken) o.payload o
 -- a call made twice, the second time only where the first told nothing
 unfoldable pub twice : (Run → Input → Lent → Outcome) → Run → Input → Lent → Outcome
 twice f r i l = let o : Outcome = f r i l in pick (tells o) o (after o.taken (f o.run i (lent_after l o)))
+
+-- an outcome of a call that was lent these unread bytes, and one step more where it told nothing
+unfoldable pub one_more : Input → List ℕ → Outcome → Outcome
+one_more i u o =
+    let k : ℕ = min o.taken (length u) in
+    pick (tells o) o (after k (step_of o.run i (lent (drop k u) o.payload o.out)))
 
 -- up to four steps, one by one
 abbrev pub advance_of : Run → Input → Lent → Outcome

@@ -3,15 +3,17 @@ ghost use Rattle.std.specs.Prelude.{◌≡◌, ℕ, ◌+◌, ◌-◌, ◌≤◌,
 ghost use Rattle.replication.specs.CopyData.{xlog_of};
 ghost use Rattle.worker.specs.Answer.{lent, outcome_by};
 ghost use Rattle.worker.specs.Events.{given_by};
-ghost use Rattle.worker.specs.Step.{having, handing, reaches};
+ghost use Rattle.worker.specs.Step.{having, handing};
 ghost use Rattle.advance.specs.AtHand.{nothing, within, whole_at, by_given, by_copy_data, copy_data_at_hand, at_hand_of, is_drain, is_free, is_between, has_room_for, applies_of, handed_run};
 
+use error::Refusal;
 use framing::MessageReader;
 use lsn::Lsn;
 use moment::Moment;
-use wire::field::{FIRST_NEGATIVE_32, I64Field, U32Field, U64Field};
+use wire::field::FIRST_NEGATIVE_32;
 use worker::handle::event_at;
-use worker::{DataEvent, Event, Offer, Queue, Run, State, Stepped, Verdict, Waited, Whole};
+use worker::session::reaches;
+use worker::{DataEvent, Event, Offer, Queue, Run, State, Stepped, Whole};
 
 // A length from here on stands for a negative number.
 const FIRST_NEGATIVE: usize = FIRST_NEGATIVE_32 as usize;
@@ -45,7 +47,7 @@ fn whole_at(unread: &[u8]) -> usize
     }
     let tag = unread[0];
     if framing::tag::is_copy_data(tag) {
-        let U32Field::Value(n) = wire::field::read_u32(unread, 1) else {
+        let Some(n) = wire::field::read_u32(unread, 1) else {
             return 0;
         };
         return within(n as usize, unread.len());
@@ -70,17 +72,17 @@ fn within(n: usize, unread: usize) -> usize
 }
 
 // By what the data give, with the payload's length and the server's end.
-fn by_event(len: usize, end: Lsn, event: DataEvent) -> AtHand
-    ensures { (result ≡ by_given len end (given_by event)) × (result.len ≤ len) }
+fn by_event(len: usize, end: Lsn, given: Result<DataEvent, Refusal>) -> AtHand
+    ensures { (result ≡ by_given len end (given_by given)) × (result.len ≤ len) }
 {
-    match event {
-        DataEvent::Offered(event, reached) => AtHand {
+    match given {
+        Ok(data) => AtHand {
             len,
             wal_end: end,
-            reached,
-            event,
+            reached: data.reached,
+            event: data.event,
         },
-        DataEvent::Refused(_) => none(),
+        Err(_) => none(),
     }
 }
 
@@ -88,18 +90,18 @@ fn by_event(len: usize, end: Lsn, event: DataEvent) -> AtHand
 fn xlog_data(payload: &[u8]) -> AtHand
     ensures { (result ≡ by_copy_data payload.now (xlog_of (drop 1 payload.now))) × (result.len ≤ length payload.now) }
 {
-    let U64Field::Value(start) = wire::field::read_u64(payload, 1) else {
+    let Some(start) = wire::field::read_u64(payload, 1) else {
         return none();
     };
-    let U64Field::Value(end) = wire::field::read_u64(payload, 9) else {
+    let Some(end) = wire::field::read_u64(payload, 9) else {
         return none();
     };
-    let I64Field::Value(server_time) = wire::field::read_i64(payload, 17) else {
+    let Some(server_time) = wire::field::read_i64(payload, 17) else {
         return none();
     };
     let n = payload.len();
-    let event = event_at(payload, 25, n - 25, Lsn(start), Lsn(end), server_time);
-    by_event(n, Lsn(end), event)
+    let given = event_at(payload, 25, n - 25, Lsn(start), Lsn(end), server_time);
+    by_event(n, Lsn(end), given)
 }
 
 // Of the payload of a CopyData message.
@@ -128,26 +130,13 @@ pub(crate) fn at_hand(unread: &[u8]) -> AtHand
 fn is_drain(state: State) -> bool
     ensures { result ≡ is_drain state }
 {
-    match state {
-        State::Opening => false,
-        State::Turn => false,
-        State::Drain => true,
-        State::Reading => false,
-        State::Waiting => false,
-        State::Handling => false,
-        State::Offering => false,
-        State::Ended => false,
-    }
+    matches!(state, State::Drain)
 }
 
 fn is_free(queue: Queue) -> bool
     ensures { result ≡ is_free queue }
 {
-    match queue {
-        Queue::Free => true,
-        Queue::Full => false,
-        Queue::Closed => false,
-    }
+    matches!(queue, Queue::Free)
 }
 
 // Whether the run is between two messages of a drain.
@@ -188,15 +177,6 @@ fn has_room(run: Run, moment: Moment, payload_len: usize, out_len: usize, len: u
     false
 }
 
-fn stops(run: Run, reached: Lsn) -> bool
-    ensures { result ≡ reaches run reached }
-{
-    if run.settings.has_stop {
-        return !reached.is_below(run.settings.stop_at_lsn);
-    }
-    false
-}
-
 // Whether four steps hand the message on.
 pub(crate) fn applies(
     run: Run,
@@ -216,7 +196,7 @@ pub(crate) fn applies(
     if is_free(queue) {
         if is_between(run) {
             if has_room(run, moment, payload_len, out_len, len) {
-                return !stops(run, reached);
+                return !reaches(run, reached);
             }
             return false;
         }
@@ -274,10 +254,10 @@ pub(crate) fn hands_on(run: Run, moment: Moment, message: AtHand, taken: usize) 
     let event = message.event;
     Stepped {
         run: handed(run, moment, message),
-        verdict: Verdict::Accepted,
+        verdict: Ok(()),
         taken,
         event,
         written: 0,
-        waited: Waited::Untold,
+        waited: None,
     }
 }

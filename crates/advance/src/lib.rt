@@ -5,26 +5,17 @@ mod at_hand;
 ghost use Rattle.std.specs.Prelude.{◌≡◌, ℕ, List};
 ghost use Rattle.worker.specs.Answer.{lent, outcome_by};
 ghost use Rattle.worker.specs.Step.{step_of};
-ghost use Rattle.advance.specs.Advance.{is_nothing, tells, twice, advance_of};
+ghost use Rattle.advance.specs.Advance.{is_nothing, tells, one_more, advance_of};
 ghost use Rattle.worker.specs.Events.{said_by};
 
 use crate::at_hand::{applies, at_hand, hands_on};
-use wire::store::least;
 use worker::steps::step;
-use worker::{Event, Input, Run, Stepped, Verdict};
+use worker::{Event, Input, Run, Stepped};
 
 fn is_nothing(event: Event) -> bool
     ensures { result ≡ is_nothing (said_by event) }
 {
-    match event {
-        Event::Nothing => true,
-        Event::KeepAlive { .. } => false,
-        Event::Begin { .. } => false,
-        Event::Commit { .. } => false,
-        Event::Message { .. } => false,
-        Event::XLogData { .. } => false,
-        Event::StoppedAt { .. } => false,
-    }
+    matches!(event, Event::Nothing)
 }
 
 // Whether a step's answer has a refusal, bytes for the server, or an event.
@@ -33,47 +24,45 @@ fn tells(stepped: Stepped) -> bool
 {
     let verdict = stepped.verdict;
     match verdict {
-        Verdict::Accepted => {
+        Ok(()) => {
             if stepped.written == 0 {
                 let event = stepped.event;
                 return !is_nothing(event);
             }
             true
         }
-        Verdict::Refused(_) => true,
+        Err(_) => true,
     }
 }
 
-// A second step where the first told nothing.
-fn two_steps(run: Run, input: Input, unread: &[u8], payload: &mut [u8], out: &mut [u8]) -> Stepped
+// A step more where the last told nothing: lent the bytes after those taken so far, and the buffers as they were left.
+fn one_more(
+    last: Stepped,
+    input: Input,
+    unread: &[u8],
+    payload: &mut [u8],
+    out: &mut [u8],
+) -> Stepped
     ensures { outcome_by result payload.new out.new
-        ≡ twice step_of run input (lent unread.now payload.old out.old) }
+        ≡ one_more input unread.now (outcome_by last payload.old out.old) }
 {
-    let first = step(run, input, unread, payload, out);
-    if tells(first) {
-        return first;
+    if tells(last) {
+        return last;
     }
-    let taken = least(first.taken, unread.len());
-    let next = first.run;
-    let mut second = step(next, input, &unread[taken..], payload, out);
-    second.taken = taken + second.taken;
-    second
+    let taken = last.taken.min(unread.len());
+    let mut next = step(last.run, input, &unread[taken..], payload, out);
+    next.taken = taken + next.taken;
+    next
 }
 
-// Two more where two told nothing.
 fn four_steps(run: Run, input: Input, unread: &[u8], payload: &mut [u8], out: &mut [u8]) -> Stepped
     ensures { outcome_by result payload.new out.new
         ≡ advance_of run input (lent unread.now payload.old out.old) }
 {
-    let first = two_steps(run, input, unread, payload, out);
-    if tells(first) {
-        return first;
-    }
-    let taken = least(first.taken, unread.len());
-    let next = first.run;
-    let mut second = two_steps(next, input, &unread[taken..], payload, out);
-    second.taken = taken + second.taken;
-    second
+    let first = step(run, input, unread, payload, out);
+    let second = one_more(first, input, unread, payload, out);
+    let third = one_more(second, input, unread, payload, out);
+    one_more(third, input, unread, payload, out)
 }
 
 // A message that lies whole in the unread bytes, and that four steps would only hand on, is handed on at once.

@@ -15,10 +15,7 @@ pub struct Column {
 fn key_bit(key: bool) -> u64
     ensures { (result ≡ key_bit key) × (result ≤ 1) }
 {
-    if key {
-        return 1;
-    }
-    0
+    u64::from(key)
 }
 
 // The word of a column. Of a length and a place that have more bits than their fields the lowest bits count.

@@ -1,13 +1,14 @@
 #![tactic(auto)]
 // What of the Rust's configuration is bytes: the value of an option that lists names.
 ghost use Rattle.std.specs.Prelude.{◌≡◌, ◌+◌, ◌≤◌, length};
+ghost use Rattle.wire.specs.Answer.{maybe};
 ghost use Rattle.wire.specs.Bytes.{placed};
 ghost use Rattle.error.specs.Inputs.{total};
-ghost use Rattle.error.specs.Writer.{writing, outcome, counted, count_of};
+ghost use Rattle.error.specs.Writer.{writing, outcome, counted};
 ghost use Rattle.config.specs.Code.{comma_at};
 ghost use Rattle.config.specs.OptionValue.{quoted, doubled, option_value};
 
-use error::{Counted, INPUT_LIMIT, Refusal, Written};
+use error::{INPUT_LIMIT, Refusal};
 use wire::store::NOWHERE;
 
 // How many bytes a byte of a name takes.
@@ -17,20 +18,18 @@ fn width(c: u8) -> usize
     if c == b'\'' { 2 } else { 1 }
 }
 
-fn count_name(s: &[u8], room: usize) -> Counted
-    ensures { count_of result ≡ counted room (length (doubled s.now)) }
+fn count_name(s: &[u8], room: usize) -> Option<usize>
+    ensures { maybe result ≡ counted room (length (doubled s.now)) }
 {
     let mut need: usize = 0;
-    let mut i: usize = 0;
-    while i < s.len() {
-        let w = width(s[i]);
+    for c in s {
+        let w = width(*c);
         if room - need < w {
-            return Counted::Over;
+            return None;
         }
         need += w;
-        i += 1;
     }
-    Counted::Fits(need)
+    Some(need)
 }
 
 // How many bytes stand before the i-th name.
@@ -41,24 +40,18 @@ fn comma(i: usize) -> usize
 }
 
 // The length of the value, where that is at most room.
-pub fn count(names: &[&[u8]], room: usize) -> Counted
-    ensures { count_of result ≡ counted room (length (option_value names.now)) }
+pub fn count(names: &[&[u8]], room: usize) -> Option<usize>
+    ensures { maybe result ≡ counted room (length (option_value names.now)) }
 {
     let mut need: usize = 0;
-    let mut i: usize = 0;
-    while i < names.len() {
+    for (i, name) in names.iter().enumerate() {
         let w = comma(i);
         if room - need < w {
-            return Counted::Over;
+            return None;
         }
-        let s = names[i];
-        let Counted::Fits(n) = count_name(s, room - need - w) else {
-            return Counted::Over;
-        };
-        need += w + n;
-        i += 1;
+        need += w + count_name(name, room - need - w)?;
     }
-    Counted::Fits(need)
+    Some(need)
 }
 
 // The place after a byte of a name.
@@ -80,10 +73,8 @@ fn fill_name(out: &mut [u8], at: usize, s: &[u8]) -> usize
     ensures { (result, out.new) ≡ placed out.old at (doubled s.now) }
 {
     let mut to = at;
-    let mut i: usize = 0;
-    while i < s.len() {
-        to = put_byte(out, to, s[i]);
-        i += 1;
+    for c in s {
+        to = put_byte(out, to, *c);
     }
     to
 }
@@ -105,12 +96,9 @@ fn fill(out: &mut [u8], at: usize, names: &[&[u8]]) -> usize
     ensures { (result, out.new) ≡ placed out.old at (option_value names.now) }
 {
     let mut to = at;
-    let mut i: usize = 0;
-    while i < names.len() {
+    for (i, name) in names.iter().enumerate() {
         let from = put_comma(out, to, i);
-        let s = names[i];
-        to = fill_name(out, from, s);
-        i += 1;
+        to = fill_name(out, from, name);
     }
     to
 }
@@ -122,20 +110,20 @@ pub fn place(out: &mut [u8], to: usize, names: &[&[u8]]) -> usize
     if out.len() < to {
         return NOWHERE;
     }
-    let Counted::Fits(_) = count(names, out.len() - to) else {
+    let Some(_) = count(names, out.len() - to) else {
         return NOWHERE;
     };
     fill(out, to, names)
 }
 
-pub fn to_option_value(names: &[&[u8]], out: &mut [u8]) -> Written
+pub fn to_option_value(names: &[&[u8]], out: &mut [u8]) -> Result<usize, Refusal>
     ensures { (outcome result, out.new) ≡ writing (total names.now) (option_value names.now) out.old }
 {
-    let Counted::Fits(_) = error::inputs_len(names, INPUT_LIMIT) else {
-        return Written::Refused(Refusal::InputTooLong);
+    let Some(_) = error::inputs_len(names, INPUT_LIMIT) else {
+        return Err(Refusal::InputTooLong);
     };
-    let Counted::Fits(_) = count(names, out.len()) else {
-        return Written::Refused(Refusal::OutputTooShort);
+    let Some(_) = count(names, out.len()) else {
+        return Err(Refusal::OutputTooShort);
     };
-    Written::Wrote(fill(out, 0, names))
+    Ok(fill(out, 0, names))
 }

@@ -11,14 +11,14 @@ use lib.Dec.{leb}
 use mathlib.Core.Bool.{Bool, true, false}
 use borrow.Author.Tests.{lt-ltb, le-ltb, le-leb, lt-leb, leb-true, leb-false}
 use denote.Ref.{Bor}
+use Rattle.std.specs.Prelude.{Option as Answer, Some, None}
+use Rattle.wire.specs.Answer.{maybe}
 use Rattle.wire.specs.Bytes.{pick, put, placed}
 use Rattle.wire.proofs.Laws.{placed_fits, impossible}
 use Rattle.error.specs.Inputs.{total, no_name, name_at}
 use Rattle.error.specs.Refusal.{number_of}
-use Rattle.error.specs.Writer.{input_limit, writing, counted, count_of}
+use Rattle.error.specs.Writer.{input_limit, writing, counted}
 use Rattle.error.specs.declared.Refusal.{Refusal}
-use Rattle.error.specs.declared.Counted.{Counted}
-use Rattle.error.specs.declared.Counted.TheVariants.{Fits, Over}
 
 -- ---- numbers
 
@@ -89,9 +89,9 @@ unfolding counted
 over room n h = simp (lt-leb _ _ h)
 
 -- what an answer says of the length that was counted
-pub counted_fits : (room n k : ℕ) {r : Counted} → count_of r ≡ counted room n → r ≡ Fits k → (n ≡ k) × (k ≤ room)
+pub counted_fits : (room n k : ℕ) {r : Answer ℕ} → maybe r ≡ counted room n → r ≡ Some k → (n ≡ k) × (k ≤ room)
 unfolding counted
-counted_fits room n k {r} p q = by (leb n room) refl (sym p ∙ ap count_of q)
+counted_fits room n k {r} p q = by (leb n room) refl (sym p ∙ ap maybe q)
   where
     by : (t : Bool) → leb n room ≡ t → pick t (some n) none ≡ some k → (n ≡ k) × (k ≤ room)
     by true q p =
@@ -100,9 +100,9 @@ counted_fits room n k {r} p q = by (leb n room) refl (sym p ∙ ap count_of q)
         (e, omega arith)
     by false q p = impossible cc
 
-pub counted_over : (room n : ℕ) {r : Counted} → count_of r ≡ counted room n → r ≡ Over → room < n
+pub counted_over : (room n : ℕ) {r : Answer ℕ} → maybe r ≡ counted room n → r ≡ None → room < n
 unfolding counted
-counted_over room n {r} p q = by (leb n room) refl (sym p ∙ ap count_of q)
+counted_over room n {r} p q = by (leb n room) refl (sym p ∙ ap maybe q)
   where
     by : (t : Bool) → leb n room ≡ t → pick t (some n) none ≡ none → room < n
     by true q p = impossible cc

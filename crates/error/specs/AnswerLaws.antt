@@ -1,14 +1,13 @@
 -- Lent inputs, lengths within a room and the values of the answers, over all values: SCOPE 3.5, 7.1, 7.4; 01, "Where each call turns back", 25.
-use Rattle.std.specs.Prelude.{◌≡◌, List, [], ◌∷◌, ◌++◌, ℕ, ◌+◌, ◌≤◌, ◌<◌, length}
+use Rattle.std.specs.Prelude.{◌≡◌, List, [], ◌∷◌, ◌++◌, ℕ, ◌+◌, ◌≤◌, ◌<◌, length, Some, None, Ok, Err}
 use Rattle.std.proofs.Math.Option.{some, none}
 use Rattle.std.specs.Borrow.{Bor}
+use Rattle.wire.specs.Answer.{maybe}
 use Rattle.error.specs.declared.Refusal.{Refusal}
-use Rattle.error.specs.declared.Written.TheVariants.{Wrote, Refused}
-use Rattle.error.specs.declared.Counted.TheVariants.{Fits, Over}
 use Rattle.error.specs.declared.Kind.TheVariants.{Usage, Io, Protocol, Server, MessageTooLarge, ParseLsn}
 use Rattle.error.specs.Refusal.{number_of, kind_number}
 use Rattle.error.specs.Inputs.{total, name_at}
-use Rattle.error.specs.Writer.{outcome, counted, count_of}
+use Rattle.error.specs.Writer.{outcome, counted}
 
 -- the bytes of the names, one name after the other
 abbrev pub bytes_of_names : List (Bor (List ℕ)) → List ℕ
@@ -31,10 +30,10 @@ pub record RoomLaws : Type 0 where
 
 -- what each answer says
 pub record ValueLaws : Type 0 where
-  pub wrote : (n : ℕ) → outcome (Wrote n) ≡ (0, n)
-  pub refused : (r : Refusal) → outcome (Refused r) ≡ (number_of r, 0)
-  pub fits : (n : ℕ) → count_of (Fits n) ≡ some n
-  pub over : count_of Over ≡ none
+  pub wrote : (n : ℕ) → outcome (Ok n) ≡ (0, n)
+  pub refused : (r : Refusal) → outcome (Err r) ≡ (number_of r, 0)
+  pub fits : (n : ℕ) → maybe (Some n) ≡ some n
+  pub over : maybe {A = ℕ} None ≡ none
   pub usage_is_one : kind_number Usage ≡ 1
   pub io_is_two : kind_number Io ≡ 2
   pub protocol_is_three : kind_number Protocol ≡ 3

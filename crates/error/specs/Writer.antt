@@ -1,17 +1,14 @@
 -- What every writer answers and leaves: SCOPE 3.5; 01, "Where each call turns back", 4 and 25.
-use Rattle.std.specs.Prelude.{ℕ, List, length, leb, ltb}
+use Rattle.std.specs.Prelude.{ℕ, List, length, leb, ltb, Result, Ok, Err}
 use Rattle.std.proofs.Math.Option.{Option, some, none}
 use Rattle.wire.specs.Bytes.{pick, put}
 use Rattle.error.specs.Refusal.{number_of}
-use Rattle.error.specs.declared.Written.{Written}
-use Rattle.error.specs.declared.Written.TheVariants.{Wrote, Refused}
-use Rattle.error.specs.declared.Counted.{Counted}
-use Rattle.error.specs.declared.Counted.TheVariants.{Fits, Over}
+use Rattle.error.specs.declared.Refusal.{Refusal}
 
 -- the refusal's number, 0 for none, and how many bytes were written
-abbrev pub outcome : Written → ℕ × ℕ
-outcome (Wrote n) = (0, n)
-outcome (Refused r) = (number_of r, 0)
+abbrev pub outcome : Result ℕ Refusal → ℕ × ℕ
+outcome (Ok n) = (0, n)
+outcome (Err r) = (number_of r, 0)
 
 -- the most bytes that a writer's lent inputs may have together (25)
 abbrev pub input_limit : ℕ
@@ -28,8 +25,3 @@ writing inputs text out =
 -- a length n, where that is at most the room
 unfoldable pub counted : ℕ → ℕ → Option ℕ
 counted room n = pick (leb n room) (some n) none
-
--- the values of an answer: the length, or none where it is over the room
-abbrev pub count_of : Counted → Option ℕ
-count_of (Fits n) = some n
-count_of Over = none

@@ -1,5 +1,5 @@
 -- The words of a simple query stand for it; a number above all refusals has no kind.
-use mathlib.Core.Path.{◌≡◌, refl, sym, ap, ◌∙◌}
+use mathlib.Core.Path.{◌≡◌, refl, sym}
 use mathlib.Core.Bool.{Bool, true, false}
 use mathlib.Core.List.{List, [], ◌∷◌}
 use Prim.Native.Nat.{ℕ, zero, suc, ◌≤◌, ◌<◌}
@@ -7,9 +7,8 @@ use native.Mathlib.Omega.{arith}
 use lib.ListN.{length, get_or}
 use Rattle.wire.specs.Bytes.{flag_word}
 use Rattle.error.specs.Refusal.{kinds, kind_at}
-use Rattle.query.specs.declared.simple.SimpleQuery.{SimpleQuery}
 use Rattle.ffi_words.specs.Words.{flag_of}
-use Rattle.ffi_answers.specs.Fold.{simple_query_of, query_words, QueryRoundTrip}
+use Rattle.ffi_answers.specs.Fold.{QueryRoundTrip}
 
 flag_back : (b : Bool) → flag_of (flag_word b) ≡ b
 flag_back true = refl
@@ -17,12 +16,6 @@ flag_back false = refl
 
 pub query_round_trip : QueryRoundTrip
 query_round_trip q = rw (flag_back q.failed)
-
-pub query_words_are : (q : SimpleQuery) {f : ℕ} → f ≡ flag_word q.failed
-    → (◌≡◌ {A = List ℕ} (f ∷ q.kept ∷ q.len ∷ 0 ∷ []) (query_words q)) × (simple_query_of (f ∷ q.kept ∷ q.len ∷ 0 ∷ []) ≡ q)
-query_words_are q {f} e =
-    let words : ◌≡◌ {A = List ℕ} (f ∷ q.kept ∷ q.len ∷ 0 ∷ []) (query_words q) = rw e in
-    (words, ap simple_query_of words ∙ query_round_trip q)
 
 past_the_end : (l : List ℕ) (n : ℕ) → length l ≤ n → get_or l n 0 ≡ 0
 past_the_end [] n h = refl

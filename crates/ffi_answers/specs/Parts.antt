@@ -1,11 +1,11 @@
 -- Parts of a payload as words: the rest of an authentication request, a column of a row, a field of an error, the error that ended a run.
 -- SCOPE 9.4, 9.5.
-use Rattle.std.specs.Prelude.{ℕ, min, List, [], ◌∷◌, ℤ}
+use Rattle.std.specs.Prelude.{ℕ, min, List, [], ◌∷◌, ℤ, Option as Answer}
 use Rattle.std.proofs.Math.Option.{Option, some, none}
 use Rattle.wire.specs.Bytes.{flag_word}
 use Rattle.messages.specs.declared.Field.{Field}
 use Rattle.messages.specs.Auth.{auth_of}
-use Rattle.messages.specs.Fields.{fields_of, indexed}
+use Rattle.messages.specs.Fields.{fields_of, indexed, is_given, part_of}
 use Rattle.query.specs.DataRow.{columns_of, count_of, column_of}
 use Rattle.wire.specs.Int.{value}
 use Rattle.worker.specs.Answer.{error_part_of}
@@ -20,8 +20,8 @@ abbrev pub column_reply : ℕ × ℕ × ℕ × ℕ → ℕ × List ℕ
 column_reply c = (c.0, c.1 ∷ c.2 ∷ c.3 ∷ [])
 
 -- whether a field is given, where it begins and how long it is
-abbrev pub field_words : Field → List ℕ
-field_words f = flag_word f.given ∷ f.from ∷ f.len ∷ []
+abbrev pub field_words : Answer Field → List ℕ
+field_words f = flag_word (is_given f) ∷ (part_of f).0 ∷ (part_of f).1 ∷ []
 
 -- whether an error ended the run, and its payload's length as far as a buffer of n bytes has it
 abbrev pub error_words : Option ℕ → ℕ → List ℕ

@@ -1,8 +1,10 @@
 // The answers to a simple query, message by message. Any words are the words of some query. SCOPE 3.11.
+// Kinds, refusals and flags are numbers here: the C interface.
 ghost use Rattle.std.specs.Prelude.{◌≡◌};
 ghost use Rattle.query.specs.Fold.{answer_outcome};
 ghost use Rattle.ffi_answers.specs.Fold.{simple_query_of, query_words, fold_words};
 
+use error::Refusal;
 use ffi_words::layout;
 use ffi_words::word::flag_of;
 use query::simple::{Answer, SimpleQuery};
@@ -25,14 +27,14 @@ pub fn query_words(q: SimpleQuery) -> [u64; layout::QUERY_WORDS]
     [flag(q.failed), q.kept as u64, q.len as u64, 0]
 }
 
-pub fn fold_words(answer: Answer) -> [u64; layout::FOLD_WORDS]
+pub fn fold_words(answer: Result<Answer, Refusal>) -> [u64; layout::FOLD_WORDS]
     ensures { result ≡ fold_words (answer_outcome answer) }
 {
     match answer {
-        Answer::More => [layout::FOLD_MORE, 0, 0],
-        Answer::DataRow(n) => [layout::FOLD_ROW, n as u64, 0],
-        Answer::Ready => [layout::FOLD_READY, 0, 0],
-        Answer::Failed(kept, len) => [layout::FOLD_FAILED, kept as u64, len as u64],
-        Answer::Refused(r) => [layout::FOLD_REFUSED, r.number() as u64, 0],
+        Ok(Answer::More) => [layout::FOLD_MORE, 0, 0],
+        Ok(Answer::DataRow(n)) => [layout::FOLD_ROW, n as u64, 0],
+        Ok(Answer::Ready) => [layout::FOLD_READY, 0, 0],
+        Ok(Answer::Failed(kept, len)) => [layout::FOLD_FAILED, kept as u64, len as u64],
+        Err(r) => [layout::FOLD_REFUSED, r.number() as u64, 0],
     }
 }

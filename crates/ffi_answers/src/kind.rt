@@ -1,17 +1,16 @@
 // Kinds of refusals by their numbers, and after which of them a new connection may help. SCOPE 7.4.
+// Kinds, refusals and flags are numbers here: the C interface.
 ghost use Rattle.std.specs.Prelude.{◌≡◌};
 ghost use Rattle.ffi_answers.specs.Kinds.{is_between, kind_by, transient_at};
 
 use ffi_words::layout;
+use wire::word::flag;
 
 // Whether a number is one of a range, its first and last included.
 fn is_between(first: u64, last: u64, refusal: u64) -> bool
     ensures { result ≡ is_between first last refusal }
 {
-    if refusal < first {
-        return false;
-    }
-    refusal <= last
+    first <= refusal && refusal <= last
 }
 
 pub fn kind_word(refusal: u64) -> u64
@@ -32,9 +31,5 @@ pub fn kind_word(refusal: u64) -> u64
 pub fn transient_word(refusal: u64) -> u64
     ensures { result ≡ transient_at refusal }
 {
-    if kind_word(refusal) == layout::KIND_IO {
-        1
-    } else {
-        0
-    }
+    flag(kind_word(refusal) == layout::KIND_IO)
 }

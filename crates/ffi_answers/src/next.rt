@@ -1,4 +1,5 @@
 // When to step again. SCOPE 5.9.
+// Kinds, refusals and flags are numbers here: the C interface.
 ghost use Rattle.std.specs.Prelude.{◌≡◌};
 ghost use Rattle.schedule.specs.NextStep.{next_by};
 ghost use Rattle.ffi_answers.specs.Next.{next_words};

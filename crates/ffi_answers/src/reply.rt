@@ -1,14 +1,13 @@
 // A refusal's number, 0 for none, and a count or a position.
+// Kinds, refusals and flags are numbers here: the C interface.
 ghost use Rattle.std.specs.Prelude.{◌≡◌};
 ghost use Rattle.error.specs.Writer.{outcome};
 ghost use Rattle.lossy.specs.Marks.{lossy_outcome};
 ghost use Rattle.lsn.specs.Position.{parse_outcome};
-ghost use Rattle.query.specs.DataRow.{data_row_outcome};
 
-use error::Written;
+use error::Refusal;
 use lossy::Lossy;
-use lsn::Parsed;
-use query::data_row::DataRow;
+use lsn::Lsn;
 
 #[derive(Clone, Copy)]
 pub struct Reply {
@@ -24,31 +23,32 @@ pub struct Shown {
     pub marks: u64,
 }
 
-pub fn written_reply(w: Written) -> Reply
+// How many bytes were written, or how many columns a row has.
+pub fn written_reply(w: Result<usize, Refusal>) -> Reply
     ensures { (result.refusal, result.value) ≡ outcome w }
 {
     match w {
-        Written::Wrote(n) => Reply {
+        Ok(n) => Reply {
             refusal: 0,
             value: n as u64,
         },
-        Written::Refused(r) => Reply {
+        Err(r) => Reply {
             refusal: r.number() as u64,
             value: 0,
         },
     }
 }
 
-pub fn lossy_reply(w: Lossy) -> Shown
+pub fn lossy_reply(w: Result<Lossy, Refusal>) -> Shown
     ensures { (result.refusal, result.written, result.marks) ≡ lossy_outcome w }
 {
     match w {
-        Lossy::Wrote { bytes, marks } => Shown {
+        Ok(length) => Shown {
             refusal: 0,
-            written: bytes as u64,
-            marks: marks as u64,
+            written: length.bytes as u64,
+            marks: length.marks as u64,
         },
-        Lossy::Refused(r) => Shown {
+        Err(r) => Shown {
             refusal: r.number() as u64,
             written: 0,
             marks: 0,
@@ -56,30 +56,15 @@ pub fn lossy_reply(w: Lossy) -> Shown
     }
 }
 
-pub fn parsed_reply(p: Parsed) -> Reply
+pub fn parsed_reply(p: Result<Lsn, Refusal>) -> Reply
     ensures { (result.refusal, result.value) ≡ parse_outcome p }
 {
     match p {
-        Parsed::Position(position) => Reply {
+        Ok(position) => Reply {
             refusal: 0,
             value: position.0,
         },
-        Parsed::Refused(r) => Reply {
-            refusal: r.number() as u64,
-            value: 0,
-        },
-    }
-}
-
-pub fn data_row_reply(row: DataRow) -> Reply
-    ensures { (result.refusal, result.value) ≡ data_row_outcome row }
-{
-    match row {
-        DataRow::Columns(n) => Reply {
-            refusal: 0,
-            value: n as u64,
-        },
-        DataRow::Refused(r) => Reply {
+        Err(r) => Reply {
             refusal: r.number() as u64,
             value: 0,
         },

@@ -10,8 +10,8 @@ ghost use Rattle.lossy.specs.Marks.{lossy_outcome};
 ghost use Rattle.lossy.specs.Stretch.{stretch_of};
 ghost use Rattle.ffi_bench.specs.Mixed.{plus, bit, copy_mixed, boundary_mixed, read_taken, lossy_written, load_written};
 
+use error::Refusal;
 use framing::MessageReader;
-use load::Loaded;
 use lossy::Lossy;
 use pgoutput::Boundary;
 use replication::CopyData;
@@ -28,62 +28,78 @@ pub extern "C" fn bench_read(limit: usize, unread: &[u8], payload: &mut [u8]) ->
 fn plus64(a: u64, b: u64) -> u64
     ensures { result ≡ plus a b }
 {
-    std::num::wrapping_add_u64(a, b)
+    a.wrapping_add(b)
 }
 
 fn bit64(b: bool) -> u64
     ensures { result ≡ bit b }
 {
-    if b { 1 } else { 0 }
+    u64::from(b)
 }
 
-fn copy_number(c: CopyData) -> u64
+fn copy_number(c: Result<CopyData, Refusal>) -> u64
     ensures { result ≡ copy_mixed (copy_said c) }
 {
     match c {
-        CopyData::XLogData {
-            wal_start,
-            wal_end,
-            server_time: _,
-            from: _,
-            len,
-        } => plus64(plus64(wal_start.0, wal_end.0), len as u64),
-        CopyData::KeepAlive {
-            wal_end,
-            server_time: _,
-            reply,
-        } => plus64(wal_end.0, bit64(reply)),
-        CopyData::Refused(r) => r.number() as u64,
+        Ok(
+            CopyData::XLogData {
+                wal_start,
+                wal_end,
+                server_time: _,
+                from: _,
+                len,
+            },
+        ) => plus64(plus64(wal_start.0, wal_end.0), len as u64),
+        Ok(
+            CopyData::KeepAlive {
+                wal_end,
+                server_time: _,
+                reply,
+            },
+        ) => plus64(wal_end.0, bit64(reply)),
+        Err(r) => r.number() as u64,
     }
 }
 
-fn boundary_number(b: Boundary) -> u64
+fn boundary_number(b: Result<Option<Boundary>, Refusal>) -> u64
     ensures { result ≡ boundary_mixed (boundary_said b) }
 {
     match b {
-        Boundary::Begin {
-            final_lsn,
-            commit_time: _,
-            xid,
-        } => plus64(final_lsn.0, xid as u64),
-        Boundary::Commit {
-            lsn,
-            end_lsn,
-            commit_time: _,
-        } => plus64(lsn.0, end_lsn.0),
-        Boundary::Message {
-            transactional,
-            lsn,
-            prefix_from: _,
-            prefix_len,
-            content_from: _,
-            content_len,
-        } => plus64(
+        Ok(
+            Some(
+                Boundary::Begin {
+                    final_lsn,
+                    commit_time: _,
+                    xid,
+                },
+            ),
+        ) => plus64(final_lsn.0, xid as u64),
+        Ok(
+            Some(
+                Boundary::Commit {
+                    lsn,
+                    end_lsn,
+                    commit_time: _,
+                },
+            ),
+        ) => plus64(lsn.0, end_lsn.0),
+        Ok(
+            Some(
+                Boundary::Message {
+                    transactional,
+                    lsn,
+                    prefix_from: _,
+                    prefix_len,
+                    content_from: _,
+                    content_len,
+                },
+            ),
+        ) => plus64(
             plus64(lsn.0, prefix_len as u64),
             plus64(content_len as u64, bit64(transactional)),
         ),
-        Boundary::NotBoundary => 0,
-        Boundary::Refused(r) => r.number() as u64,
+        Ok(None) => 0,
+        Err(r) => r.number() as u64,
     }
 }
 
@@ -101,12 +117,12 @@ pub extern "C" fn bench_boundary(bytes: &[u8]) -> u64
     boundary_number(pgoutput::parse_pgoutput_boundary(bytes))
 }
 
-fn bytes_of(w: Lossy) -> usize
+fn bytes_of(w: Result<Lossy, Refusal>) -> usize
     ensures { result ≡ (lossy_outcome w).1 }
 {
     match w {
-        Lossy::Wrote { bytes, marks: _ } => bytes,
-        Lossy::Refused(_) => 0,
+        Ok(length) => length.bytes,
+        Err(_) => 0,
     }
 }
 
@@ -155,7 +171,7 @@ pub extern "C" fn bench_load(seed: u64, messages: u64, out: &mut [u8]) -> usize
     ensures { (result, out.new) ≡ load_written seed messages out.old }
 {
     match load::write_load(seed, messages, out) {
-        Loaded::Wrote(n) => n,
-        Loaded::Refused(_) => 0,
+        Ok(n) => n,
+        Err(_) => 0,
     }
 }

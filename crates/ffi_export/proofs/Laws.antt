@@ -14,7 +14,8 @@ use Rattle.progress.specs.Progress.{cell_position}
 use Rattle.schedule.specs.declared.NextStep.{NextStep}
 use Rattle.schedule.specs.NextStep.{next_by, next_step_of}
 use Rattle.worker.specs.declared.AlreadyOpen.{AlreadyOpen}
-use Rattle.worker.specs.declared.ErrorPart.{ErrorPart}
+use Rattle.wire.specs.Answer.{maybe}
+use Rattle.std.specs.Prelude.{Option as Answer}
 use Rattle.worker.specs.declared.Input.{Input}
 use Rattle.worker.specs.declared.Opened.{Opened}
 use Rattle.worker.specs.declared.Queue.{Queue}
@@ -22,7 +23,7 @@ use Rattle.worker.specs.declared.Reporting.{Reporting}
 use Rattle.worker.specs.declared.Run.{Run}
 use Rattle.worker.specs.declared.Settings.{Settings}
 use Rattle.worker.specs.declared.Stepped.{Stepped}
-use Rattle.worker.specs.Answer.{verdict_number, waited_option, outcome_by, opened_by, already_open_by, reporting_by, error_part, error_part_of}
+use Rattle.worker.specs.Answer.{verdict_number, outcome_by, opened_by, already_open_by, reporting_by, error_part_of}
 use Rattle.worker.specs.Events.{said_by}
 use Rattle.worker.specs.Run.{cell_in}
 use Rattle.worker.specs.Session as O
@@ -40,7 +41,7 @@ module _ {r z : Run} (pr : r ≡ z) where
       → i ≡ j
       → outcome_by s p o ≡ f r i l
       → (ws ≡ words_of s.run) × (run_of ws ≡ s.run)
-      → answer ≡ answer_words (verdict_number s.verdict) s.taken s.written (waited_option s.waited) (clipped (length p) (said_by s.event))
+      → answer ≡ answer_words (verdict_number s.verdict) s.taken s.written (maybe s.waited) (clipped (length p) (said_by s.event))
       → (standing ws, answer, p, o) ≡ step_left (f z j l)
   made f {i} {j} l s {p} {o} pi e pw pa =
       let h : outcome_by s p o ≡ f z j l = e ∙ ap (λ (x : Run). f x i l) pr ∙ ap (λ (x : Input). f z x l) pi in
@@ -53,7 +54,7 @@ module _ {r z : Run} (pr : r ≡ z) where
       → ws ≡ next_words (next_step_of z n k)
   next n {q} {k} x pq e pw = pw ∙ ap next_words (e ∙ ap (λ (y : Run). next_step_of y n q) pr ∙ ap (λ (y : Queue). next_step_of z n y) pq)
 
-  pub error_part_lem : (n : ℕ) (x : ErrorPart) {ws : List ℕ} → error_part x ≡ error_part_of r → ws ≡ error_words (error_part x) n → ws ≡ error_words (error_part_of z) n
+  pub error_part_lem : (n : ℕ) (x : Answer ℕ) {ws : List ℕ} → maybe x ≡ error_part_of r → ws ≡ error_words (maybe x) n → ws ≡ error_words (error_part_of z) n
   error_part_lem n x e pw = pw ∙ ap (λ (y : Option ℕ). error_words y n) (e ∙ ap error_part_of pr)
 
 -- an answer of a writer, with the output

@@ -1,6 +1,7 @@
 -- What an exported call over the words of a reader or of a query leaves, of what the calls in it answered.
 use mathlib.Core.Path.{◌≡◌, ap, ◌∙◌}
 use mathlib.Core.Bool.{Bool}
+use Rattle.std.specs.Prelude.{Option as Answer}
 use mathlib.Core.List.{List}
 use Prim.Native.Nat.{ℕ}
 use Rattle.framing.specs.declared.MessageReader.{MessageReader}
@@ -35,6 +36,6 @@ folded {r} {z} pr tag payload error x {q} h pw pa =
     h ∙ ap (λ (y : SimpleQuery). message_of y tag payload error) pr in
     rw (← g, pw.1, pw.0, pa)
 
-pub field_of : (i : ℕ) {f : Field} {fs gs : List Field} {ws : List ℕ} → fs ≡ gs → f ≡ indexed fs i → ws ≡ field_words f
+pub field_of : (i : ℕ) {f : Answer Field} {fs gs : List (Answer Field)} {ws : List ℕ} → fs ≡ gs → f ≡ indexed fs i → ws ≡ field_words f
     → ws ≡ field_words (indexed gs i)
-field_of i e h pw = pw ∙ ap field_words (h ∙ ap (λ (l : List Field). indexed l i) e)
+field_of i e h pw = pw ∙ ap field_words (h ∙ ap (λ (l : List (Answer Field)). indexed l i) e)

@@ -10,7 +10,7 @@ use ffi_answers::fold::{fold_words, query_of, query_words};
 use ffi_answers::kind::{kind_word, transient_word};
 use ffi_answers::part::{auth_words, column_reply, field_words};
 use ffi_answers::read::read_words;
-use ffi_answers::reply::data_row_reply;
+use ffi_answers::reply::written_reply;
 use ffi_words::layout;
 use ffi_words::message_reader::{reader_of, reader_words};
 use messages::ErrorFields;
@@ -65,7 +65,7 @@ pub extern "C" fn rufflesquash_query_message(
 pub extern "C" fn rufflesquash_data_row(payload: &[u8], columns: &mut u64) -> u64
     ensures { (result, columns.new) ≡ data_row_call payload.now }
 {
-    let reply = data_row_reply(query::data_row::parse_data_row(payload));
+    let reply = written_reply(query::data_row::parse_data_row(payload));
     *columns = reply.value;
     reply.refusal
 }

@@ -1,4 +1,5 @@
 // A progress cell as four words. Any words are the words of some cell. SCOPE 9.3, 4.1.
+// Kinds, refusals and flags are numbers here: the C interface.
 ghost use Rattle.std.specs.Prelude.{◌≡◌};
 ghost use Rattle.ffi_words.specs.Words.{cell_of, cell_words};
 

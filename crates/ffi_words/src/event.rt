@@ -1,4 +1,5 @@
 // An event as its kind and six numbers. SCOPE 9.2, 5.6.
+// Kinds, refusals and flags are numbers here: the C interface.
 ghost use Rattle.std.specs.Prelude.{◌≡◌, min};
 ghost use Rattle.worker.specs.Events.{said_by, message, xlog_data};
 ghost use Rattle.ffi_words.specs.Step.{length_in, clipped};
@@ -8,7 +9,6 @@ use crate::layout;
 use crate::word::{flag_of, low_half};
 use lsn::Lsn;
 use wire::field::{of_i64, to_i64};
-use wire::store::least;
 use wire::word::flag;
 use worker::Event;
 
@@ -80,8 +80,8 @@ fn parts_of(kind: u64, a: u64, b: u64, c: u64, d: u64, e: u64, f: u64) -> Event
 fn length_in(n: usize, from: usize, len: usize) -> usize
     ensures { result ≡ length_in n from len }
 {
-    let place = least(from, n);
-    least(len, n - place)
+    let place = from.min(n);
+    len.min(n - place)
 }
 
 // The event with its parts as far as a payload buffer of n bytes has them: words that no call made may name others. SCOPE 5.11.
@@ -103,9 +103,9 @@ pub(crate) fn clip(n: usize, event: Event) -> Event
         } => Event::Message {
             transactional,
             lsn,
-            prefix_from: least(prefix_from, n),
+            prefix_from: prefix_from.min(n),
             prefix_len: length_in(n, prefix_from, prefix_len),
-            content_from: least(content_from, n),
+            content_from: content_from.min(n),
             content_len: length_in(n, content_from, content_len),
         },
         Event::XLogData {
@@ -118,7 +118,7 @@ pub(crate) fn clip(n: usize, event: Event) -> Event
             wal_start,
             wal_end,
             server_time,
-            from: least(from, n),
+            from: from.min(n),
             len: length_in(n, from, len),
         },
         Event::StoppedAt { .. } => event,

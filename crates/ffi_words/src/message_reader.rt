@@ -1,4 +1,5 @@
 // A reader of messages as eight words. Any words are the words of some reader. SCOPE 9.4, 3.3.
+// Kinds, refusals and flags are numbers here: the C interface.
 ghost use Rattle.std.specs.Prelude.{◌≡◌};
 ghost use Rattle.ffi_words.specs.Words.{reader_of, reader_words, header_words, HeaderFits};
 

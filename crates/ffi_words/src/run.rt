@@ -1,4 +1,5 @@
 // A run as 64 words, and the run that any words stand for. SCOPE 9.1, 5.11.
+// Kinds, refusals and flags are numbers here: the C interface.
 ghost use Rattle.std.specs.Prelude.{◌≡◌};
 ghost use Rattle.worker.specs.Run.{state_number};
 ghost use Rattle.ffi_words.specs.Words.{state_of, settings_of, reader_of, reader_part, clock_of, progress_of, last_status_of, whole_message_of, offer_of, metrics_of, run_of, metrics_words, last_status_words, words_of};
@@ -19,22 +20,15 @@ use worker::{Clock, LastStatus, Offer, Run, Settings, State, Whole};
 pub fn state_of(n: u64) -> State
     ensures { result ≡ state_of n }
 {
-    if n == layout::STATE_OPENING {
-        State::Opening
-    } else if n == layout::STATE_TURN {
-        State::Turn
-    } else if n == layout::STATE_DRAIN {
-        State::Drain
-    } else if n == layout::STATE_READING {
-        State::Reading
-    } else if n == layout::STATE_WAITING {
-        State::Waiting
-    } else if n == layout::STATE_HANDLING {
-        State::Handling
-    } else if n == layout::STATE_OFFERING {
-        State::Offering
-    } else {
-        State::Ended
+    match n {
+        layout::STATE_OPENING => State::Opening,
+        layout::STATE_TURN => State::Turn,
+        layout::STATE_DRAIN => State::Drain,
+        layout::STATE_READING => State::Reading,
+        layout::STATE_WAITING => State::Waiting,
+        layout::STATE_HANDLING => State::Handling,
+        layout::STATE_OFFERING => State::Offering,
+        _ => State::Ended,
     }
 }
 

@@ -1,26 +1,27 @@
 // What a step is handed as words, and what it answers. SCOPE 9.2, 5.4, 5.5.
+// Kinds, refusals and flags are numbers here: the C interface.
 ghost use Rattle.std.specs.Prelude.{◌≡◌};
+ghost use Rattle.wire.specs.Answer.{maybe};
 ghost use Rattle.progress.specs.Files.{file_verdict};
-ghost use Rattle.worker.specs.Answer.{verdict_number, waited_option};
+ghost use Rattle.worker.specs.Answer.{verdict_number};
 ghost use Rattle.worker.specs.Events.{said_by};
 ghost use Rattle.ffi_words.specs.Step.{queue_of, input_of, waited_words, clipped, answer_words};
 
 use crate::event::{clip, event_words};
 use crate::layout;
+use error::Refusal;
 use moment::Moment;
-use progress::files::FileVerdict;
-use worker::{Input, Queue, Stepped, Verdict, Waited};
+use progress::files::FileRefusal;
+use worker::{Input, Queue, Stepped};
 
 // Every other word is a closed queue.
 pub fn queue_of(n: u64) -> Queue
     ensures { result ≡ queue_of n }
 {
-    if n == layout::QUEUE_FREE {
-        Queue::Free
-    } else if n == layout::QUEUE_FULL {
-        Queue::Full
-    } else {
-        Queue::Closed
+    match n {
+        layout::QUEUE_FREE => Queue::Free,
+        layout::QUEUE_FULL => Queue::Full,
+        _ => Queue::Closed,
     }
 }
 
@@ -37,38 +38,38 @@ pub fn input_of(moment: u64, client_time: i64, stop: bool, queue: u64, ended: bo
     }
 }
 
-pub fn verdict_word(verdict: Verdict) -> u64
+pub fn verdict_word(verdict: Result<(), Refusal>) -> u64
     ensures { result ≡ verdict_number verdict }
 {
     match verdict {
-        Verdict::Accepted => 0,
-        Verdict::Refused(r) => r.number() as u64,
+        Ok(()) => 0,
+        Err(r) => r.number() as u64,
     }
 }
 
 // A report's.
-pub fn file_verdict_word(verdict: FileVerdict) -> u64
+pub fn file_verdict_word(verdict: Result<(), FileRefusal>) -> u64
     ensures { result ≡ file_verdict verdict }
 {
     match verdict {
-        FileVerdict::Accepted => 0,
-        FileVerdict::Refused(r) => r.number() as u64,
+        Ok(()) => 0,
+        Err(r) => r.number() as u64,
     }
 }
 
-fn waited_words(waited: Waited) -> [u64; 2]
-    ensures { result ≡ waited_words (waited_option waited) }
+fn waited_words(waited: Option<u64>) -> [u64; 2]
+    ensures { result ≡ waited_words (maybe waited) }
 {
     match waited {
-        Waited::Untold => [0, 0],
-        Waited::Nanos(n) => [1, n],
+        None => [0, 0],
+        Some(n) => [1, n],
     }
 }
 
 // The event's parts are named as far as a payload buffer of so many bytes has them.
 pub fn answer_words(s: Stepped, payload_len: usize) -> [u64; layout::ANSWER_WORDS]
     ensures { result
-        ≡ answer_words (verdict_number s.verdict) s.taken s.written (waited_option s.waited) (clipped payload_len (said_by s.event)) }
+        ≡ answer_words (verdict_number s.verdict) s.taken s.written (maybe s.waited) (clipped payload_len (said_by s.event)) }
 {
     let verdict = s.verdict;
     let refusal = verdict_word(verdict);

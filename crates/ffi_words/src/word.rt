@@ -1,4 +1,5 @@
 // One word: flags, bytes and halves.
+// Kinds, refusals and flags are numbers here: the C interface.
 ghost use Rattle.std.specs.Prelude.{◌≡◌, ◌<◌, ◌%◌, ◌^◌};
 ghost use Rattle.ffi_words.specs.Words.{flag_of, byte_of};
 
@@ -6,7 +7,7 @@ ghost use Rattle.ffi_words.specs.Words.{flag_of, byte_of};
 pub fn flag_of(n: u64) -> bool
     ensures { result ≡ flag_of n }
 {
-    if n == 0 { false } else { true }
+    n != 0
 }
 
 pub(crate) fn byte_of(n: u64) -> u8

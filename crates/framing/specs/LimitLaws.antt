@@ -1,9 +1,8 @@
 -- The limit and what goes by it, over all settings and readers: SCOPE 3.2, 3.3; 01, "Messages".
-use Rattle.std.specs.Prelude.{◌≡◌, Bool, true, List, ℕ, ◌≤◌, ◌<◌, length}
+use Rattle.std.specs.Prelude.{◌≡◌, Bool, true, List, ℕ, ◌≤◌, ◌<◌, length, Ok, Err, Some, None}
 use Rattle.error.specs.declared.Refusal.{Refusal}
 use Rattle.error.specs.Refusal.{number_of}
 use Rattle.framing.specs.declared.MessageReader.{MessageReader}
-use Rattle.framing.specs.declared.Answer.TheVariants.{More, Whole, Refused}
 use Rattle.framing.specs.Read.{more, whole, refused, said_by, limit_of, read_of}
 
 pub record LimitLaws : Type 0 where
@@ -17,6 +16,6 @@ pub record LimitLaws : Type 0 where
   pub remembered : (n : ℕ) (r : MessageReader) (u : List ℕ) (e : Bool) (p : List ℕ) → limit_of n ≤ length p → r.refused ≡ true
       → read_of n r u e p ≡ (refused 7, r, 0, p)
   -- what each answer says
-  pub says_more : said_by More ≡ more
-  pub says_whole : (tag n : ℕ) → said_by (Whole tag n) ≡ whole tag n
-  pub says_refused : (r : Refusal) → said_by (Refused r) ≡ refused (number_of r)
+  pub says_more : said_by (Ok None) ≡ more
+  pub says_whole : (tag n : ℕ) → said_by (Ok (Some (record { tag = tag; len = n }))) ≡ whole tag n
+  pub says_refused : (r : Refusal) → said_by (Err r) ≡ refused (number_of r)

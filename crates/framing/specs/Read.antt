@@ -1,12 +1,13 @@
 -- One read of the Rust's `MessageReader::read`, with refusals 3 and 6 to 9. SCOPE 3.2, 3.3, 3.4; 01, "Messages".
-use Rattle.std.specs.Prelude.{ℕ, ◌+◌, ◌-◌, min, Bool, true, false, List, [], ◌∷◌, length, get_or, take, drop, ltb, leb, eqb}
+use Rattle.std.specs.Prelude.{ℕ, ◌+◌, ◌-◌, min, Bool, true, false, List, [], ◌∷◌, length, get_or, take, drop, ltb, leb, eqb, Ok, Err, Some, None}
+use Rattle.std.specs.Prelude.{Result as Answer, Option as Maybe}
 use Rattle.wire.specs.Bytes.{pick, put}
 use Rattle.wire.specs.Int.{is_negative}
 use Rattle.frames.specs.Message.{length_field}
 use Rattle.error.specs.Refusal.{number_of}
 use Rattle.framing.specs.declared.MessageReader.{MessageReader}
-use Rattle.framing.specs.declared.Answer.{Answer}
-use Rattle.framing.specs.declared.Answer.TheVariants.{More, Whole, Refused}
+use Rattle.error.specs.declared.Refusal.{Refusal}
+use Rattle.framing.specs.declared.Whole.{Whole}
 
 -- what an answer says: more bytes are needed; a message is whole, its tag and its payload's length; or 01's number of a refusal
 pub data Said : Type 0 where
@@ -14,10 +15,10 @@ pub data Said : Type 0 where
   whole : ℕ → ℕ → Said
   refused : ℕ → Said
 
-abbrev pub said_by : Answer → Said
-said_by More = more
-said_by (Whole tag n) = whole tag n
-said_by (Refused r) = refused (number_of r)
+abbrev pub said_by : Answer (Maybe Whole) Refusal → Said
+said_by (Ok None) = more
+said_by (Ok (Some w)) = whole w.tag w.len
+said_by (Err r) = refused (number_of r)
 
 -- the limit: the setting, and at most 1 GiB
 abbrev pub limit_of : ℕ → ℕ

@@ -3,7 +3,7 @@ ghost use Rattle.std.specs.Prelude.{◌≡◌, ◌≤◌, length};
 ghost use Rattle.framing.specs.WholeFront.{front_bytes};
 
 use crate::limit_of;
-use wire::field::{FIRST_NEGATIVE_32, U32Field};
+use wire::field::FIRST_NEGATIVE_32;
 
 const FIRST_NEGATIVE: usize = FIRST_NEGATIVE_32 as usize;
 
@@ -14,7 +14,7 @@ pub fn front(max_message_size: usize, unread: &[u8]) -> usize
     if unread.len() < 5 {
         return 0;
     }
-    let U32Field::Value(n) = wire::field::read_u32(unread, 1) else {
+    let Some(n) = wire::field::read_u32(unread, 1) else {
         return 0;
     };
     let n = n as usize;

@@ -10,8 +10,6 @@ ghost use Rattle.error.specs.Refusal.{number_of};
 ghost use Rattle.framing.specs.Read.{said_by, limit_of, fresh, shut, at_byte, unfinished, payload_of, judged_of, header_of, read_of};
 
 use error::Refusal;
-use wire::field::U32Field;
-use wire::store::least;
 
 // The largest limit.
 pub const MAX_MESSAGE_SIZE: usize = 1073741824;
@@ -28,16 +26,17 @@ pub struct MessageReader {
     pub refused: bool,
 }
 
+// A whole message: its tag, and its payload's length at the buffer's front.
 #[derive(Clone, Copy)]
-pub enum Answer {
-    More,
-    Whole(u8, usize),
-    Refused(Refusal),
+pub struct Whole {
+    pub tag: u8,
+    pub len: usize,
 }
 
+// A read answers None where the message lacks bytes.
 #[derive(Clone, Copy)]
 pub struct ReadStep {
-    pub answer: Answer,
+    pub answer: Result<Option<Whole>, Refusal>,
     pub reader: MessageReader,
     pub taken: usize,
 }
@@ -53,13 +52,20 @@ impl MessageReader {
             refused: false,
         }
     }
+
+    // The first header byte.
+    pub fn tag(self) -> u8
+        ensures { result ≡ get_or self.header 0 0 }
+    {
+        self.header[0]
+    }
 }
 
 // A setting above the largest limit counts as that limit.
 pub fn limit_of(setting: usize) -> usize
     ensures { result ≡ limit_of setting }
 {
-    least(setting, MAX_MESSAGE_SIZE)
+    setting.min(MAX_MESSAGE_SIZE)
 }
 
 fn stopped() -> MessageReader
@@ -85,30 +91,24 @@ fn at_byte(header: [u8; 5], filled: usize, n: usize) -> MessageReader
 }
 
 // What an unfinished message answers.
-fn lacking(unread: usize, ended: bool, refusal: Refusal) -> Answer
+fn lacking(unread: usize, ended: bool, refusal: Refusal) -> Result<Option<Whole>, Refusal>
     ensures { said_by result ≡ unfinished (number_of refusal) unread ended }
 {
     if unread == 0 {
         if ended {
-            return Answer::Refused(refusal);
+            return Err(refusal);
         }
-        return Answer::More;
+        return Ok(None);
     }
-    Answer::More
-}
-
-fn tag_of(header: [u8; 5]) -> u8
-    ensures { result ≡ get_or header 0 0 }
-{
-    header[0]
+    Ok(None)
 }
 
 fn length_of(header: &[u8; 5]) -> u32
     ensures { result ≡ length_field header.now }
 {
     match wire::field::read_u32(header, 1) {
-        U32Field::Value(v) => v,
-        U32Field::Cut => 0,
+        Some(v) => v,
+        None => 0,
     }
 }
 
@@ -134,19 +134,19 @@ fn fill_payload(r: MessageReader, unread: &[u8], ended: bool, payload: &mut [u8]
         ≡ payload_of r unread.now ended payload.old }
 {
     let len = r.payload_len;
-    let n = least(len, payload.len());
+    let n = len.min(payload.len());
     let filled = r.filled;
     let have = behind_header(filled);
     let h = r.header;
-    let tag = tag_of(h);
+    let tag = r.tag();
     if n <= have {
         return ReadStep {
-            answer: Answer::Whole(tag, n),
+            answer: Ok(Some(Whole { tag, len: n })),
             reader: MessageReader::new(),
             taken: 0,
         };
     }
-    let k = least(n - have, unread.len());
+    let k = (n - have).min(unread.len());
     wire::store::copy(&mut payload[have..], &unread[..k]);
     if have + k < n {
         return ReadStep {
@@ -156,7 +156,7 @@ fn fill_payload(r: MessageReader, unread: &[u8], ended: bool, payload: &mut [u8]
         };
     }
     ReadStep {
-        answer: Answer::Whole(tag, n),
+        answer: Ok(Some(Whole { tag, len: n })),
         reader: MessageReader::new(),
         taken: k,
     }
@@ -170,21 +170,21 @@ fn judge(limit: usize, header: [u8; 5], unread: &[u8], payload: &mut [u8]) -> Re
     let n = length_of(&header) as usize;
     if FIRST_NEGATIVE <= n {
         return ReadStep {
-            answer: Answer::Refused(Refusal::InvalidLength),
+            answer: Err(Refusal::InvalidLength),
             reader: MessageReader::new(),
             taken: 0,
         };
     }
     if n < 4 {
         return ReadStep {
-            answer: Answer::Refused(Refusal::InvalidLength),
+            answer: Err(Refusal::InvalidLength),
             reader: MessageReader::new(),
             taken: 0,
         };
     }
     if limit < n - 4 {
         return ReadStep {
-            answer: Answer::Refused(Refusal::MessageTooLarge),
+            answer: Err(Refusal::MessageTooLarge),
             reader: stopped(),
             taken: 0,
         };
@@ -205,7 +205,7 @@ fn fill_header(
         ≡ header_of limit r unread.now ended payload.old }
 {
     let filled = r.filled;
-    let k = least(5 - filled, unread.len());
+    let k = (5 - filled).min(unread.len());
     let old = r.header;
     let h = head_with(old, filled, &unread[..k]);
     if filled + k < 5 {
@@ -240,14 +240,14 @@ impl MessageReader {
         let limit = limit_of(max_message_size);
         if payload.len() < limit {
             return ReadStep {
-                answer: Answer::Refused(Refusal::PayloadBufferTooShort),
+                answer: Err(Refusal::PayloadBufferTooShort),
                 reader: self,
                 taken: 0,
             };
         }
         if self.refused {
             return ReadStep {
-                answer: Answer::Refused(Refusal::MessageTooLarge),
+                answer: Err(Refusal::MessageTooLarge),
                 reader: self,
                 taken: 0,
             };

@@ -1,6 +1,6 @@
 -- Windows, boundaries, and the search for the first change.
 use mathlib.Core.Path.{◌≡◌, refl, sym, ◌∙◌}
-use mathlib.Core.Bool.{Bool, true, false, not}
+use mathlib.Core.Bool.{Bool, true, false, not, beq}
 use mathlib.Core.List.{List}
 use mathlib.Core.Option.{some, none}
 use Prim.Native.Nat.{ℕ, zero, suc, ◌+◌, ◌-◌, ◌/◌, ◌%◌, ◌≤◌, ◌<◌}
@@ -8,12 +8,12 @@ use native.Mathlib.Numerals.{add-one}
 use native.Mathlib.Omega.{arith}
 use lib.ListN.{get_or}
 use lib.Dec.{ltb, leb, eqb}
-use borrow.Author.Tests.{lt-ltb, le-ltb, le-leb, lt-leb, ltb-true, ltb-false, leb-true, eqb-true, eqb-false, ne_eqb}
+use borrow.Author.Tests.{lt-ltb, le-ltb, le-leb, lt-leb, ltb-true, ltb-false, leb-true, eqb-true, eqb-false}
 use Rattle.wire.proofs.Laws.{by_test, impossible}
 use Rattle.hours.specs.declared.Hours.{Hours}
 use Rattle.hours.specs.Calendar.{in_window, open_at, is_window, are_windows}
 use Rattle.hours.specs.Answer.{change_from}
-use Rattle.hours.specs.Code.{differs, boundary_after, until_boundary, minutes_of}
+use Rattle.hours.specs.Code.{differs, boundary_after, until_boundary}
 
 -- ---- windows
 
@@ -114,6 +114,19 @@ not_differs true false e = impossible (cc)
 not_differs false true e = impossible (cc)
 not_differs false false e = refl
 
+-- the code's own comparison
+pub are_different : (a b : Bool) → not (beq a b) ≡ true → differs a b ≡ true
+are_different true true e = impossible (cc)
+are_different true false e = refl
+are_different false true e = refl
+are_different false false e = impossible (cc)
+
+pub are_alike : (a b : Bool) → not (beq a b) ≡ false → a ≡ b
+are_alike true true e = refl
+are_alike true false e = impossible (cc)
+are_alike false true e = impossible (cc)
+are_alike false false e = refl
+
 pub not_different : (a b : Bool) → differs a b ≡ false → a ≡ b
 not_different true true e = refl
 not_different true false e = impossible (cc)
@@ -169,7 +182,7 @@ module _ (h : Hours) (m : ℕ) where
   none_from (suc n) i s = rw (not_differs _ _ (s i (omega arith) (omega arith))) (none_from n (suc i) (λ k p q. s k (omega arith) (omega arith)))
 
   -- what the walk finds is what the search finds
-  pub found : (j : ℕ) → 0 < j → ((k : ℕ) → k < j → Same h m k) → other j ≡ true → minutes_of j ≡ change_from h m 10080 1
+  pub found : (j : ℕ) → 0 < j → ((k : ℕ) → k < j → Same h m k) → other j ≡ true → some j ≡ change_from h m 10080 1
   found j p s d =
       let l : j ≤ 10080 = by_test (ltb 10080 j)
       (λ t.
@@ -177,9 +190,7 @@ module _ (h : Hours) (m : ℕ) where
       let e = same_always (λ i q. s i (omega arith)) j in
       impossible (cc (d, not_differs _ _ e)))
       (λ t. ltb-false 10080 j t) in
-      let f = found_from 10080 1 j (omega arith) (omega arith) (λ k a b. s k b) d in
-      let z : eqb j 0 ≡ false = ne_eqb j 0 (λ e. omega arith) in
-      simp z (sym f)
+      sym (found_from 10080 1 j (omega arith) (omega arith) (λ k a b. s k b) d)
 
   pub found_none : ((k : ℕ) → k ≤ 10080 → Same h m k) → none ≡ change_from h m 10080 1
   found_none s = sym (none_from 10080 1 (λ k a b. s k (omega arith)))

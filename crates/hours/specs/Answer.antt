@@ -1,16 +1,16 @@
 -- What a question about opening hours is answered: refusals, and the first change as a search through the minutes of a week. What the answer says
 -- about time is stated in Time.antt. 02, wish 11.
-use Rattle.std.specs.Prelude.{ℕ, zero, suc, ◌+◌, ◌/◌, ◌%◌, Bool, false, ℤ}
+use Rattle.std.specs.Prelude.{ℕ, zero, suc, ◌+◌, ◌/◌, ◌%◌, Bool, false, ℤ, Result, Ok, Err}
 use Rattle.std.proofs.Math.Option.{Option, some, none}
+use Rattle.wire.specs.Answer.{maybe}
 use Rattle.wire.specs.Bytes.{pick}
 use Rattle.error.specs.Refusal.{usage}
 use Rattle.hours.specs.declared.Hours.{Hours}
 use Rattle.hours.specs.declared.Refusal.{Refusal}
 use Rattle.hours.specs.declared.Refusal.TheVariants.{InvalidWindow, OffsetOutOfRange, MomentOutOfRange}
-use Rattle.hours.specs.declared.Answer.{Answer}
-use Rattle.hours.specs.declared.Answer.TheVariants.{Told, Refused}
+use Rattle.hours.specs.declared.Told.{Told}
 use Rattle.hours.specs.Calendar.{minute, since_monday, open_at, is_open, is_within_windows, are_windows}
-use Rattle.hours.specs.Code.{differs, change_of, moment_after}
+use Rattle.hours.specs.Code.{differs, moment_after}
 
 -- the number of each refusal
 abbrev pub number_of : Refusal → ℕ
@@ -45,6 +45,6 @@ hours_of h t =
     (32, (false, none))
 
 -- what an answer says
-abbrev pub asked_of : Answer → ℕ × (Bool × Option ℤ)
-asked_of (Told state next) = (0, (state, change_of next))
-asked_of (Refused r) = (number_of r, (false, none))
+abbrev pub asked_of : Result Told Refusal → ℕ × (Bool × Option ℤ)
+asked_of (Ok t) = (0, (t.is_open, maybe t.change))
+asked_of (Err r) = (number_of r, (false, none))

@@ -1,10 +1,8 @@
 -- Steps of the code: moments counted from long ago, boundaries, and minutes as a moment. SCOPE 15.
-use Rattle.std.specs.Prelude.{ℕ, ◌+◌, ◌*◌, ◌-◌, ◌/◌, ◌%◌, Bool, true, false, not, get_or, ℤ, pos, negsuc, ◌+ℤ◌, ltb, eqb}
+use Rattle.std.specs.Prelude.{ℕ, ◌+◌, ◌*◌, ◌-◌, ◌/◌, ◌%◌, Bool, true, false, not, get_or, ℤ, pos, negsuc, ◌+ℤ◌, ltb, ◌<◌, ◌≤◌, Option as Answer, Some, None}
 use Rattle.std.proofs.Math.Option.{Option, some, none}
 use Rattle.wire.specs.Bytes.{pick}
 use Rattle.hours.specs.declared.Hours.{Hours}
-use Rattle.hours.specs.declared.Change.{Change}
-use Rattle.hours.specs.declared.Change.TheVariants.{At, Never}
 use Rattle.hours.specs.Calendar.{minute}
 
 -- two states are not the same
@@ -25,14 +23,10 @@ boundary_after opens closes m = pick (ltb m opens) (opens - m) (pick (ltb m clos
 unfoldable pub until_boundary : Hours → ℕ → ℕ
 until_boundary h m = boundary_after (get_or h.opens (m / 1440) 0) (get_or h.closes (m / 1440) 0) (m % 1440)
 
--- minutes to a change, of which 0 stands for never
-abbrev pub minutes_of : ℕ → Option ℕ
-minutes_of n = pick (eqb n 0) none (some n)
-
--- what an answer says of a change
-abbrev pub change_of : Change → Option ℤ
-change_of (At t) = some t
-change_of Never = none
+-- minutes to a change, if there is one: some, and not many more than a week has
+abbrev pub AreMinutes : Answer ℕ → Type 0
+AreMinutes None = Unit
+AreMinutes (Some n) = (0 < n) × (n ≤ 11520)
 
 -- the beginning of the j-th minute after that of a moment, which has lasted for a part of its own
 abbrev pub moment_after : ℤ → ℕ → Option ℕ → Option ℤ

@@ -7,7 +7,8 @@ ghost use Rattle.std.specs.Prelude.{◌≡◌, true, false, ◌<◌, ◌≤◌, 
 ghost use Rattle.error.specs.Refusal.{kind_number};
 ghost use Rattle.hours.specs.Calendar.{open_at, is_within_windows, are_windows, since_monday};
 ghost use Rattle.hours.specs.Answer.{number_of, kind_of, change_from, hours_of, asked_of};
-ghost use Rattle.hours.specs.Code.{differs, counted, until_boundary, minutes_of, change_of, moment_after};
+ghost use Rattle.hours.specs.Code.{counted, until_boundary, AreMinutes, moment_after};
+ghost use Rattle.wire.specs.Answer.{maybe};
 
 use error::Kind;
 
@@ -36,23 +37,16 @@ pub struct Hours {
 
 #[derive(Clone, Copy)]
 pub enum Refusal {
-    InvalidWindow, // a window opens after it closes, or a minute is above 1,440
+    InvalidWindow = 32, // a window opens after it closes, or a minute is above 1,440
     OffsetOutOfRange, // the offset is outside -840 to 840
     MomentOutOfRange, // the moment is outside plus or minus 4,611,686,018,427,387,904
 }
 
-// When the hall's state next changes: at a moment, in microseconds from 2000-01-01 UTC, or never.
+// Whether the hall is open, and when that next changes, in microseconds from 2000-01-01 UTC, if it ever does.
 #[derive(Clone, Copy)]
-pub enum Change {
-    At(i64),
-    Never,
-}
-
-// Whether the hall is open and when that next changes, or why the question is refused.
-#[derive(Clone, Copy)]
-pub enum Answer {
-    Told(bool, Change),
-    Refused(Refusal),
+pub struct Told {
+    pub is_open: bool,
+    pub change: Option<i64>,
 }
 
 impl Refusal {
@@ -60,22 +54,14 @@ impl Refusal {
     pub fn number(self) -> u8
         ensures { result ≡ number_of self }
     {
-        match self {
-            Refusal::InvalidWindow => 32,
-            Refusal::OffsetOutOfRange => 33,
-            Refusal::MomentOutOfRange => 34,
-        }
+        self as u8
     }
 
     // Only the caller's own inputs bring these about.
     pub fn kind(self) -> Kind
         ensures { kind_number result ≡ kind_of self }
     {
-        match self {
-            Refusal::InvalidWindow => Kind::Usage,
-            Refusal::OffsetOutOfRange => Kind::Usage,
-            Refusal::MomentOutOfRange => Kind::Usage,
-        }
+        Kind::Usage
     }
 }
 
@@ -96,15 +82,13 @@ fn are_windows(hours: Hours) -> bool
 {
     let opens = hours.opens;
     let closes = hours.closes;
-    let mut day: usize = 0;
-    while day < 7 {
+    for day in 0..7 {
         if closes[day] < opens[day] {
             return false;
         }
         if 1440 < closes[day] {
             return false;
         }
-        day += 1;
     }
     true
 }
@@ -169,58 +153,50 @@ fn until_boundary(hours: Hours, m: u64) -> u64
     1440 - minute
 }
 
-// Whether two states are not the same.
-fn differ(a: bool, b: bool) -> bool
-    ensures { result ≡ differs a b }
-{
-    if a { !b } else { b }
-}
-
-// After how many minutes the state of a minute of the week first changes; 0 where it never does. A state lasts from one boundary to the next, so
+// After how many minutes the state of a minute of the week first changes, if it ever does. A state lasts from one boundary to the next, so
 // that only boundaries are looked at, at most three a day.
-fn minutes_to_change(hours: Hours, m: u64) -> u64
+fn minutes_to_change(hours: Hours, m: u64) -> Option<u64>
     requires { (m < 10080) × (are_windows hours.opens hours.closes 7 ≡ true) }
-    ensures { (minutes_of result ≡ change_from hours m 10080 1) × (result ≤ 11520) }
+    ensures { (maybe result ≡ change_from hours m 10080 1) × AreMinutes result }
 {
     let now = open_at(hours, m);
     let mut walked: u64 = 0;
     while walked < WEEK_MINUTES {
         walked += until_boundary(hours, (m + walked) % WEEK_MINUTES);
-        if differ(open_at(hours, (m + walked) % WEEK_MINUTES), now) {
-            return walked;
+        if open_at(hours, (m + walked) % WEEK_MINUTES) != now {
+            return Some(walked);
         }
     }
-    0
+    None
 }
 
-// The beginning of the minute that comes so many minutes after that of a moment, which has lasted for a part of its own; never for 0 minutes.
-fn change_after(moment: i64, part: u64, minutes: u64) -> Change
-    requires { (is_within_windows 4611686018427387904 moment ≡ true) × (part < 60000000) × (minutes ≤ 11520) }
-    ensures { change_of result ≡ moment_after moment part (minutes_of minutes) }
+// The beginning of the minute that comes so many minutes after that of a moment, which has lasted for a part of its own.
+fn change_after(moment: i64, part: u64, minutes: Option<u64>) -> Option<i64>
+    requires { (is_within_windows 4611686018427387904 moment ≡ true) × (part < 60000000) × AreMinutes minutes }
+    ensures { maybe result ≡ moment_after moment part (maybe minutes) }
 {
-    if minutes == 0 {
-        return Change::Never;
-    }
-    Change::At(moment + (minutes * MINUTE - part) as i64)
+    let n = minutes?;
+    Some(moment + (n * MINUTE - part) as i64)
 }
 
 impl Hours {
     // Whether the hall is open at a moment, in microseconds from 2000-01-01 UTC, and the first later moment at which that changes.
-    pub fn ask(self, moment: i64) -> Answer
+    pub fn ask(self, moment: i64) -> Result<Told, Refusal>
         ensures { asked_of result ≡ hours_of self moment }
     {
         if !are_windows(self) {
-            return Answer::Refused(Refusal::InvalidWindow);
+            return Err(Refusal::InvalidWindow);
         }
         if !is_within(MOST_OFFSET, self.offset) {
-            return Answer::Refused(Refusal::OffsetOutOfRange);
+            return Err(Refusal::OffsetOutOfRange);
         }
         if !is_within(MOST_MOMENT, moment) {
-            return Answer::Refused(Refusal::MomentOutOfRange);
+            return Err(Refusal::MomentOutOfRange);
         }
         let since = since_monday(self.offset, moment);
         let m = since / MINUTE;
-        let next = change_after(moment, since % MINUTE, minutes_to_change(self, m));
-        Answer::Told(open_at(self, m), next)
+        let change = change_after(moment, since % MINUTE, minutes_to_change(self, m));
+        let is_open = open_at(self, m);
+        Ok(Told { is_open, change })
     }
 }

@@ -6,11 +6,10 @@ ghost use Rattle.error.specs.Refusal.{kind_number};
 ghost use Rattle.ledger.specs.Ledger.{ledger_number, ledger_kind, cap_of, next_of, entry_at, entry_in, bit_for, larger, file_done, stable_of, undone_in};
 ghost use Rattle.ledger.specs.Ledger.{undone_some, with_ring, settled_of, fitted_of, first_of, stream_of, slot_of};
 ghost use Rattle.ledger.specs.Ledger.{answer_by, answered, refused_answer, with_entry, with_transaction, with_seen, entry_told, commit_touches, kind_told};
-ghost use Rattle.ledger.specs.Ledger.{raised_in, all_raised, done_refusal, answer_from, tell_of, done_of, all_done_of, position_by, answer_of, room_of};
+ghost use Rattle.ledger.specs.Ledger.{verdict_by, raised_in, all_raised, done_refusal, answer_from, tell_of, done_of, all_done_of, position_by, answer_of, room_of};
 
 use error::Kind;
 use progress::files::{FileRefusal, LAST_FILE};
-use wire::store::least;
 
 // The kinds of events, as the words of an answer have them (SCOPE 9.2).
 pub const KEEP_ALIVE: u64 = 1;
@@ -36,7 +35,7 @@ pub struct Ledger {
     pub largest: u64, // the largest end of an entry, in all streams
     pub opened: bool, // whether a transaction is open
     pub touched: u64, // the files that the rows since the last Begin touch
-    pub refusal: u64, // the number with which an event of this stream was refused, or 0
+    pub refusal: Option<LedgerRefusal>, // why an event of this stream was refused
     pub front: usize, // the first entry's slot in the ring
     pub count: usize,
 }
@@ -52,29 +51,23 @@ pub struct Entry {
 // Why a call is refused.
 #[derive(Clone, Copy)]
 pub enum LedgerRefusal {
+    File(FileRefusal), // the list, or the caller, names a file that is none
     EndNotAbove, // an entry's end is not above what was told before it
     AboveHandedOn, // what is done lies above every entry told
     NoRoom, // the ring is full
 }
 
-// The ledger after a call, and the refusal's number, 0 for none.
+// The ledger after a call, and whether the call was accepted.
 #[derive(Clone, Copy)]
 pub struct Answer {
     pub ledger: Ledger,
-    pub refusal: u64,
-}
-
-// A file's position, and the refusal's number, 0 for none.
-#[derive(Clone, Copy)]
-pub struct Position {
-    pub position: u64,
-    pub refusal: u64,
+    pub verdict: Result<(), LedgerRefusal>,
 }
 
 fn larger(a: u64, b: u64) -> u64
     ensures { result ≡ larger a b }
 {
-    if a < b { b } else { a }
+    a.max(b)
 }
 
 // How many entries a ring of so many words holds.
@@ -174,6 +167,7 @@ impl LedgerRefusal {
         ensures { result ≡ ledger_number self }
     {
         match self {
+            LedgerRefusal::File(r) => r.number() as u64,
             LedgerRefusal::EndNotAbove => 36,
             LedgerRefusal::AboveHandedOn => 37,
             LedgerRefusal::NoRoom => 38,
@@ -185,6 +179,7 @@ impl LedgerRefusal {
         ensures { kind_number result ≡ ledger_kind self }
     {
         match self {
+            LedgerRefusal::File(r) => r.kind(),
             LedgerRefusal::EndNotAbove => Kind::Protocol,
             LedgerRefusal::AboveHandedOn => Kind::Usage,
             LedgerRefusal::NoRoom => Kind::Usage,
@@ -207,7 +202,7 @@ impl Ledger {
             largest: 0,
             opened: false,
             touched: 0,
-            refusal: 0,
+            refusal: None,
             front: 0,
             count: 0,
         }
@@ -227,7 +222,7 @@ impl Ledger {
             largest: self.largest,
             opened: false,
             touched: 0,
-            refusal: 0,
+            refusal: None,
             front: 0,
             count: 0,
         }
@@ -300,7 +295,7 @@ impl Ledger {
     fn fitted(self, capacity: usize) -> Ledger
         ensures { result ≡ fitted_of capacity self }
     {
-        let count = least(self.count, capacity);
+        let count = self.count.min(capacity);
         if self.front < capacity {
             return self.with_ring(self.front, count);
         }
@@ -313,28 +308,23 @@ impl Ledger {
     {
         let n = capacity(ring.len());
         let mut front = self.front;
-        let mut count = self.count;
-        while 0 < count {
+        for behind in (0..self.count).rev() {
             let entry = entry_at(ring, front);
             if self.is_held(entry) {
-                return self.with_ring(front, count);
+                return self.with_ring(front, behind + 1);
             }
             front = next(n, front);
-            count -= 1;
         }
-        self.with_ring(front, count)
+        self.with_ring(front, 0)
     }
 
     // The mark with which every call on this stream is refused from now on.
-    fn refused(self, number: u64) -> Answer
-        ensures { answer_by result ≡ refused_answer number self }
+    fn refused(self, refusal: LedgerRefusal) -> Answer
+        ensures { answer_by result ≡ refused_answer refusal self }
     {
         let mut after = self;
-        after.refusal = number;
-        Answer {
-            ledger: after,
-            refusal: number,
-        }
+        after.refusal = Some(refusal);
+        with_verdict(after, Err(refusal))
     }
 
     // With one entry more.
@@ -360,14 +350,14 @@ impl Ledger {
         position: u64,
         touched: u64,
     ) -> Answer
-        ensures { (result.refusal, result.ledger, ring.new) ≡ entry_told opened bits position touched self ring.old }
+        ensures { (verdict_by result.verdict, result.ledger, ring.new) ≡ entry_told opened bits position touched self ring.old }
     {
         if position <= self.seen {
-            return self.refused(LedgerRefusal::EndNotAbove.number());
+            return self.refused(LedgerRefusal::EndNotAbove);
         }
         let n = capacity(ring.len());
         if n <= self.count {
-            return self.refused(LedgerRefusal::NoRoom.number());
+            return self.refused(LedgerRefusal::NoRoom);
         }
         let slot = slot_after(n, self.front, self.count);
         let entry = Entry {
@@ -378,7 +368,10 @@ impl Ledger {
         set_entry(ring, slot, entry);
         let more = self.with_entry(opened, bits, position);
         let ledger = more.settled(ring);
-        Answer { ledger, refusal: 0 }
+        Answer {
+            ledger,
+            verdict: Ok(()),
+        }
     }
 
     // Whether a transaction is open, and the files that its rows touch.
@@ -409,7 +402,7 @@ impl Ledger {
         position: u64,
         bits: u64,
     ) -> Answer
-        ensures { (result.refusal, result.ledger, ring.new) ≡ kind_told listed kind position bits self ring.old }
+        ensures { (verdict_by result.verdict, result.ledger, ring.new) ≡ kind_told listed kind position bits self ring.old }
     {
         if kind == COMMIT {
             let touched = commit_touches(listed, bits);
@@ -417,20 +410,20 @@ impl Ledger {
         }
         if kind == BEGIN {
             let begun = self.with_transaction(true, bits);
-            return with_refusal(begun, 0);
+            return with_verdict(begun, Ok(()));
         }
         let same = self.with_transaction(self.opened, bits);
         if self.opened {
-            return with_refusal(same, 0);
+            return with_verdict(same, Ok(()));
         }
         if kind == KEEP_ALIVE {
             let seen = same.with_seen(position);
-            return with_refusal(seen, 0);
+            return with_verdict(seen, Ok(()));
         }
         if kind == MESSAGE {
             return self.entry_told(ring, false, bits, position, ALL_FILES);
         }
-        with_refusal(same, 0)
+        with_verdict(same, Ok(()))
     }
 
     // A file goes to the larger of its position and what is done.
@@ -474,20 +467,20 @@ impl Ledger {
         after
     }
 
-    // Why a file is not done up to a position: the stream's mark, 31 or 37; 0 where it may be.
-    fn done_refusal(self, file: u64, position: u64) -> u64
-        ensures { result ≡ done_refusal file position self }
+    // Whether a file may be done up to a position: it may not after an event that was refused, for a file above 3, or above every entry told.
+    fn done_refusal(self, file: u64, position: u64) -> Result<(), LedgerRefusal>
+        ensures { verdict_by result ≡ done_refusal file position self }
     {
-        if self.refusal != 0 {
-            return self.refusal;
+        if let Some(mark) = self.refusal {
+            return Err(mark);
         }
         if LAST_FILE < file {
-            return FileRefusal::NoSuchFile.number() as u64;
+            return Err(LedgerRefusal::File(FileRefusal::NoSuchFile));
         }
         if self.largest < position {
-            return LedgerRefusal::AboveHandedOn.number();
+            return Err(LedgerRefusal::AboveHandedOn);
         }
-        0
+        Ok(())
     }
 
     // The stable position before the first entry that is undone for a file, or the stable position.
@@ -496,14 +489,12 @@ impl Ledger {
     {
         let n = capacity(ring.len());
         let mut front = self.front;
-        let mut count = self.count;
-        while 0 < count {
+        for _ in 0..self.count {
             let entry = entry_at(ring, front);
             if self.is_undone(file, entry) {
                 return entry.before;
             }
             front = next(n, front);
-            count -= 1;
         }
         self.stable()
     }
@@ -518,22 +509,19 @@ impl Ledger {
         position: u64,
         data: &[u8],
     ) -> Answer
-        ensures { (result.refusal, result.ledger, ring.new)
+        ensures { (verdict_by result.verdict, result.ledger, ring.new)
             ≡ tell_of identifiers.now files.now kind position «data».now self ring.old }
     {
         let n = capacity(ring.len());
         let before = self.fitted(n);
-        let mark = before.refusal;
-        if mark != 0 {
-            return with_refusal(before, mark);
+        if let Some(mark) = before.refusal {
+            return with_verdict(before, Err(mark));
         }
-        let reply = touched::words::after_event(identifiers, files, kind, data, before.touched);
-        let refusal = reply.refusal;
-        if refusal != 0 {
-            return before.refused(refusal);
+        let listed = identifiers.len().min(files.len());
+        match touched::words::bits_after(identifiers, files, kind, data, before.touched) {
+            Ok(bits) => before.kind_told(ring, listed, kind, position, bits),
+            Err(r) => before.refused(LedgerRefusal::File(r)),
         }
-        let listed = least(identifiers.len(), files.len());
-        before.kind_told(ring, listed, kind, position, reply.bits)
     }
 
     // A file is done up to a position.
@@ -542,13 +530,12 @@ impl Ledger {
     {
         let n = capacity(ring.len());
         let before = self.fitted(n);
-        let refusal = before.done_refusal(file, position);
-        if refusal != 0 {
-            return with_refusal(before, refusal);
+        if let Err(refusal) = before.done_refusal(file, position) {
+            return with_verdict(before, Err(refusal));
         }
         let raised = before.raised(file, position);
         let settled = raised.settled(ring);
-        with_refusal(settled, 0)
+        with_verdict(settled, Ok(()))
     }
 
     // All four files are done up to a position.
@@ -557,32 +544,24 @@ impl Ledger {
     {
         let n = capacity(ring.len());
         let before = self.fitted(n);
-        let refusal = before.done_refusal(0, position);
-        if refusal != 0 {
-            return with_refusal(before, refusal);
+        if let Err(refusal) = before.done_refusal(0, position) {
+            return with_verdict(before, Err(refusal));
         }
         let raised = before.all_raised(position);
         let settled = raised.settled(ring);
-        with_refusal(settled, 0)
+        with_verdict(settled, Ok(()))
     }
 
     // What may be reported of a file.
-    pub fn answer(self, ring: &[u64], file: u64) -> Position
+    pub fn answer(self, ring: &[u64], file: u64) -> Result<u64, FileRefusal>
         ensures { position_by result ≡ answer_of file self ring.now }
     {
         if LAST_FILE < file {
-            return Position {
-                position: 0,
-                refusal: FileRefusal::NoSuchFile.number() as u64,
-            };
+            return Err(FileRefusal::NoSuchFile);
         }
         let n = capacity(ring.len());
         let fitted = self.fitted(n);
-        let position = fitted.answer_from(ring, file);
-        Position {
-            position,
-            refusal: 0,
-        }
+        Ok(fitted.answer_from(ring, file))
     }
 
     // How many entries more the ring holds.
@@ -590,12 +569,12 @@ impl Ledger {
         ensures { result ≡ room_of self ring.now }
     {
         let n = capacity(ring.len());
-        n - least(self.count, n)
+        n - self.count.min(n)
     }
 }
 
-fn with_refusal(ledger: Ledger, refusal: u64) -> Answer
-    ensures { answer_by result ≡ answered refusal ledger }
+fn with_verdict(ledger: Ledger, verdict: Result<(), LedgerRefusal>) -> Answer
+    ensures { answer_by result ≡ answered (verdict_by verdict) ledger }
 {
-    Answer { ledger, refusal }
+    Answer { ledger, verdict }
 }

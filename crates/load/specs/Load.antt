@@ -1,6 +1,6 @@
 -- A stream of messages drawn from a seed: document 02, wish 13. The bytes of the messages are those of PostgreSQL's documentation, as stream,
 -- replication and pgoutput have them.
-use Rattle.std.specs.Prelude.{ℕ, zero, suc, ◌%◌, ◌^◌, Bool, true, false, List, [], ◌∷◌, ◌++◌, replicate, pos, eqb}
+use Rattle.std.specs.Prelude.{ℕ, zero, suc, ◌%◌, ◌^◌, Bool, true, false, List, [], ◌∷◌, ◌++◌, replicate, pos, eqb, Result, Ok, Err}
 use Rattle.wire.specs.Bytes.{pick}
 use Rattle.error.specs.Refusal.{number_of as writer_number}
 use Rattle.error.specs.Writer.{writing}
@@ -12,8 +12,6 @@ use Rattle.load.specs.declared.Message.TheVariants.{KeepAlive, Begin, Data, Comm
 use Rattle.load.specs.declared.Made.{Made}
 use Rattle.load.specs.declared.Refusal.{Refusal}
 use Rattle.load.specs.declared.Refusal.TheVariants.{Writer, SeedZero}
-use Rattle.load.specs.declared.Loaded.{Loaded}
-use Rattle.load.specs.declared.Loaded.TheVariants.{Wrote, Refused}
 use Rattle.load.specs.Xorshift.{drawn}
 
 -- the number of each refusal; of a writer it is that of `error`
@@ -81,9 +79,9 @@ abbrev pub stream_of : ℕ → ℕ → List ℕ
 stream_of n seed = all_bytes (messages_of n seed)
 
 -- the refusal's number, 0 for none, and how many bytes were written
-abbrev pub outcome : Loaded → ℕ × ℕ
-outcome (Wrote n) = (0, n)
-outcome (Refused r) = (number_of r, 0)
+abbrev pub outcome : Result ℕ Refusal → ℕ × ℕ
+outcome (Ok n) = (0, n)
+outcome (Err r) = (number_of r, 0)
 
 -- what a call answers and leaves: 35, then 4, leave the output as it was
 unfoldable pub loading : ℕ → ℕ → List ℕ → (ℕ × ℕ) × List ℕ

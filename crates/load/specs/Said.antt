@@ -1,19 +1,18 @@
 -- What each value of an answer says, and the words of each message, over all values. SCOPE 16.1, 9.9; document 02, wish 13.
-use Rattle.std.specs.Prelude.{◌≡◌, true, false, [], ◌∷◌, ℕ, ◌+◌}
+use Rattle.std.specs.Prelude.{◌≡◌, true, false, [], ◌∷◌, ℕ, ◌+◌, Ok, Err}
 use Rattle.error.specs.declared.Refusal.TheVariants.{OutputTooShort}
 use Rattle.load.specs.declared.Message.{Message}
 use Rattle.load.specs.declared.Message.TheVariants.{KeepAlive, Begin, Data, Commit}
 use Rattle.load.specs.declared.Refusal.TheVariants.{Writer, SeedZero}
-use Rattle.load.specs.declared.Loaded.TheVariants.{Wrote, Refused}
 use Rattle.load.specs.Xorshift.{next_of}
 use Rattle.load.specs.Load.{number_of, outcome, made_of}
 use Rattle.load.specs.Words.{event_words, made_words}
 
 -- the number and the length of an answer
 pub record AnswersSay : Type 0 where
-  pub wrote : (n : ℕ) → outcome (Wrote n) ≡ (0, n)
-  pub too_short : (outcome (Refused (Writer OutputTooShort)) ≡ (4, 0)) × (number_of (Writer OutputTooShort) ≡ 4)
-  pub zero_seed : (outcome (Refused SeedZero) ≡ (35, 0)) × (number_of SeedZero ≡ 35)
+  pub wrote : (n : ℕ) → outcome (Ok n) ≡ (0, n)
+  pub too_short : (outcome (Err (Writer OutputTooShort)) ≡ (4, 0)) × (number_of (Writer OutputTooShort) ≡ 4)
+  pub zero_seed : (outcome (Err SeedZero) ≡ (35, 0)) × (number_of SeedZero ≡ 35)
 
 -- the seven words of a message: its kind, and the numbers that its event has (9.2); start and end of an XLogData are told of other data only. With
 -- them goes the next state

@@ -19,7 +19,7 @@ pub(crate) fn keep_alive(end: u64, last: u64) -> Made
 {
     Made {
         message: Message::KeepAlive {
-            end: end,
+            end,
             reply: last % 2 == 1,
         },
         state: last,
@@ -31,9 +31,9 @@ pub(crate) fn begin(start: u64, end: u64, final_lsn: u64, last: u64) -> Made
 {
     Made {
         message: Message::Begin {
-            start: start,
-            end: end,
-            final_lsn: final_lsn,
+            start,
+            end,
+            final_lsn,
             xid: (last % 4294967296) as u32,
         },
         state: last,
@@ -45,8 +45,8 @@ pub(crate) fn other(start: u64, end: u64, last: u64) -> Made
 {
     Made {
         message: Message::Data {
-            start: start,
-            end: end,
+            start,
+            end,
             letters: (last % 64) as u8,
         },
         state: last,
@@ -58,9 +58,9 @@ pub(crate) fn commit(start: u64, end: u64, lsn: u64, last: u64) -> Made
 {
     Made {
         message: Message::Commit {
-            start: start,
-            end: end,
-            lsn: lsn,
+            start,
+            end,
+            lsn,
             end_lsn: last,
         },
         state: last,

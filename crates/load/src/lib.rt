@@ -6,11 +6,10 @@ mod place;
 pub mod words;
 
 ghost use Rattle.std.specs.Prelude.{◌≡◌, ◌≤◌, length};
+ghost use Rattle.wire.specs.Answer.{maybe};
 ghost use Rattle.wire.specs.Bytes.{put};
-ghost use Rattle.error.specs.Writer.{counted, count_of};
+ghost use Rattle.error.specs.Writer.{counted};
 ghost use Rattle.load.specs.Load.{number_of, made_of, stream_of, outcome, loading};
-
-use error::Counted;
 
 // What a message says: a keepalive's end and whether it asks for a reply; of XLogData start and end, and of its data the values of a Begin or
 // a Commit, or how many letters follow an `I`. Times and flags are 0.
@@ -52,13 +51,6 @@ pub enum Refusal {
     SeedZero, // from 0 only 0 is drawn
 }
 
-// How many bytes were written, or why none were.
-#[derive(Clone, Copy)]
-pub enum Loaded {
-    Wrote(usize),
-    Refused(Refusal),
-}
-
 impl Refusal {
     // The refusal's number.
     pub fn number(self) -> u8
@@ -93,24 +85,22 @@ pub fn message_from(state: u64) -> Made
 }
 
 // The length of the stream, as far as the room goes.
-fn measure(seed: u64, messages: u64, room: usize) -> Counted
-    ensures { count_of result ≡ counted room (length (stream_of messages seed)) }
+fn measure(seed: u64, messages: u64, room: usize) -> Option<usize>
+    ensures { maybe result ≡ counted room (length (stream_of messages seed)) }
 {
     let mut used: usize = 0;
     let mut state = seed;
-    let mut left = messages;
-    while 0 < left {
+    for _ in 0..messages {
         let m = message_from(state);
         let message = m.message;
         let n = place::message_len(message);
         if room - used < n {
-            return Counted::Over;
+            return None;
         }
-        used = used + n;
+        used += n;
         state = m.state;
-        left = left - 1;
     }
-    Counted::Fits(used)
+    Some(used)
 }
 
 fn fill(seed: u64, messages: u64, out: &mut [u8])
@@ -119,26 +109,24 @@ fn fill(seed: u64, messages: u64, out: &mut [u8])
 {
     let mut at: usize = 0;
     let mut state = seed;
-    let mut left = messages;
-    while 0 < left {
+    for _ in 0..messages {
         let m = message_from(state);
         let message = m.message;
         at = place::message(out, at, message);
         state = m.state;
-        left = left - 1;
     }
 }
 
-// Writes the stream of so many messages from a seed.
-pub fn write_load(seed: u64, messages: u64, out: &mut [u8]) -> Loaded
+// Writes the stream of so many messages from a seed. How many bytes were written.
+pub fn write_load(seed: u64, messages: u64, out: &mut [u8]) -> Result<usize, Refusal>
     ensures { (outcome result, out.new) ≡ loading seed messages out.old }
 {
     if seed == 0 {
-        return Loaded::Refused(Refusal::SeedZero);
+        return Err(Refusal::SeedZero);
     }
-    let Counted::Fits(n) = measure(seed, messages, out.len()) else {
-        return Loaded::Refused(Refusal::Writer(error::Refusal::OutputTooShort));
+    let Some(n) = measure(seed, messages, out.len()) else {
+        return Err(Refusal::Writer(error::Refusal::OutputTooShort));
     };
     fill(seed, messages, out);
-    Loaded::Wrote(n)
+    Ok(n)
 }

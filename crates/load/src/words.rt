@@ -3,7 +3,7 @@ ghost use Rattle.std.specs.Prelude.{◌≡◌};
 ghost use Rattle.load.specs.Load.{outcome};
 ghost use Rattle.load.specs.Words.{event_words};
 
-use crate::{Loaded, Message, layout};
+use crate::{Message, Refusal, layout};
 use wire::word::flag;
 
 // A refusal's number, 0 for none, and how many bytes were written.
@@ -13,15 +13,15 @@ pub struct LoadedReply {
     pub written: u64,
 }
 
-pub fn loaded_reply(answer: Loaded) -> LoadedReply
+pub fn loaded_reply(answer: Result<usize, Refusal>) -> LoadedReply
     ensures { (result.refusal, result.written) ≡ outcome answer }
 {
     match answer {
-        Loaded::Wrote(n) => LoadedReply {
+        Ok(n) => LoadedReply {
             refusal: 0,
             written: n as u64,
         },
-        Loaded::Refused(r) => LoadedReply {
+        Err(r) => LoadedReply {
             refusal: r.number() as u64,
             written: 0,
         },

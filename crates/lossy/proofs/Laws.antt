@@ -16,8 +16,8 @@ use Rattle.utf8.specs.WellFormed.{Range, table, row_of, matched}
 use Rattle.lossy.specs.Lossy.{Part, well, ill, part_by, bytes_of, parts_of, shown, shown_all, lossy_of}
 use Rattle.lossy.specs.Marks.{marks_in, marks_all, marks_of, measured, measure_of, with_marks}
 use Rattle.lossy.specs.Stretch.{stretch_all, stretch_of}
-use Rattle.lossy.specs.declared.Measured.{Measured}
-use Rattle.lossy.specs.declared.Measured.TheVariants.{Fits, Over}
+use Rattle.std.specs.Prelude.{Option as Answer, Some, None}
+use Rattle.lossy.specs.declared.Lossy.{Lossy}
 
 -- ---- the part at the front has a byte
 
@@ -132,19 +132,19 @@ held (some p) = p
 held none = (0, 0)
 
 -- what an answer says of the length and the marks
-pub measured_fits : (room n marks k m : ℕ) {r : Measured} → measure_of r ≡ measured room n marks → r ≡ Fits k m → (n ≡ k) × (k ≤ room) × (marks ≡ m)
+pub measured_fits : (room n marks : ℕ) {r : Answer Lossy} {l : Lossy} → measure_of r ≡ measured room n marks → r ≡ Some l → (n ≡ l.bytes) × (l.bytes ≤ room) × (marks ≡ l.marks)
 unfolding measured
-measured_fits room n marks k m {r} p q = by (leb n room) refl (sym p ∙ ap measure_of q)
+measured_fits room n marks {r} {l} p q = by (leb n room) refl (sym p ∙ ap measure_of q)
   where
-    by : (t : Bool) → leb n room ≡ t → pick {A = Option (ℕ × ℕ)} t (some (n, marks)) none ≡ some (k, m) → (n ≡ k) × (k ≤ room) × (marks ≡ m)
+    by : (t : Bool) → leb n room ≡ t → pick {A = Option (ℕ × ℕ)} t (some (n, marks)) none ≡ some (l.bytes, l.marks) → (n ≡ l.bytes) × (l.bytes ≤ room) × (marks ≡ l.marks)
     by true q p =
-        let e : n ≡ k = ap (λ (o : Option (ℕ × ℕ)). (held o).0) p in
-        let f : marks ≡ m = ap (λ (o : Option (ℕ × ℕ)). (held o).1) p in
-        let l : n ≤ room = leb-true n room q in
+        let e : n ≡ l.bytes = ap (λ (o : Option (ℕ × ℕ)). (held o).0) p in
+        let f : marks ≡ l.marks = ap (λ (o : Option (ℕ × ℕ)). (held o).1) p in
+        let h : n ≤ room = leb-true n room q in
         (e, omega arith, f)
     by false q p = impossible cc
 
-pub measured_over : (room n marks : ℕ) {r : Measured} → measure_of r ≡ measured room n marks → r ≡ Over → room < n
+pub measured_over : (room n marks : ℕ) {r : Answer Lossy} → measure_of r ≡ measured room n marks → r ≡ None → room < n
 unfolding measured
 measured_over room n marks {r} p q = by (leb n room) refl (sym p ∙ ap measure_of q)
   where

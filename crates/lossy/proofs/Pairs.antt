@@ -10,7 +10,7 @@ use native.Mathlib.Omega.{arith}
 use lib.ListN.{length, drop, get_or}
 use lib.Seq.{drop-cons}
 use lib.Dec.{eqb, ltb}
-use borrow.Author.Tests.{le-leb, ltb-true, ltb-false, eqb-true, eq-eqb, ne_eqb}
+use borrow.Author.Tests.{le-leb, ltb-true, ltb-false, eqb-true}
 use Rattle.wire.specs.Bytes.{pick}
 use Rattle.utf8.specs.WellFormed.{table}
 use Rattle.lossy.specs.Parts.{Sequence}
@@ -79,12 +79,6 @@ before b t e h = by (ltb b 0x80) refl (ltb b 0xC0) refl (ltb b 0xC2) refl (ltb b
     by false p false q true r z v e = absurd (omega arith)
     by false p false q false r true v e = first (ltb-false b 0xC2 r) (ltb-true b 0xE0 v) (simp (p, q)) (sym e)
     by false p false q false r false v e = absurd (omega arith)
-
-pub fits_same : {x y : ℕ} (a b : ℕ) → x ≡ leads a → y ≡ trails b → x ≡ y → 0 ≡ fits a b
-fits_same a b e f g = let h : leads a ≡ trails b = sym e ∙ g ∙ f in simp (eq-eqb (leads a) (trails b) h)
-
-pub fits_not : {x y : ℕ} (a b : ℕ) → x ≡ leads a → y ≡ trails b → (x ≡ y → ⊥) → 1 ≡ fits a b
-fits_not a b e f g = simp (ne_eqb (leads a) (trails b) (λ h. g (e ∙ h ∙ sym f)))
 
 fits_0 : (a b : ℕ) → fits a b ≡ 0 → leads a ≡ trails b
 fits_0 a b e = by (eqb (leads a) (trails b)) refl e

@@ -1,5 +1,5 @@
 -- A part that was found at a place, and what comes after it: the lossy text, its marks, the stretch of well-formed parts.
-use mathlib.Core.Path.{◌≡◌, refl, sym, ap, ◌∙◌}
+use mathlib.Core.Path.{◌≡◌, refl, ap, ◌∙◌}
 use mathlib.Core.Bool.{Bool, true, false}
 use mathlib.Core.List.{List, ◌∷◌, ◌++◌}
 use Prim.Native.Nat.{ℕ, suc, ◌+◌, ◌≤◌, ◌<◌}
@@ -75,17 +75,6 @@ passed_part s from i p q h a w =
     let f : from ≤ i = q.from in
     let g = q.is in
     (a.ends, record { from = omega arith; within = a.ends; is = omega arith })
-
--- an ill-formed part after what was passed ends the walk
-pub walked_ill : (s : List ℕ) (from stop i : ℕ) (p : Cut) → PassedTo s from i → PartAt s i p → p.well ≡ false
-    → WalkedTo s from stop (record { end = i; ill = p.len })
-walked_ill s from stop i p q a w =
-    let o : 1 ≤ p.len = a.some in
-    record { passed = q; far = λ n. absurd (omega arith); behind = λ n. ill_part s i p a w }
-
--- a stretch behind places that were passed
-pub stretch_behind : {s : List ℕ} {i j : ℕ} (t : Stretch) → PassedTo s i j → StretchAt s j t → StretchAt s i t
-stretch_behind t p a = record { is = a.is ∙ sym p.is; last = a.last; behind = a.behind }
 
 -- a walk that an ill-formed part ends has found the stretch
 pub walked_ends : (s : List ℕ) (i stop : ℕ) (t : Stretch) → WalkedTo s i stop t → 1 ≤ t.ill → StretchAt s i t

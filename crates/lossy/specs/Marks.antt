@@ -1,15 +1,13 @@
 -- The marks of a lossy text: how many U+FFFD were put in, one for each ill-formed part. One that was in the text is not counted. SCOPE 2.6;
 -- 02, wish 7.
-use Rattle.std.specs.Prelude.{◌≡◌, refl, Bool, false, List, [], ◌∷◌, ℕ, ◌+◌, ◌*◌, ◌≤◌, length, get_or, eqb, leb}
+use Rattle.std.specs.Prelude.{◌≡◌, refl, Bool, false, List, [], ◌∷◌, ℕ, ◌+◌, ◌*◌, ◌≤◌, length, get_or, eqb, leb, Option as Answer, Some, None, Result, Ok, Err}
 use Rattle.std.proofs.Math.Option.{Option, some, none}
 use Rattle.wire.specs.Bytes.{pick}
 use Rattle.error.specs.Refusal.{number_of}
+use Rattle.error.specs.declared.Refusal.{Refusal}
 use Rattle.utf8.specs.WellFormed.{table, row_of, matched}
 use Rattle.lossy.specs.Lossy.{Part, well, ill, parts_of, lossy_of}
 use Rattle.lossy.specs.declared.Lossy.{Lossy}
-use Rattle.lossy.specs.declared.Lossy.TheVariants.{Wrote, Refused}
-use Rattle.lossy.specs.declared.Measured.{Measured}
-use Rattle.lossy.specs.declared.Measured.TheVariants.{Fits, Over}
 
 -- whether EF BF BD, the encoding of U+FFFD, stands at the front of a text
 abbrev pub is_mark : List ℕ → Bool
@@ -41,18 +39,18 @@ unfoldable pub measured : ℕ → ℕ → ℕ → Option (ℕ × ℕ)
 measured room n marks = pick (leb n room) (some (n, marks)) none
 
 -- the values of an answer: the length and the marks, or none where the length is over the room
-abbrev pub measure_of : Measured → Option (ℕ × ℕ)
-measure_of (Fits bytes marks) = some (bytes, marks)
-measure_of Over = none
+abbrev pub measure_of : Answer Lossy → Option (ℕ × ℕ)
+measure_of (Some l) = some (l.bytes, l.marks)
+measure_of None = none
 
 -- what a writer answers and leaves, and the marks of its text; a refused call answers no marks
 unfoldable pub with_marks : ℕ → (ℕ × ℕ) × List ℕ → (ℕ × ℕ × ℕ) × List ℕ
 with_marks marks w = ((w.0.0, w.0.1, pick (eqb w.0.0 0) marks 0), w.1)
 
 -- the values of an answer: the refusal's number, 0 for none, how many bytes were written, and how many marks are among them
-abbrev pub lossy_outcome : Lossy → ℕ × ℕ × ℕ
-lossy_outcome (Wrote bytes marks) = (0, bytes, marks)
-lossy_outcome (Refused r) = (number_of r, 0, 0)
+abbrev pub lossy_outcome : Result Lossy Refusal → ℕ × ℕ × ℕ
+lossy_outcome (Ok l) = (0, l.bytes, l.marks)
+lossy_outcome (Err r) = (number_of r, 0, 0)
 
 -- ---- what is counted and what is seen
 

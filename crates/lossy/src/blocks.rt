@@ -47,10 +47,8 @@ fn unfit_in(text: &[u8], from: usize) -> u8
     ensures { result ≡ unfit_at text.now from 32 }
 {
     let mut n: u8 = 0;
-    let mut j: usize = 0;
-    while j < BLOCK {
+    for j in 0..BLOCK {
         n += unfit(text[from + j], text[from + j + 1]);
-        j += 1;
     }
     n
 }

@@ -7,30 +7,25 @@ mod part;
 pub mod plain;
 mod wide;
 
-ghost use Rattle.std.specs.Prelude.{◌≡◌, ◌+◌, ◌≤◌, ◌<◌, length};
+ghost use Rattle.std.specs.Prelude.{◌≡◌, ◌+◌, ◌-◌, ◌≤◌, ◌<◌, min, length};
+ghost use Rattle.wire.specs.Answer.{maybe};
 ghost use Rattle.wire.specs.Bytes.{placed, put};
-ghost use Rattle.error.specs.Writer.{writing, counted, count_of};
+ghost use Rattle.error.specs.Writer.{writing, counted};
 ghost use Rattle.utf8.specs.Automaton.{IsTable};
 ghost use Rattle.lossy.specs.Lossy.{lossy_of};
 ghost use Rattle.lossy.specs.Marks.{marks_of, measured, measure_of, with_marks, lossy_outcome};
 ghost use Rattle.lossy.specs.Stretch.{stretch_of};
-ghost use Rattle.lossy.specs.Code.{StretchAt, WalkedTo};
+ghost use Rattle.lossy.specs.Code.{StretchAt, FindsStretches, FindsParts, WalkedTo};
 
-use error::{Counted, INPUT_LIMIT, Refusal};
-use wire::store::{NOWHERE, least};
+use error::{INPUT_LIMIT, Refusal};
+use part::Part;
+use wire::store::NOWHERE;
 
-// What the lossy writer answers: how many bytes it wrote and how many marks it put in, or why it wrote none.
+// How many bytes a lossy text has, and how many marks are put in.
 #[derive(Clone, Copy)]
-pub enum Lossy {
-    Wrote { bytes: usize, marks: usize },
-    Refused(Refusal),
-}
-
-// How many bytes and marks a text has that is to be written, or that it is longer than the room.
-#[derive(Clone, Copy)]
-pub enum Measured {
-    Fits { bytes: usize, marks: usize },
-    Over,
+pub struct Lossy {
+    pub bytes: usize,
+    pub marks: usize,
 }
 
 // Where the well-formed parts that begin at a place end, and how long the ill-formed part is that stands there: 0 at the end of the text.
@@ -40,52 +35,36 @@ struct Stretch {
     ill: usize,
 }
 
-// How far the text is well-formed from a place on, a part at a time.
+// How far the text is well-formed from a place on, a part at a time, until so many bytes are passed or the text ends; `find` finds the part at a place.
+fn parts_from<F: Fn(usize) -> Part>(text: &[u8], from: usize, bytes: usize, find: &F) -> Stretch
+    requires { (from ≤ length text.now) × FindsParts (F.pre find.now) (F.post find.now) text.now }
+    ensures { WalkedTo text.now from (from + min (length text.now - from) bytes) result }
+{
+    let stop = from + (text.len() - from).min(bytes);
+    let mut i = from;
+    while i < stop {
+        let p = find(i);
+        if !p.well {
+            return Stretch { end: i, ill: p.len };
+        }
+        i += p.len;
+    }
+    Stretch { end: i, ill: 0 }
+}
+
+// The same with the bytes of a part compared, not looked up in the table.
+fn plain_to(text: &[u8], from: usize, bytes: usize) -> Stretch
+    requires { from ≤ length text.now }
+    ensures { WalkedTo text.now from (from + min (length text.now - from) bytes) result }
+{
+    parts_from(text, from, bytes, &|i| part::part_at(text, i))
+}
+
 fn plain_from(text: &[u8], from: usize) -> Stretch
     requires { from ≤ length text.now }
     ensures { StretchAt text.now from result }
 {
-    let mut i = from;
-    while i < text.len() {
-        let p = part::part_at(text, i);
-        if !p.well {
-            return Stretch { end: i, ill: p.len };
-        }
-        i += p.len;
-    }
-    Stretch { end: i, ill: 0 }
-}
-
-// The same until a place is reached.
-fn plain_to(text: &[u8], from: usize, stop: usize) -> Stretch
-    requires { (from ≤ length text.now) × (stop ≤ length text.now) }
-    ensures { WalkedTo text.now from stop result }
-{
-    let mut i = from;
-    while i < stop {
-        let p = part::part_at(text, i);
-        if !p.well {
-            return Stretch { end: i, ill: p.len };
-        }
-        i += p.len;
-    }
-    Stretch { end: i, ill: 0 }
-}
-
-// The same by the table, until a place is reached.
-fn table_to(text: &[u8], from: usize, stop: usize, table: &[u8; 2048]) -> Stretch
-    requires { (from ≤ length text.now) × (stop ≤ length text.now) × IsTable table.now }
-    ensures { WalkedTo text.now from stop result }
-{
-    let mut i = from;
-    while i < stop {
-        let p = lookup::part_in(text, i, table);
-        if !p.well {
-            return Stretch { end: i, ill: p.len };
-        }
-        i += p.len;
-    }
-    Stretch { end: i, ill: 0 }
+    plain_to(text, from, text.len())
 }
 
 // What stands where a block of characters of one and two bytes does not pass: blocks of any characters, or else as many bytes as a block has, a part at
@@ -98,7 +77,7 @@ fn unblocked(text: &[u8], from: usize) -> Stretch
     if from < b {
         return Stretch { end: b, ill: 0 };
     }
-    plain_to(text, from, from + blocks::BLOCK)
+    plain_to(text, from, blocks::BLOCK)
 }
 
 // The same by blocks. The last bytes, fewer than a block has, go a part at a time.
@@ -128,87 +107,83 @@ fn behind_ill(text: &[u8], from: usize) -> Stretch
     requires { from ≤ length text.now }
     ensures { StretchAt text.now from result }
 {
-    let t = plain_to(text, from, from + least(text.len() - from, BEHIND_ILL));
+    let t = plain_to(text, from, BEHIND_ILL);
     if t.ill != 0 {
         return t;
     }
     blocks_from(text, t.end)
 }
 
-// How far the text is well-formed from a place on, on the path that is asked for.
-fn stretch_from(text: &[u8], from: usize, by_blocks: bool) -> Stretch
+// How far the text is well-formed from a place on, by blocks; a place that is not the text's beginning stands behind an ill-formed part.
+fn stretch_from(text: &[u8], from: usize) -> Stretch
     requires { from ≤ length text.now }
     ensures { StretchAt text.now from result }
 {
-    if by_blocks {
-        if from == 0 {
-            return blocks_from(text, from);
-        }
-        return behind_ill(text, from);
+    if from == 0 {
+        return blocks_from(text, from);
     }
-    plain_from(text, from)
+    behind_ill(text, from)
 }
 
 // The length of the longest well-formed beginning of a text of any length.
 pub fn well_formed_prefix(text: &[u8]) -> usize
     ensures { result ≡ stretch_of text.now }
 {
-    stretch_from(text, 0, true).end
+    stretch_from(text, 0).end
 }
 
-// The length of the lossy text, where that is at most room, and the marks that are put in, on the path that is asked for.
-fn measure_by(text: &[u8], room: usize, by_blocks: bool) -> Measured
+// The length of the lossy text, where that is at most room, and the marks that are put in, by a function that finds the stretch from a place on.
+fn measure_by<F: Fn(usize) -> Stretch>(text: &[u8], room: usize, stretch: &F) -> Option<Lossy>
+    requires { FindsStretches (F.pre stretch.now) (F.post stretch.now) text.now }
     ensures { measure_of result ≡ measured room (length (lossy_of text.now)) (marks_of text.now) }
 {
     let mut bytes: usize = 0;
     let mut marks: usize = 0;
     let mut i: usize = 0;
     while i < text.len() {
-        let t = stretch_from(text, i, by_blocks);
+        let t = stretch(i);
         let n = t.end - i;
         if room - bytes < n {
-            return Measured::Over;
+            return None;
         }
         if t.ill == 0 {
             bytes += n;
-            return Measured::Fits { bytes, marks };
+            return Some(Lossy { bytes, marks });
         }
         if room - bytes - n < 3 {
-            return Measured::Over;
+            return None;
         }
         bytes += n + 3;
         marks += 1;
         i = t.end + t.ill;
     }
-    Measured::Fits { bytes, marks }
+    Some(Lossy { bytes, marks })
 }
 
 // The length of the lossy text, where that is at most room, and the marks that are put in.
-pub fn measure(text: &[u8], room: usize) -> Measured
+pub fn measure(text: &[u8], room: usize) -> Option<Lossy>
     ensures { measure_of result ≡ measured room (length (lossy_of text.now)) (marks_of text.now) }
 {
-    measure_by(text, room, true)
+    measure_by(text, room, &|from| stretch_from(text, from))
 }
 
 // The length of the lossy text alone.
-pub fn count(text: &[u8], room: usize) -> Counted
-    ensures { count_of result ≡ counted room (length (lossy_of text.now)) }
+pub fn count(text: &[u8], room: usize) -> Option<usize>
+    ensures { maybe result ≡ counted room (length (lossy_of text.now)) }
 {
-    match measure(text, room) {
-        Measured::Fits { bytes, marks: _ } => Counted::Fits(bytes),
-        Measured::Over => Counted::Over,
-    }
+    let length = measure(text, room)?;
+    Some(length.bytes)
 }
 
 // The lossy text over out from `to` on: a well-formed stretch as it is, one mark for what ends it, and so on.
-fn fill(out: &mut [u8], to: usize, text: &[u8], by_blocks: bool)
-    requires { to + length (lossy_of text.now) ≤ length out.old }
+fn fill<F: Fn(usize) -> Stretch>(out: &mut [u8], to: usize, text: &[u8], stretch: &F)
+    requires { (to + length (lossy_of text.now) ≤ length out.old) × FindsStretches (F.pre stretch.now) (F.post stretch.now) text.now }
     ensures { out.new ≡ put out.old to (lossy_of text.now) }
 {
     let mut at = to;
     let mut i: usize = 0;
     while i < text.len() {
-        let t = stretch_from(text, i, by_blocks);
+        let t = stretch(i);
         let end = t.end;
         at = wire::store::place(out, at, &text[i..end]);
         if t.ill == 0 {
@@ -226,36 +201,41 @@ pub fn place(out: &mut [u8], to: usize, text: &[u8]) -> usize
     if out.len() < to {
         return NOWHERE;
     }
-    let Counted::Fits(n) = count(text, out.len() - to) else {
+    let Some(n) = count(text, out.len() - to) else {
         return NOWHERE;
     };
-    fill(out, to, text, true);
+    fill(out, to, text, &|from| stretch_from(text, from));
     to + n
 }
 
 // The lossy text over the front of out, and its marks. A text without marks is well-formed to its end, and copied whole without a second walk.
-fn write_by(text: &[u8], out: &mut [u8], by_blocks: bool) -> Lossy
+fn write_by<F: Fn(usize) -> Stretch>(
+    text: &[u8],
+    out: &mut [u8],
+    stretch: &F,
+) -> Result<Lossy, Refusal>
+    requires { FindsStretches (F.pre stretch.now) (F.post stretch.now) text.now }
     ensures { (lossy_outcome result, out.new)
         ≡ with_marks (marks_of text.now) (writing (length text.now) (lossy_of text.now) out.old) }
 {
     if INPUT_LIMIT < text.len() {
-        return Lossy::Refused(Refusal::InputTooLong);
+        return Err(Refusal::InputTooLong);
     }
-    let Measured::Fits { bytes, marks } = measure_by(text, out.len(), by_blocks) else {
-        return Lossy::Refused(Refusal::OutputTooShort);
+    let Some(length) = measure_by(text, out.len(), stretch) else {
+        return Err(Refusal::OutputTooShort);
     };
-    if marks == 0 {
+    if length.marks == 0 {
         wire::store::place(out, 0, text);
-        return Lossy::Wrote { bytes, marks };
+        return Ok(length);
     }
-    fill(out, 0, text, by_blocks);
-    Lossy::Wrote { bytes, marks }
+    fill(out, 0, text, stretch);
+    Ok(length)
 }
 
 // The lossy text over the front of out, and its marks.
-pub fn write_lossy(text: &[u8], out: &mut [u8]) -> Lossy
+pub fn write_lossy(text: &[u8], out: &mut [u8]) -> Result<Lossy, Refusal>
     ensures { (lossy_outcome result, out.new)
         ≡ with_marks (marks_of text.now) (writing (length text.now) (lossy_of text.now) out.old) }
 {
-    write_by(text, out, true)
+    write_by(text, out, &|from| stretch_from(text, from))
 }

@@ -1,7 +1,7 @@
 // The part of a text at a place: a well-formed sequence, or a maximal ill-formed part.
-ghost use Rattle.std.specs.Prelude.{◌≡◌, true, false, ◌≤◌, ◌<◌, length, drop};
+ghost use Rattle.std.specs.Prelude.{◌≡◌, ◌≤◌, ◌<◌, length, drop, Some};
 ghost use Rattle.utf8.specs.WellFormed.{table, row_of, matched};
-ghost use Rattle.lossy.specs.Code.{behind_first, trail, first_in, PartAt};
+ghost use Rattle.lossy.specs.Code.{behind_first, trail, lead_said, due_in, first_in, PartAt};
 
 // How many bytes a part has, and whether they are a well-formed sequence.
 #[derive(Clone, Copy)]
@@ -13,42 +13,25 @@ pub(crate) struct Part {
 // What may follow a first byte: how many bytes are due, and the range of the next of them; those after it are 80 to BF.
 #[derive(Clone, Copy)]
 pub(crate) struct Lead {
-    pub begins: bool,
     pub due: usize,
     pub low: u8,
     pub high: u8,
 }
 
-fn due(n: usize, low: u8, high: u8) -> Lead
-    ensures { result ≡ record { begins = true; due = n; low = low; high = high } }
+fn due(n: usize, low: u8, high: u8) -> Option<Lead>
+    ensures { result ≡ Some (record { due = n; low = low; high = high }) }
 {
-    Lead {
-        begins: true,
-        due: n,
-        low,
-        high,
-    }
-}
-
-fn no_lead() -> Lead
-    ensures { result ≡ record { begins = false; due = 0; low = 0x80; high = 0xBF } }
-{
-    Lead {
-        begins: false,
-        due: 0,
-        low: 0x80,
-        high: 0xBF,
-    }
+    Some(Lead { due: n, low, high })
 }
 
 // The row that a first byte begins.
-fn lead_of(b: u8) -> Lead
-    ensures { ((result.begins, trail result) ≡ behind_first (row_of table b)) × (result.due ≤ 3) }
+fn lead_of(b: u8) -> Option<Lead>
+    ensures { (lead_said result ≡ behind_first (row_of table b)) × (due_in result ≤ 3) }
 {
     if b < 0x80 {
         due(0, 0x80, 0xBF)
     } else if b < 0xC2 {
-        no_lead()
+        None
     } else if b < 0xE0 {
         due(1, 0x80, 0xBF)
     } else if b < 0xE1 {
@@ -66,7 +49,7 @@ fn lead_of(b: u8) -> Lead
     } else if b < 0xF5 {
         due(3, 0x80, 0x8F)
     } else {
-        no_lead()
+        None
     }
 }
 
@@ -115,13 +98,12 @@ pub(crate) fn part_at(s: &[u8], at: usize) -> Part
     requires { at < length s.now }
     ensures { PartAt s.now at result }
 {
-    let l = lead_of(s[at]);
-    if !l.begins {
+    let Some(l) = lead_of(s[at]) else {
         return Part {
             len: 1,
             well: false,
         };
-    }
+    };
     let n = follow(s, at + 1, l);
     Part {
         len: 1 + n,

@@ -82,15 +82,13 @@ fn unfit_in(text: &[u8], from: usize) -> u8
     ensures { result ≡ windows_at text.now from 32 }
 {
     let mut n: u8 = 0;
-    let mut j: usize = 0;
-    while j < BLOCK {
+    for j in 0..BLOCK {
         n += unfit(
             text[from + j],
             text[from + j + 1],
             text[from + j + 2],
             text[from + j + 3],
         );
-        j += 1;
     }
     n
 }

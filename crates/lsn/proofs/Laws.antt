@@ -1,5 +1,5 @@
 -- Laws of hexadecimal texts, for the loops that read and write them.
-use mathlib.Core.Path.{◌≡◌, refl, sym, ◌∙◌}
+use mathlib.Core.Path.{◌≡◌, refl, sym, ap, ◌∙◌}
 use mathlib.Core.List.{List, [], ◌∷◌}
 use mathlib.Core.Option.{some, none}
 use Prim.Native.Nat.{ℕ, ◌+◌, ◌*◌, ◌/◌, ◌%◌, ◌^◌, ◌≤◌, ◌<◌}
@@ -8,27 +8,76 @@ use native.Mathlib.Numerals.{add-one}
 use native.Mathlib.Omega.{arith}
 use lib.ListN.{length, drop, get_or, length-append, drop_of_length-le}
 use lib.Seq.{drop-cons}
-use borrow.Author.Tests.{lt-ltb, le-ltb, le-leb, lt-leb}
+use borrow.Author.Tests.{lt-ltb, le-ltb, le-leb, lt-leb, ltb-true, ltb-false}
 use Rattle.wire.specs.Bytes.{placed}
 use Rattle.text.specs.Numeral.{hex_text}
 use Rattle.wire.proofs.Pieces.{filling_start, filling_next, filling_last}
-use Rattle.lsn.specs.Hex.{digit_of, digit_is, value_from, hex_part}
+use Rattle.std.specs.Prelude.{nat_lt, Option as Answer, Some, None}
+use Rattle.std.specs.Char.{digit_value}
+use Rattle.std.specs.Option.{SomeIff}
+use Rattle.wire.specs.Answer.{maybe, value_of}
+use Rattle.wire.proofs.Laws.{by_test}
+use mathlib.Core.Logic.{◌⊎◌, inl, inr, ⊎_elim}
+use Rattle.lsn.specs.Hex.{digit_of, value_from, hex_part}
 use Rattle.lsn.specs.Position.{display_of}
+
+-- ---- one digit: the library's value, where it is below 16, is the definition's
+
+Digit : ℕ → Type 0
+Digit c = ((digit_value c < 16) × (digit_of c ≡ some (digit_value c))) ⊎ ((16 ≤ digit_value c) × (digit_of c ≡ none))
+
+digit_cases : (c : ℕ) → Digit c
+unfolding Digit digit_of
+digit_cases c =
+    by_test (nat_lt c 48)
+    (λ t. let h : c < 48 = ltb-true c 48 t in inr (simp (lt-ltb c 48 (omega arith)) (omega arith), simp (lt-leb 48 c (omega arith), lt-leb 65 c (omega arith), lt-leb 97 c (omega arith))))
+    (λ t. let h48 : 48 ≤ c = ltb-false c 48 t in
+    by_test (nat_lt c 58)
+    (λ t. let h : c < 58 = ltb-true c 58 t in inl (simp (le-ltb c 48 (omega arith), lt-ltb c 58 (omega arith)) (omega arith), simp (le-ltb c 48 (omega arith), lt-ltb c 58 (omega arith), le-leb 48 c (omega arith), le-leb c 57 (omega arith))))
+    (λ t. let h58 : 58 ≤ c = ltb-false c 58 t in
+    by_test (nat_lt c 65)
+    (λ t. let h : c < 65 = ltb-true c 65 t in inr (simp (le-ltb c 48 (omega arith), le-ltb c 58 (omega arith), lt-ltb c 65 (omega arith)) (omega arith), simp (le-leb 48 c (omega arith), lt-leb c 57 (omega arith), lt-leb 65 c (omega arith), lt-leb 97 c (omega arith))))
+    (λ t. let h65 : 65 ≤ c = ltb-false c 65 t in
+    by_test (nat_lt c 71)
+    (λ t. let h : c < 71 = ltb-true c 71 t in inl (simp (le-ltb c 48 (omega arith), le-ltb c 58 (omega arith), le-ltb c 65 (omega arith), lt-ltb c 91 (omega arith)) (omega arith), simp (le-ltb c 48 (omega arith), le-ltb c 58 (omega arith), le-ltb c 65 (omega arith), lt-ltb c 91 (omega arith), le-leb 48 c (omega arith), lt-leb c 57 (omega arith), le-leb 65 c (omega arith), le-leb c 70 (omega arith))))
+    (λ t. let h71 : 71 ≤ c = ltb-false c 71 t in
+    by_test (nat_lt c 91)
+    (λ t. let h : c < 91 = ltb-true c 91 t in inr (simp (le-ltb c 48 (omega arith), le-ltb c 58 (omega arith), le-ltb c 65 (omega arith), lt-ltb c 91 (omega arith)) (omega arith), simp (le-leb 48 c (omega arith), lt-leb c 57 (omega arith), le-leb 65 c (omega arith), lt-leb c 70 (omega arith), lt-leb 97 c (omega arith))))
+    (λ t. let h91 : 91 ≤ c = ltb-false c 91 t in
+    by_test (nat_lt c 97)
+    (λ t. let h : c < 97 = ltb-true c 97 t in inr (simp (le-ltb c 48 (omega arith), le-ltb c 58 (omega arith), le-ltb c 65 (omega arith), le-ltb c 91 (omega arith), lt-ltb c 97 (omega arith)) (omega arith), simp (le-leb 48 c (omega arith), lt-leb c 57 (omega arith), le-leb 65 c (omega arith), lt-leb c 70 (omega arith), lt-leb 97 c (omega arith))))
+    (λ t. let h97 : 97 ≤ c = ltb-false c 97 t in
+    by_test (nat_lt c 103)
+    (λ t. let h : c < 103 = ltb-true c 103 t in inl (simp (le-ltb c 48 (omega arith), le-ltb c 58 (omega arith), le-ltb c 65 (omega arith), le-ltb c 91 (omega arith), le-ltb c 97 (omega arith), lt-ltb c 123 (omega arith)) (omega arith), simp (le-ltb c 48 (omega arith), le-ltb c 58 (omega arith), le-ltb c 65 (omega arith), le-ltb c 91 (omega arith), le-ltb c 97 (omega arith), lt-ltb c 123 (omega arith), le-leb 48 c (omega arith), lt-leb c 57 (omega arith), le-leb 65 c (omega arith), lt-leb c 70 (omega arith), le-leb 97 c (omega arith), le-leb c 102 (omega arith))))
+    (λ t. let h103 : 103 ≤ c = ltb-false c 103 t in
+    by_test (nat_lt c 123)
+    (λ t. let h : c < 123 = ltb-true c 123 t in inr (simp (le-ltb c 48 (omega arith), le-ltb c 58 (omega arith), le-ltb c 65 (omega arith), le-ltb c 91 (omega arith), le-ltb c 97 (omega arith), lt-ltb c 123 (omega arith)) (omega arith), simp (le-leb 48 c (omega arith), lt-leb c 57 (omega arith), le-leb 65 c (omega arith), lt-leb c 70 (omega arith), le-leb 97 c (omega arith), lt-leb c 102 (omega arith))))
+    (λ t. let h123 : 123 ≤ c = ltb-false c 123 t in
+    inr (simp (le-ltb c 48 (omega arith), le-ltb c 58 (omega arith), le-ltb c 65 (omega arith), le-ltb c 91 (omega arith), le-ltb c 97 (omega arith), le-ltb c 123 (omega arith)) (omega arith), simp (le-leb 48 c (omega arith), lt-leb c 57 (omega arith), le-leb 65 c (omega arith), lt-leb c 70 (omega arith), le-leb 97 c (omega arith), lt-leb c 102 (omega arith)))))))))))
+
+pub digit_read : (c : ℕ) (r : Answer ℕ) → SomeIff r (digit_value c < 16) (digit_value c) → (maybe r ≡ digit_of c) × (value_of r < 16)
+unfolding Digit
+digit_read c None h =
+    ⊎_elim
+    (λ d. absurd (h d.0))
+    (λ n. (sym n.1, omega arith))
+    (digit_cases c)
+digit_read c (Some x) h =
+    ⊎_elim
+    (λ d. (ap some h.1 ∙ sym d.1, rw h.1 h.0))
+    (λ n. absurd (omega (arith, h.0, n.0)))
+    (digit_cases c)
 
 -- ---- reading
 
-module _ (s : List ℕ) (i v d : ℕ) (h : i < length s) (e : digit_is d ≡ digit_of (get_or s i 0)) where
-  pub value_bad : 16 ≤ d → value_from v (drop i s) ≡ none
+module _ (s : List ℕ) (i v : ℕ) (h : i < length s) where
+  pub value_bad : digit_of (get_or s i 0) ≡ none → value_from v (drop i s) ≡ none
   unfolding value_from
-  value_bad k =
-      let n : digit_of (get_or s i 0) ≡ none = sym e ∙ simp (le-ltb _ _ k) in
-      rw (drop-cons s i 0 h, n)
+  value_bad n = rw (drop-cons s i 0 h, n)
 
-  pub value_turn : d < 16 → value_from v (drop i s) ≡ value_from (v * 16 + d) (drop (i + 1) s)
+  pub value_turn : (d : ℕ) → digit_of (get_or s i 0) ≡ some d → value_from v (drop i s) ≡ value_from (v * 16 + d) (drop (i + 1) s)
   unfolding value_from
-  value_turn k =
-      let n : digit_of (get_or s i 0) ≡ some d = sym e ∙ simp (lt-ltb _ _ k) in
-      rw (drop-cons s i 0 h, n, add-one)
+  value_turn d n = rw (drop-cons s i 0 h, n, add-one)
 
 -- a part's digits are read to its end
 pub value_end : (s : List ℕ) (i v : ℕ) → length s ≤ i → value_from v (drop i s) ≡ some v

@@ -1,10 +1,8 @@
 -- Hexadecimal texts: what one spells.
-use Rattle.std.specs.Prelude.{ℕ, ◌+◌, ◌*◌, ◌-◌, List, [], ◌∷◌, Bool, false, length, leb, ltb}
+use Rattle.std.specs.Prelude.{ℕ, ◌+◌, ◌*◌, ◌-◌, List, [], ◌∷◌, Bool, false, length, leb}
 use Rattle.std.proofs.Math.Option.{Option, some, none}
 use Rattle.wire.specs.Bytes.{pick}
 use Rattle.wire.specs.Field.{and_then}
-use Rattle.lsn.specs.declared.hex.HexPart.{HexPart}
-use Rattle.lsn.specs.declared.hex.HexPart.TheVariants.{Value, Invalid}
 
 -- a number from a to b, both with it
 abbrev pub between : ℕ → ℕ → ℕ → Bool
@@ -26,11 +24,3 @@ value_from acc (c ∷ s) = and_then (digit_of c) (λ d. value_from (acc * 16 + d
 -- one part of a position text: 1 to 8 hexadecimal digits, and nothing else. SCOPE 2.1; 02, wish 6
 unfoldable pub hex_part : List ℕ → Option ℕ
 hex_part s = pick (between 1 8 (length s)) (value_from 0 s) none
-
--- what the answers of the code say
-abbrev pub part_of : HexPart → Option ℕ
-part_of (Value v) = some v
-part_of Invalid = none
-
-abbrev pub digit_is : ℕ → Option ℕ
-digit_is d = pick (ltb d 16) (some d) none

@@ -1,14 +1,13 @@
 -- Log positions, LSN: their texts and their order. SCOPE 2.1 to 2.3; 01, "Texts and positions".
-use Rattle.std.specs.Prelude.{ℕ, ◌+◌, ◌*◌, ◌/◌, ◌%◌, ◌^◌, Bool, List, ◌∷◌, ◌++◌, take, drop, ltb}
+use Rattle.std.specs.Prelude.{ℕ, ◌+◌, ◌*◌, ◌/◌, ◌%◌, ◌^◌, Bool, List, ◌∷◌, ◌++◌, take, drop, ltb, Result, Ok, Err}
 use Rattle.std.proofs.Math.Option.{Option, some, none}
 use Rattle.wire.specs.Find.{index_of}
 use Rattle.error.specs.Refusal.{number_of}
+use Rattle.error.specs.declared.Refusal.{Refusal}
 use Rattle.moment.specs.declared.Moment.{Moment}
 use Rattle.text.specs.Numeral.{hex_text}
 use Rattle.lsn.specs.Hex.{hex_part}
 use Rattle.lsn.specs.declared.Lsn.{Lsn}
-use Rattle.lsn.specs.declared.Parsed.{Parsed}
-use Rattle.lsn.specs.declared.Parsed.TheVariants.{Position, Refused}
 
 -- the position whose halves are the two numbers
 unfoldable pub joined : ℕ → ℕ → ℕ
@@ -30,9 +29,9 @@ unfoldable pub position_of : List ℕ → ℕ × ℕ
 position_of s = by_slash s (index_of 47 s)
 
 -- what the answer says: the refusal's number, 0 for none, and the position
-abbrev pub parse_outcome : Parsed → ℕ × ℕ
-parse_outcome (Position p) = (0, p.0)
-parse_outcome (Refused r) = (number_of r, 0)
+abbrev pub parse_outcome : Result Lsn Refusal → ℕ × ℕ
+parse_outcome (Ok p) = (0, p.0)
+parse_outcome (Err r) = (number_of r, 0)
 
 -- Display: the two halves in upper case without leading zeros, and a slash between them
 unfoldable pub display_of : ℕ → List ℕ

@@ -1,12 +1,11 @@
 -- Positions over all values: how Display spells one, which texts each refusal belongs to, what an answer says, and the order. SCOPE 2.1 to 2.3; 01,
 -- "Texts and positions"; the spelling by PostgreSQL's documentation, "pg_lsn Type".
-use Rattle.std.specs.Prelude.{◌≡◌, List, ◌∷◌, ◌++◌, ◌⊎◌, ℕ, ◌+◌, ◌*◌, ◌^◌, ◌≤◌, ◌<◌, length}
+use Rattle.std.specs.Prelude.{◌≡◌, List, ◌∷◌, ◌++◌, ◌⊎◌, ℕ, ◌+◌, ◌*◌, ◌^◌, ◌≤◌, ◌<◌, length, Ok, Err}
 use Prim.Native.Char.{code}
 use Rattle.error.specs.declared.Refusal.{Refusal}
 use Rattle.error.specs.Refusal.{number_of}
 use Rattle.text.specs.Spelling.{SpelledTo}
 use Rattle.lsn.specs.declared.Lsn.{Lsn}
-use Rattle.lsn.specs.declared.Parsed.TheVariants.{Position, Refused}
 use Rattle.lsn.specs.Position.{position_of, parse_outcome, display_of}
 use Rattle.lsn.specs.Spelled.{Number, NoSlash}
 
@@ -39,5 +38,5 @@ pub record RefusalLaws : Type 0 where
   pub no_other : (s : List ℕ)
       → (position_of s ≡ (22, 0)) ⊎ ((position_of s ≡ (23, 0)) ⊎ ((position_of s ≡ (24, 0)) ⊎ ((p : ℕ) × (position_of s ≡ (0, p)))))
   -- what the answers of parse say
-  pub answered : (p : Lsn) → parse_outcome (Position p) ≡ (0, p.0)
-  pub refused : (r : Refusal) → parse_outcome (Refused r) ≡ (number_of r, 0)
+  pub answered : (p : Lsn) → parse_outcome (Ok p) ≡ (0, p.0)
+  pub refused : (r : Refusal) → parse_outcome (Err r) ≡ (number_of r, 0)

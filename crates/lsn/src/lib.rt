@@ -7,23 +7,15 @@ ghost use Rattle.wire.specs.Bytes.{placed};
 ghost use Rattle.error.specs.Writer.{writing, outcome};
 ghost use Rattle.lsn.specs.Position.{position_of, parse_outcome, display_of, is_below};
 
-use error::{Refusal, Written};
-use hex::HexPart;
-use wire::find::Found;
+use error::Refusal;
 use wire::store::NOWHERE;
 
 // A position has two halves of 32 bits.
 const HALF: u64 = 4294967296;
 
 // A position in the server's log.
-#[derive(Clone, Copy)]
+#[derive(Clone, Copy, PartialEq, Eq, PartialOrd, Ord)]
 pub struct Lsn(pub u64);
-
-#[derive(Clone, Copy)]
-pub enum Parsed {
-    Position(Lsn),
-    Refused(Refusal),
-}
 
 impl Lsn {
     pub const ZERO: Lsn = Lsn(0);
@@ -43,30 +35,30 @@ impl Lsn {
     pub fn is_zero(self) -> bool
         ensures { result ≡ eqb self.0 0 }
     {
-        self.0 == 0
+        self == Lsn::ZERO
     }
 
     // The only comparison of positions.
     pub fn is_below(self, other: Lsn) -> bool
         ensures { result ≡ is_below self other }
     {
-        self.0 < other.0
+        self < other
     }
 
     // The position that a text spells. The slash comes first, then the high part, so that the first fault gives the refusal.
-    pub fn parse(s: &[u8]) -> Parsed
+    pub fn parse(s: &[u8]) -> Result<Lsn, Refusal>
         ensures { parse_outcome result ≡ position_of s.now }
     {
-        let Found::At(i) = wire::find::find(s, b'/') else {
-            return Parsed::Refused(Refusal::MissingSlash);
+        let Some(i) = wire::find::find(s, b'/') else {
+            return Err(Refusal::MissingSlash);
         };
-        let HexPart::Value(hi) = hex::part(&s[..i]) else {
-            return Parsed::Refused(Refusal::InvalidHighPart);
+        let Some(hi) = hex::part(&s[..i]) else {
+            return Err(Refusal::InvalidHighPart);
         };
-        let HexPart::Value(lo) = hex::part(&s[i + 1..]) else {
-            return Parsed::Refused(Refusal::InvalidLowPart);
+        let Some(lo) = hex::part(&s[i + 1..]) else {
+            return Err(Refusal::InvalidLowPart);
         };
-        Parsed::Position(Lsn(hi * HALF + lo))
+        Ok(Lsn(hi * HALF + lo))
     }
 
     // How many bytes Display has.
@@ -92,14 +84,14 @@ impl Lsn {
     }
 
     // The Rust's Display.
-    pub fn display(self, out: &mut [u8]) -> Written
+    pub fn display(self, out: &mut [u8]) -> Result<usize, Refusal>
         ensures { (outcome result, out.new) ≡ writing 0 (display_of self.0) out.old }
     {
         let n = self.text_len();
         if out.len() < n {
-            return Written::Refused(Refusal::OutputTooShort);
+            return Err(Refusal::OutputTooShort);
         }
         self.place(out, 0);
-        Written::Wrote(n)
+        Ok(n)
     }
 }

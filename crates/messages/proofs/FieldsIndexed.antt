@@ -1,4 +1,5 @@
 -- The fields by index, along the list of letters; and the place of each, along the walk over the payload.
+use Rattle.std.specs.Prelude.{Option as Answer, Some}
 use mathlib.Core.Path.{◌≡◌, refl, sym, ap, ◌∙◌}
 use mathlib.Core.Bool.{true, false}
 use mathlib.Core.List.{List, [], ◌∷◌, ◌++◌, map}
@@ -16,7 +17,7 @@ use Rattle.wire.proofs.Laws.{by_test, impossible}
 use Rattle.wire.proofs.FindLaws.{found_at, found_below}
 use Rattle.wire.proofs.FieldLaws.{int_whole}
 use Rattle.messages.specs.declared.Field.{Field}
-use Rattle.messages.specs.Fields.{Entry, entries_of, absent, entered, last_of, letters, fields_of, indexed, named}
+use Rattle.messages.specs.Fields.{Entry, entries_of, absent, entered, last_of, letters, fields_of, indexed, is_given, named}
 use Rattle.messages.specs.FieldLayout.{Laid}
 use Rattle.messages.specs.Auth.{auth_of}
 use Rattle.messages.specs.ErrorText.{error_text, error_marks}
@@ -27,11 +28,11 @@ use Rattle.messages.proofs.FieldsSent.{one_field, text_by_lem, marks_by}
 
 -- ---- an index
 
-past : (fields : List Field) (i : ℕ) → 15 ≤ i → indexed fields i ≡ absent
+past : (fields : List (Answer Field)) (i : ℕ) → 15 ≤ i → indexed fields i ≡ absent
 past fields i h = simp (le-ltb _ _ h)
 
 -- of fifteen fields at most, an index that has no place has the field that is not given anyway
-in_list : (fields : List Field) (i : ℕ) → length fields ≤ 15 → indexed fields i ≡ get_or fields i absent
+in_list : (fields : List (Answer Field)) (i : ℕ) → length fields ≤ 15 → indexed fields i ≡ get_or fields i absent
 in_list fields i h =
     by_test (ltb i 15)
     (λ t. rw t)
@@ -73,7 +74,7 @@ letter_behind s i (some k) h n e more =
     let b : k < length s - (i + 1) = rw (length-drop (i + 1) s) at (found_below 0 (drop (i + 1) s) k e) in
     let l : length (take i s) ≡ i = length-take-le i s (omega arith) in
     let m : length (at s (i + 1) k) ≡ k = length-take-le k (drop (i + 1) s) (simp length-drop (omega arith)) in
-    let one : Behind s (get_or s i 0) (record { given = true; from = i + 1; len = k }) =
+    let one : Behind s (get_or s i 0) (Some (record { from = i + 1; len = k })) =
     record {
       before = take i s;
       value = at s (i + 1) k;
@@ -98,14 +99,14 @@ walk_behind (suc n) s i h =
     (λ t. rw (unread_end s i (ltb-false i (length s) t)) tt)
 
 -- a field that is given stands behind its letter, and one that is not is the absent one
-pub record Placed (s : List ℕ) (letter : ℕ) (f : Field) : Type 0 where
-  pub behind : f.given ≡ true → Behind s letter f
-  pub none : f.given ≡ false → f ≡ absent
+pub record Placed (s : List ℕ) (letter : ℕ) (f : Answer Field) : Type 0 where
+  pub behind : is_given f ≡ true → Behind s letter f
+  pub none : is_given f ≡ false → f ≡ absent
 
 absent_placed : (s : List ℕ) (letter : ℕ) → Placed s letter absent
 absent_placed s letter = record { behind = λ e. impossible cc; none = λ e. refl }
 
-last_placed : (s : List ℕ) (letter : ℕ) (f : Field) (es : List Entry) → Placed s letter f → EntriesBehind s es → Placed s letter (last_of letter f es)
+last_placed : (s : List ℕ) (letter : ℕ) (f : Answer Field) (es : List Entry) → Placed s letter f → EntriesBehind s es → Placed s letter (last_of letter f es)
 unfolding last_of
 last_placed s letter f [] h w = h
 last_placed s letter f (e ∷ es) h w =
@@ -133,7 +134,7 @@ has_letter [] i h = absurd (omega arith)
 has_letter (l ∷ ls) zero h = (l, refl)
 has_letter (l ∷ ls) (suc i) h = has_letter ls i (omega arith)
 
-not_given : (payload : List ℕ) (i : ℕ) → (indexed (fields_of payload) i).given ≡ false → indexed (fields_of payload) i ≡ absent
+not_given : (payload : List ℕ) (i : ℕ) → is_given (indexed (fields_of payload) i) ≡ false → indexed (fields_of payload) i ≡ absent
 not_given payload i e =
     by_test (ltb i 15)
     (λ t. let w = has_letter fifteen i (ltb-true i 15 t) in (field_placed payload i w.0 w.1).none e)
@@ -173,14 +174,14 @@ index_laws =
       last_none = no_letter;
       text =
           λ fields payload.
-          let m : Field = get_or fields 2 absent in
-          let c : Field = get_or fields 1 absent in
-          text_by_lem m.given c.given (named payload m) (named payload c);
+          let m : Answer Field = get_or fields 2 absent in
+          let c : Answer Field = get_or fields 1 absent in
+          text_by_lem (is_given m) (is_given c) (named payload m) (named payload c);
       text_marks =
           λ fields payload.
-          let m : Field = get_or fields 2 absent in
-          let c : Field = get_or fields 1 absent in
-          rw (marks_by m.given (named payload m), marks_by c.given (named payload c));
+          let m : Answer Field = get_or fields 2 absent in
+          let c : Answer Field = get_or fields 1 absent in
+          rw (marks_by (is_given m) (named payload m), marks_by (is_given c) (named payload c));
       auth_read = auth_read;
       asked = λ code from len. refl;
       not_asked = λ r. refl;

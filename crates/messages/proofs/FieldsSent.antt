@@ -1,4 +1,5 @@
 -- The fields and the text of an error by the layout of its payload.
+use Rattle.std.specs.Prelude.{Option as Answer}
 use mathlib.Core.Path.{◌≡◌, refl, ap, ◌∙◌}
 use mathlib.Core.Bool.{Bool, true, false}
 use mathlib.Core.List.{List, [], ◌∷◌, ◌++◌, map}
@@ -18,7 +19,7 @@ use Rattle.lossy.specs.Lossy.{lossy_of}
 use Rattle.lossy.specs.Marks.{seen, marks_of}
 use Rattle.lossy.proofs.Marks.{marks_are_seen, seen_joined}
 use Rattle.messages.specs.declared.Field.{Field}
-use Rattle.messages.specs.Fields.{Entry, entries_of, absent, entered, last_of, letters, fields_of, named}
+use Rattle.messages.specs.Fields.{Entry, entries_of, absent, entered, last_of, letters, fields_of, is_given, part_of, named}
 use Rattle.messages.specs.FieldLayout.{encode, Laid, said, fields_read}
 use Rattle.messages.specs.ErrorText.{opened, closed, plain, coded, text_by, error_text, error_marks}
 use Rattle.text.specs.Ascii.{ascii}
@@ -36,11 +37,11 @@ either_either : {A : Type 0} (x y z : Option A) → either x (either y z) ≡ ei
 either_either none y z = refl
 either_either (some a) y z = refl
 
-entry_value : (payload : List ℕ) (letter : ℕ) (e : Entry) (f : Field)
+entry_value : (payload : List ℕ) (letter : ℕ) (e : Entry) (f : Answer Field)
     → value_given payload (pick (eqb e.letter letter) (entered e) f) ≡ either (pick (eqb e.letter letter) (some (at payload e.from e.len)) none) (value_given payload f)
 entry_value payload letter e f = by_test (eqb e.letter letter) (λ t. rw t) (λ t. rw t)
 
-last_value_lem : (payload : List ℕ) (letter : ℕ) (f : Field) (es : List Entry)
+last_value_lem : (payload : List ℕ) (letter : ℕ) (f : Answer Field) (es : List Entry)
     → value_given payload (last_of letter f es) ≡ either (last_value letter (map (said payload) es)) (value_given payload f)
 unfolding last_of last_value
 last_value_lem payload letter f [] = refl
@@ -80,9 +81,9 @@ text_by_lem false false m c = refl
 pub text_is_laid : TextIsLaid
 unfolding error_text fields_of
 text_is_laid payload fs l =
-    let m : Field = last_of (code "M") absent (entries_of payload) in
-    let c : Field = last_of (code "C") absent (entries_of payload) in
-    text_by_lem m.given c.given (named payload m) (named payload c) ∙ rw (one_field payload fs l (code "M"), one_field payload fs l (code "C"))
+    let m : Answer Field = last_of (code "M") absent (entries_of payload) in
+    let c : Answer Field = last_of (code "C") absent (entries_of payload) in
+    text_by_lem (is_given m) (is_given c) (named payload m) (named payload c) ∙ rw (one_field payload fs l (code "M"), one_field payload fs l (code "C"))
 
 -- ---- its marks
 
@@ -93,9 +94,9 @@ marks_by false s = refl
 pub marks_are_laid : MarksAreLaid
 unfolding error_marks fields_of
 marks_are_laid payload fs l =
-    let m : Field = last_of (code "M") absent (entries_of payload) in
-    let c : Field = last_of (code "C") absent (entries_of payload) in
-    rw (marks_by m.given (named payload m), marks_by c.given (named payload c), one_field payload fs l (code "M"), one_field payload fs l (code "C"))
+    let m : Answer Field = last_of (code "M") absent (entries_of payload) in
+    let c : Answer Field = last_of (code "C") absent (entries_of payload) in
+    rw (marks_by (is_given m) (named payload m), marks_by (is_given c) (named payload c), one_field payload fs l (code "M"), one_field payload fs l (code "C"))
 
 opened_seen : (s : List ℕ) → seen (opened ++ s) ≡ seen s
 unfolding seen
@@ -144,8 +145,8 @@ walk_within (suc n) s i h =
     (λ z. letter_within s i (index_of 0 (drop (i + 1) s)) (ltb-true i (length s) t) (eqb-false (get_or s i 0) 0 z) refl (λ k. walk_within n s (i + 1 + k + 1) (omega arith))))
     (λ t. rw (unread_end s i (ltb-false i (length s) t)) tt)
 
-last_within : (s : List ℕ) (letter : ℕ) (f : Field) (es : List Entry) → f.from + f.len ≤ length s → EntriesWithin s es
-    → (last_of letter f es).from + (last_of letter f es).len ≤ length s
+last_within : (s : List ℕ) (letter : ℕ) (f : Answer Field) (es : List Entry) → (part_of f).0 + (part_of f).1 ≤ length s → EntriesWithin s es
+    → (part_of (last_of letter f es)).0 + (part_of (last_of letter f es)).1 ≤ length s
 unfolding last_of
 last_within s letter f [] h w = h
 last_within s letter f (e ∷ es) h w =
@@ -154,7 +155,7 @@ last_within s letter f (e ∷ es) h w =
     w.1
 
 nth_within : (s : List ℕ) (es : List Entry) (ls : List ℕ) (i : ℕ) → EntriesWithin s es
-    → let f = get_or (map (λ letter. last_of letter absent es) ls) i absent in f.from + f.len ≤ length s
+    → let p = part_of (get_or (map (λ letter. last_of letter absent es) ls) i absent) in p.0 + p.1 ≤ length s
 nth_within s es [] i w = omega arith
 nth_within s es (l ∷ ls) zero w = last_within s l absent es (omega arith) w
 nth_within s es (l ∷ ls) (suc i) w = nth_within s es ls i w

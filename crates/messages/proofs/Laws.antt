@@ -1,4 +1,5 @@
 -- Laws of the walk over an error's fields: one entry after the other, and what an entry does to the fifteen fields.
+use Rattle.std.specs.Prelude.{Option as Answer, Some}
 use mathlib.Core.Option.{Option, some, none}
 use mathlib.Core.Path.{◌≡◌, refl, sym, ap, ◌∙◌}
 use mathlib.Core.Bool.{Bool, true, false}
@@ -95,7 +96,7 @@ unfolding index_of
 letters_distinct = refl
 
 -- the fields of these letters once the entries are entered
-unfoldable pub after : List ℕ → List Field → List Entry → List Field
+unfoldable pub after : List ℕ → List (Answer Field) → List Entry → List (Answer Field)
 after [] fs es = []
 after (l ∷ ls) [] es = []
 after (l ∷ ls) (f ∷ fs) es = last_of l f es ∷ after ls fs es
@@ -104,18 +105,18 @@ pub after_start : (s : List ℕ) → after letters (replicate 15 absent) (unread
 unfolding after fields_of
 after_start s = rw (← unread_start s)
 
-pub after_none : (ls : List ℕ) (fs : List Field) → length fs ≡ length ls → after ls fs [] ≡ fs
+pub after_none : (ls : List ℕ) (fs : List (Answer Field)) → length fs ≡ length ls → after ls fs [] ≡ fs
 unfolding after last_of
 after_none [] [] h = refl
 after_none [] (f ∷ fs) h = absurd (omega arith)
 after_none (l ∷ ls) [] h = absurd (omega arith)
-after_none (l ∷ ls) (f ∷ fs) h = ap (λ (t : List Field). f ∷ t) (after_none ls fs (omega arith))
+after_none (l ∷ ls) (f ∷ fs) h = ap (λ (t : List (Answer Field)). f ∷ t) (after_none ls fs (omega arith))
 
 unequal : (a b : ℕ) → eqb a b ≡ false → eqb b a ≡ false
 unequal a b t = ne_eqb b a (λ p. eqb-false a b t (sym p))
 
 -- an entry of another letter
-after_skip : (ls : List ℕ) (fs : List Field) (e : Entry) (es : List Entry) → index_of e.letter ls ≡ none → after ls fs (e ∷ es) ≡ after ls fs es
+after_skip : (ls : List ℕ) (fs : List (Answer Field)) (e : Entry) (es : List Entry) → index_of e.letter ls ≡ none → after ls fs (e ∷ es) ≡ after ls fs es
 unfolding after last_of index_of
 after_skip [] fs e es h = refl
 after_skip (l ∷ ls) [] e es h = refl
@@ -126,12 +127,12 @@ after_skip (l ∷ ls) (f ∷ fs) e es h =
     let n : eqb e.letter l ≡ false = unequal l e.letter t in
     rw (n, after_skip ls fs e es (nothing_later _ (rw t at h))))
 
-replaced_later : (f : Option ℕ) (g x : Field) (fs : List Field) → replaced (later 1 f) g (x ∷ fs) ≡ x ∷ replaced f g fs
+replaced_later : (f : Option ℕ) (g x : Answer Field) (fs : List (Answer Field)) → replaced (later 1 f) g (x ∷ fs) ≡ x ∷ replaced f g fs
 replaced_later (some i) g x fs = rw one-add
 replaced_later none g x fs = refl
 
 -- an entry puts its part into the field of its letter, the others stay
-pub after_next : (ls : List ℕ) (fs : List Field) (e : Entry) (es : List Entry) → distinct ls ≡ true → length fs ≡ length ls
+pub after_next : (ls : List ℕ) (fs : List (Answer Field)) (e : Entry) (es : List Entry) → distinct ls ≡ true → length fs ≡ length ls
     → after ls fs (e ∷ es) ≡ after ls (replaced (index_of e.letter ls) (entered e) fs) es
 unfolding after last_of index_of
 after_next [] fs e es d h = refl
@@ -148,7 +149,7 @@ after_next (l ∷ ls) (f ∷ fs) e es d h =
     let n : eqb e.letter l ≡ false = unequal l e.letter t in
     rw (t, n, replaced_later, after_next ls fs e es a.1 (omega arith)))
 
-pub length_replaced : (f : Option ℕ) (g : Field) (fs : List Field) → length (replaced f g fs) ≡ length fs
+pub length_replaced : (f : Option ℕ) (g : Answer Field) (fs : List (Answer Field)) → length (replaced f g fs) ≡ length fs
 length_replaced (some i) g fs = length-set fs i g
 length_replaced none g fs = refl
 
@@ -165,12 +166,12 @@ pub unread_field : (s : List ℕ) (i len : ℕ) → i < length s → (get_or s i
 unread_field s i len h n e = unread_next s i h ∙ simp (ne_eqb _ _ n, e)
 
 -- nothing is left to enter
-pub ended : (s : List ℕ) (fs : List Field) (i : ℕ) → length fs ≡ 15 → unread s i ≡ [] → after letters fs (unread s i) ≡ fields_of s → fs ≡ fields_of s
+pub ended : (s : List ℕ) (fs : List (Answer Field)) (i : ℕ) → length fs ≡ 15 → unread s i ≡ [] → after letters fs (unread s i) ≡ fields_of s → fs ≡ fields_of s
 ended s fs i l e h = sym (after_none letters fs l) ∙ (rw e at h)
 
 -- a field is entered
-pub turn : (s : List ℕ) (fs gs : List Field) (i len : ℕ) → i < length s → (get_or s i 0 ≡ 0 → ⊥) → index_of 0 (drop (i + 1) s) ≡ some len
-    → length fs ≡ 15 → after letters fs (unread s i) ≡ fields_of s → gs ≡ replaced (index_of (get_or s i 0) letters) (record { given = true; from = i + 1; len = len }) fs
+pub turn : (s : List ℕ) (fs gs : List (Answer Field)) (i len : ℕ) → i < length s → (get_or s i 0 ≡ 0 → ⊥) → index_of 0 (drop (i + 1) s) ≡ some len
+    → length fs ≡ 15 → after letters fs (unread s i) ≡ fields_of s → gs ≡ replaced (index_of (get_or s i 0) letters) (Some (record { from = i + 1; len = len })) fs
     → (length gs ≡ 15) × (after letters gs (unread s (i + 1 + len + 1)) ≡ fields_of s)
 turn s fs gs i len h n e l inv p =
     let entry : Entry = record { letter = get_or s i 0; from = i + 1; len = len } in

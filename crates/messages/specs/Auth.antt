@@ -1,16 +1,16 @@
 -- An authentication request: PostgreSQL documentation, "Message Formats" (Authentication...): Int32, then what that code asks for. That
 -- the code is signed is 01's and the Rust's reading. SCOPE 2.8; 01, "Texts and positions".
-use Rattle.std.specs.Prelude.{List, ℕ, ◌-◌, length, ℤ, pos}
+use Rattle.std.specs.Prelude.{List, ℕ, ◌-◌, length, ℤ, pos, Result, Ok, Err}
 use Rattle.std.proofs.Math.Option.{Option, some, none}
 use Rattle.wire.specs.Int.{int_at}
 use Rattle.error.specs.Refusal.{number_of}
+use Rattle.error.specs.declared.Refusal.{Refusal}
 use Rattle.messages.specs.declared.AuthRequest.{AuthRequest}
-use Rattle.messages.specs.declared.AuthRequest.TheVariants.{Request, Refused}
 
 -- what an answer says: 01's number, 0 for none, the code, and where the rest begins and how long it is
-abbrev pub auth_outcome : AuthRequest → ℕ × ℤ × ℕ × ℕ
-auth_outcome (Request code from len) = (0, code, from, len)
-auth_outcome (Refused r) = (number_of r, pos 0, 0, 0)
+abbrev pub auth_outcome : Result AuthRequest Refusal → ℕ × ℤ × ℕ × ℕ
+auth_outcome (Ok a) = (0, a.code, a.from, a.len)
+auth_outcome (Err r) = (number_of r, pos 0, 0, 0)
 
 -- the same, by a code that may be cut: 21 under 4 bytes
 abbrev pub auth_by : ℕ → Option ℤ → ℕ × ℤ × ℕ × ℕ

@@ -1,11 +1,11 @@
 -- The text of a server error, the Rust's `to_error_string`: `{M} (SQLSTATE {C})`, `{M}`, `error (SQLSTATE {C})` or `unknown server error`, by
 -- which of the message and the code are given, each a lossy text. SCOPE 2.5; 01, "Texts and positions".
-use Rattle.std.specs.Prelude.{Bool, true, false, List, [], ◌∷◌, ◌++◌, ℕ, ◌+◌, get_or}
+use Rattle.std.specs.Prelude.{Bool, true, false, List, [], ◌∷◌, ◌++◌, ℕ, ◌+◌, get_or, Option as Answer}
 use Rattle.wire.specs.Bytes.{pick}
 use Rattle.lossy.specs.Lossy.{lossy_of}
 use Rattle.lossy.specs.Marks.{marks_of}
 use Rattle.messages.specs.declared.Field.{Field}
-use Rattle.messages.specs.Fields.{absent, named}
+use Rattle.messages.specs.Fields.{absent, is_given, named}
 
 -- " (SQLSTATE "
 abbrev pub opened : List ℕ
@@ -35,16 +35,16 @@ text_by false true m c = coded plain (lossy_of c)
 text_by false false m c = unknown
 
 -- the text of the fields of a payload: field 2 is the message (M), field 1 the code (C)
-unfoldable pub error_text : List Field → List ℕ → List ℕ
+unfoldable pub error_text : List (Answer Field) → List ℕ → List ℕ
 error_text fields payload =
-    let m : Field = get_or fields 2 absent in
-    let c : Field = get_or fields 1 absent in
-    text_by m.given c.given (named payload m) (named payload c)
+    let m : Answer Field = get_or fields 2 absent in
+    let c : Answer Field = get_or fields 1 absent in
+    text_by (is_given m) (is_given c) (named payload m) (named payload c)
 
 -- the marks of a text that is shown; a field that is not given shows none
-abbrev pub field_marks : List ℕ → Field → ℕ
-field_marks payload f = pick f.given (marks_of (named payload f)) 0
+abbrev pub field_marks : List ℕ → Answer Field → ℕ
+field_marks payload f = pick (is_given f) (marks_of (named payload f)) 0
 
 -- the marks of the text: those of the message and of the code, the only fields that it shows (02, wish 7)
-unfoldable pub error_marks : List Field → List ℕ → ℕ
+unfoldable pub error_marks : List (Answer Field) → List ℕ → ℕ
 error_marks fields payload = field_marks payload (get_or fields 2 absent) + field_marks payload (get_or fields 1 absent)

@@ -2,7 +2,7 @@
 -- A field is a letter and a string that ends in a zero byte; a zero byte where a letter is due ends the message. SCOPE 2.4; 01,
 -- "Texts and positions".
 use Rattle.std.proofs.Math.Option.{Option, some, none}
-use Rattle.std.specs.Prelude.{true, false, List, [], ◌∷◌, map, ℕ, zero, suc, ◌+◌, length, drop, get_or, set, eqb, ltb}
+use Rattle.std.specs.Prelude.{true, false, List, [], ◌∷◌, map, ℕ, zero, suc, ◌+◌, length, drop, get_or, set, eqb, ltb, Option as Answer, Some, None, Bool}
 use Rattle.wire.specs.Bytes.{pick, at}
 use Rattle.wire.specs.Find.{index_of}
 use Rattle.messages.specs.declared.Field.{Field}
@@ -31,15 +31,24 @@ unfoldable pub entries_of : List ℕ → List Entry
 entries_of payload = entries_from (length payload) 0 payload
 
 -- a field that is not given
-abbrev pub absent : Field
-absent = record { given = false; from = 0; len = 0 }
+abbrev pub absent : Answer Field
+absent = None
 
 -- the field that an entry gives
-abbrev pub entered : Entry → Field
-entered e = record { given = true; from = e.from; len = e.len }
+abbrev pub entered : Entry → Answer Field
+entered e = Some (record { from = e.from; len = e.len })
+
+abbrev pub is_given : Answer Field → Bool
+is_given (Some f) = true
+is_given None = false
+
+-- where a field begins and how long it is, 0 and 0 where it is not given
+abbrev pub part_of : Answer Field → ℕ × ℕ
+part_of (Some f) = (f.from, f.len)
+part_of None = (0, 0)
 
 -- the last entry of a letter wins
-unfoldable pub last_of : ℕ → Field → List Entry → Field
+unfoldable pub last_of : ℕ → Answer Field → List Entry → Answer Field
 last_of letter f [] = f
 last_of letter f (e ∷ es) = last_of letter (pick (eqb e.letter letter) (entered e) f) es
 
@@ -48,18 +57,18 @@ abbrev pub letters : List ℕ
 letters = 83 ∷ 67 ∷ 77 ∷ 68 ∷ 72 ∷ 80 ∷ 87 ∷ 115 ∷ 116 ∷ 99 ∷ 100 ∷ 110 ∷ 70 ∷ 76 ∷ 82 ∷ []
 
 -- the fifteen fields of a payload
-unfoldable pub fields_of : List ℕ → List Field
+unfoldable pub fields_of : List ℕ → List (Answer Field)
 fields_of payload = map (λ letter. last_of letter absent (entries_of payload)) letters
 
 -- the bytes that a field names in the payload
-abbrev pub named : List ℕ → Field → List ℕ
-named payload f = at payload f.from f.len
+abbrev pub named : List ℕ → Answer Field → List ℕ
+named payload f = at payload (part_of f).0 (part_of f).1
 
 -- the field of an index, absent from 15 on
-abbrev pub indexed : List Field → ℕ → Field
+abbrev pub indexed : List (Answer Field) → ℕ → Answer Field
 indexed fields i = pick (ltb i 15) (get_or fields i absent) absent
 
 -- the fields with that of a place replaced
-abbrev pub replaced : Option ℕ → Field → List Field → List Field
+abbrev pub replaced : Option ℕ → Answer Field → List (Answer Field) → List (Answer Field)
 replaced (some i) f fields = set fields i f
 replaced none f fields = fields

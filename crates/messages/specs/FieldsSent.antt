@@ -1,6 +1,6 @@
 -- The fifteen fields of an error by the layout of the payload: of every list of letters and values that is sent, the last value of each known
 -- letter. SCOPE 2.4; 01, "Texts and positions". The letters are those of the PostgreSQL documentation, "Error and Notice Message Fields".
-use Rattle.std.specs.Prelude.{◌≡◌, refl, List, [], ◌∷◌, ◌++◌, map, ℕ, ◌+◌, ◌≤◌, length, get_or, eqb}
+use Rattle.std.specs.Prelude.{◌≡◌, refl, List, [], ◌∷◌, ◌++◌, map, ℕ, ◌+◌, ◌≤◌, length, get_or, eqb, Option as Answer}
 use Rattle.std.proofs.Math.Option.{Option, some, none}
 use Prim.Native.Char.{code}
 use Rattle.wire.specs.Bytes.{pick}
@@ -10,7 +10,7 @@ use Rattle.utf8.specs.WellFormed.{table, row_of, matched}
 use Rattle.lossy.specs.Lossy.{lossy_of, parts_of}
 use Rattle.lossy.specs.Marks.{seen, marks_all, marks_of}
 use Rattle.messages.specs.declared.Field.{Field}
-use Rattle.messages.specs.Fields.{fields_of, entries_of, entries_from, last_of, absent, named}
+use Rattle.messages.specs.Fields.{fields_of, entries_of, entries_from, last_of, absent, is_given, part_of, named}
 use Rattle.messages.specs.FieldLayout.{encode, Sendable, Laid}
 use Rattle.messages.specs.ErrorText.{error_text, error_marks}
 
@@ -32,8 +32,8 @@ last_value letter [] = none
 last_value letter (f ∷ fs) = either (last_value letter fs) (pick (eqb f.0 letter) (some f.1) none)
 
 -- the value of a field in the payload, where it is given
-abbrev pub value_given : List ℕ → Field → Option (List ℕ)
-value_given payload f = pick f.given (some (named payload f)) none
+abbrev pub value_given : List ℕ → Answer Field → Option (List ℕ)
+value_given payload f = pick (is_given f) (some (named payload f)) none
 
 -- a payload that is laid out as letters and values gives the last value of each letter
 abbrev pub FieldsAreLaid : Type 0
@@ -47,7 +47,7 @@ FieldsAreSent = (fs : List (ℕ × List ℕ)) (surplus : List ℕ) → Sendable 
 
 -- the part that a field names lies in the payload
 abbrev pub FieldIsWithin : Type 0
-FieldIsWithin = (payload : List ℕ) (i : ℕ) → let f = get_or (fields_of payload) i absent in f.from + f.len ≤ length payload
+FieldIsWithin = (payload : List ℕ) (i : ℕ) → let p = part_of (get_or (fields_of payload) i absent) in p.0 + p.1 ≤ length payload
 
 -- ---- the text
 

@@ -1,42 +1,41 @@
 #![tactic(auto)]
 // Server messages outside the copy stream: the fields of an error, its text, authentication requests.
-ghost use Rattle.std.specs.Prelude.{◌≡◌, ◌+◌, length};
-ghost use Rattle.wire.specs.Find.{index_of, found_of};
+ghost use Rattle.std.specs.Prelude.{◌≡◌, ◌+◌, length, Some};
+ghost use Rattle.wire.specs.Answer.{maybe};
+ghost use Rattle.wire.specs.Find.{index_of};
 ghost use Rattle.error.specs.Writer.{writing};
 ghost use Rattle.lossy.specs.Lossy.{lossy_of};
 ghost use Rattle.lossy.specs.Marks.{marks_of, measured, measure_of, with_marks, lossy_outcome};
-ghost use Rattle.messages.specs.Fields.{fields_of, indexed, replaced, named, absent, letters};
+ghost use Rattle.messages.specs.Fields.{fields_of, indexed, replaced, named, letters};
 ghost use Rattle.messages.specs.FieldsSent.{fifteen};
 ghost use Rattle.messages.specs.ErrorText.{error_text, error_marks, coded};
 ghost use Rattle.messages.specs.Auth.{auth_of, auth_outcome};
 
 use error::{INPUT_LIMIT, Refusal};
-use lossy::{Lossy, Measured};
-use wire::field::I32Field;
-use wire::find::Found;
+use lossy::Lossy;
 
 // The letter of each field, at the index that the field's name stands for.
 const LETTERS: [u8; 15] = *b"SCMDHPWstcdnFLR";
 
-// A field of an error: a part of the payload, where it is given.
+// A field of an error: a part of the payload.
 #[derive(Clone, Copy)]
 pub struct Field {
-    pub given: bool,
     pub from: usize,
     pub len: usize,
 }
 
-// The fifteen fields, in the order of their letters.
+// The fifteen fields, in the order of their letters, each where it is given.
 #[derive(Clone, Copy)]
 pub struct ErrorFields {
-    pub fields: [Field; 15],
+    pub fields: [Option<Field>; 15],
 }
 
 // What an authentication request asks: its code, and a part of the payload.
 #[derive(Clone, Copy)]
-pub enum AuthRequest {
-    Request { code: i32, from: usize, len: usize },
-    Refused(Refusal),
+pub struct AuthRequest {
+    pub code: i32,
+    pub from: usize,
+    pub len: usize,
 }
 
 impl ErrorFields {
@@ -98,8 +97,7 @@ impl ErrorFields {
     pub fn parse(payload: &[u8]) -> ErrorFields
         ensures { result.fields ≡ fields_of payload.now }
     {
-        let none = absent();
-        let fields = [none; 15];
+        let fields = [None; 15];
         let mut r = ErrorFields { fields };
         let mut at: usize = 0;
         while at < payload.len() {
@@ -108,17 +106,10 @@ impl ErrorFields {
                 return r;
             }
             let from = at + 1;
-            let Found::At(len) = wire::find::find_zero(&payload[from..]) else {
+            let Some(len) = wire::find::find_zero(&payload[from..]) else {
                 return r;
             };
-            r = r.with(
-                letter,
-                Field {
-                    given: true,
-                    from,
-                    len,
-                },
-            );
+            r = r.with(letter, Field { from, len });
             at = from + len + 1;
         }
         r
@@ -126,46 +117,36 @@ impl ErrorFields {
 
     // The fields with that of the letter replaced, where it is the letter of one.
     fn with(mut self, letter: u8, f: Field) -> ErrorFields
-        ensures { result.fields ≡ replaced (index_of letter letters) f self.fields }
+        ensures { result.fields ≡ replaced (index_of letter letters) (Some f) self.fields }
     {
-        let Found::At(i) = index_of(letter) else {
+        let Some(i) = index_of(letter) else {
             return self;
         };
-        self.fields[i] = f;
+        self.fields[i] = Some(f);
         self
     }
 
     // The field of an index, absent where no field has it.
-    pub fn field(self, i: usize) -> Field
+    pub fn field(self, i: usize) -> Option<Field>
         ensures { result ≡ indexed self.fields i }
     {
         if i < 15 {
             return self.fields[i];
         }
-        absent()
-    }
-}
-
-fn absent() -> Field
-    ensures { result ≡ absent }
-{
-    Field {
-        given: false,
-        from: 0,
-        len: 0,
+        None
     }
 }
 
 // The index of a letter's field.
-fn index_of(letter: u8) -> Found
-    ensures { found_of result ≡ index_of letter letters }
+fn index_of(letter: u8) -> Option<usize>
+    ensures { maybe result ≡ index_of letter letters }
 {
     wire::find::find(&LETTERS, letter)
 }
 
 // The bytes that a field names, as far as the payload has them.
 pub fn part(payload: &[u8], f: Field) -> &[u8]
-    ensures { result.now ≡ named payload.now f }
+    ensures { result.now ≡ named payload.now (Some f) }
 {
     let from = f.from;
     let len = f.len;
@@ -179,74 +160,65 @@ pub fn part(payload: &[u8], f: Field) -> &[u8]
 }
 
 // The length of the text with the code after it, both lossy, where that is at most room, and the marks of both. 12 of the bytes are neither's.
-fn measure_coded(text: &[u8], code: &[u8], room: usize) -> Measured
+fn measure_coded(text: &[u8], code: &[u8], room: usize) -> Option<Lossy>
     ensures { measure_of result
         ≡ measured room (length (coded (lossy_of text.now) (lossy_of code.now)))
         (marks_of text.now + marks_of code.now) }
 {
-    let Measured::Fits { bytes, marks } = lossy::measure(text, room) else {
-        return Measured::Over;
-    };
-    let left = room - bytes;
+    let first = lossy::measure(text, room)?;
+    let left = room - first.bytes;
     if left < 12 {
-        return Measured::Over;
+        return None;
     }
-    match lossy::measure(code, left - 12) {
-        Measured::Fits {
-            bytes: more,
-            marks: also,
-        } => Measured::Fits {
-            bytes: bytes + 12 + more,
-            marks: marks + also,
-        },
-        Measured::Over => Measured::Over,
-    }
+    let second = lossy::measure(code, left - 12)?;
+    Some(Lossy {
+        bytes: first.bytes + 12 + second.bytes,
+        marks: first.marks + second.marks,
+    })
 }
 
 // Writes the text with the code after it, both lossy.
-fn with_code(text: &[u8], code: &[u8], out: &mut [u8]) -> Lossy
+fn with_code(text: &[u8], code: &[u8], out: &mut [u8]) -> Result<Lossy, Refusal>
     ensures { (lossy_outcome result, out.new)
         ≡ with_marks (marks_of text.now + marks_of code.now)
         (writing 0 (coded (lossy_of text.now) (lossy_of code.now)) out.old) }
 {
-    let Measured::Fits { bytes, marks } = measure_coded(text, code, out.len()) else {
-        return Lossy::Refused(Refusal::OutputTooShort);
+    let Some(length) = measure_coded(text, code, out.len()) else {
+        return Err(Refusal::OutputTooShort);
     };
     let a = lossy::place(out, 0, text);
     let b = wire::store::place(out, a, b" (SQLSTATE ");
     let c = lossy::place(out, b, code);
     wire::store::place(out, c, b")");
-    Lossy::Wrote { bytes, marks }
+    Ok(length)
 }
 
 // The text of an error, for people, and its marks.
-pub fn to_error_string(fields: ErrorFields, payload: &[u8], out: &mut [u8]) -> Lossy
+pub fn to_error_string(
+    fields: ErrorFields,
+    payload: &[u8],
+    out: &mut [u8],
+) -> Result<Lossy, Refusal>
     ensures { (lossy_outcome result, out.new)
         ≡ with_marks (error_marks fields.fields payload.now)
         (writing (length payload.now) (error_text fields.fields payload.now) out.old) }
 {
     if INPUT_LIMIT < payload.len() {
-        return Lossy::Refused(Refusal::InputTooLong);
+        return Err(Refusal::InputTooLong);
     }
-    let m = fields.fields[ErrorFields::MESSAGE];
-    let c = fields.fields[ErrorFields::CODE];
-    let code = part(payload, c);
-    if m.given {
-        let text = part(payload, m);
-        if c.given {
-            return with_code(text, code, out);
-        }
-        return lossy::write_lossy(text, out);
-    }
+    let message = fields.fields[ErrorFields::MESSAGE];
+    let code = fields.fields[ErrorFields::CODE];
     // Words in ASCII are their own lossy text.
-    if c.given {
-        return with_code(b"error", code, out);
+    match (message, code) {
+        (Some(m), Some(c)) => with_code(part(payload, m), part(payload, c), out),
+        (Some(m), None) => lossy::write_lossy(part(payload, m), out),
+        (None, Some(c)) => with_code(b"error", part(payload, c), out),
+        (None, None) => lossy::write_lossy(b"unknown server error", out),
     }
-    lossy::write_lossy(b"unknown server error", out)
 }
 
 // The text of the error that a payload holds, and its marks.
-pub fn parse_error_response(payload: &[u8], out: &mut [u8]) -> Lossy
+pub fn parse_error_response(payload: &[u8], out: &mut [u8]) -> Result<Lossy, Refusal>
     ensures { (lossy_outcome result, out.new)
         ≡ with_marks (error_marks (fields_of payload.now) payload.now)
         (writing (length payload.now) (error_text (fields_of payload.now) payload.now) out.old) }
@@ -256,17 +228,17 @@ pub fn parse_error_response(payload: &[u8], out: &mut [u8]) -> Lossy
 }
 
 // The code that a server asks for, and where the rest of its request stands.
-pub fn parse_auth_request(payload: &[u8]) -> AuthRequest
+pub fn parse_auth_request(payload: &[u8]) -> Result<AuthRequest, Refusal>
     ensures { auth_outcome result ≡ auth_of payload.now }
 {
-    let I32Field::Value(code) = wire::field::read_i32(payload, 0) else {
-        return AuthRequest::Refused(Refusal::AuthRequestTooShort);
+    let Some(code) = wire::field::read_i32(payload, 0) else {
+        return Err(Refusal::AuthRequestTooShort);
     };
-    AuthRequest::Request {
+    Ok(AuthRequest {
         code,
         from: 4,
         len: payload.len() - 4,
-    }
+    })
 }
 
 // The codes of authentication requests.

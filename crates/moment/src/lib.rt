@@ -6,7 +6,7 @@ ghost use Rattle.moment.specs.Moment.{is_before, in_range, since_of};
 // The last moment.
 pub const LAST: u64 = 9223372036854775807;
 
-#[derive(Clone, Copy)]
+#[derive(Clone, Copy, PartialEq, Eq, PartialOrd, Ord)]
 pub struct Moment(pub u64);
 
 impl Moment {
@@ -25,26 +25,20 @@ impl Moment {
     pub fn is_before(self, other: Moment) -> bool
         ensures { result ≡ is_before self other }
     {
-        self.0 < other.0
+        self < other
     }
 
     // Whether a step may be given it.
     pub fn is_in_range(self) -> bool
         ensures { result ≡ in_range self }
     {
-        if self.0 < 1 {
-            return false;
-        }
-        self.0 <= LAST
+        (1..=LAST).contains(&self.0)
     }
 
     // The nanoseconds from another moment to this one, 0 where that lies ahead.
     pub fn since(self, other: Moment) -> u64
         ensures { result ≡ since_of self other }
     {
-        if self.0 < other.0 {
-            return 0;
-        }
-        self.0 - other.0
+        self.0.saturating_sub(other.0)
     }
 }

@@ -14,7 +14,7 @@ use borrow.Author.Tests.{eqb-true, leb-true, le-leb, lt-leb}
 use Rattle.wire.specs.Bytes.{pick, at, put, placed}
 use Rattle.wire.proofs.Laws.{impossible, by_test}
 use Rattle.rows.specs.Rows.{Described, described, Row, relation, type, origin, insert, update, update_from, delete, truncate, Said, row, no_row, refused_by, row_said}
-use Rattle.rows.specs.Head.{Answer, head, head_of, answer_of}
+use Rattle.rows.specs.Head.{Answer, head, head_of, answer_of, refusal}
 use Rattle.relations.specs.Cache.{is_key, fits, first_of, judged, answered}
 use Rattle.relations.specs.Memory.{Memory, slot_in, count_at, count_in, count_held, place_of, judged_by, described_from, message_of as former_message}
 use Rattle.relations.specs.Answers.{Told, answer_as, related_of, head_judged}
@@ -160,20 +160,20 @@ module _ (held r new : ℕ) (counts words names : List ℕ) (slots next place ow
   has : lie_in room place own later new ≡ has_room_for q r new
   has = rw (ep, own_is, later_is, er)
 
-  pub made_not : false ≡ lie_in room place own later new → ((false, place), words_of words names) ≡ made_room q r new
+  pub made_not : false ≡ lie_in room place own later new → (none, words_of words names) ≡ made_room q r new
   unfolding made_room
-  made_not f = let h : has_room_for q r new ≡ false = sym has ∙ sym f in rw (h, ep)
+  made_not f = let h : has_room_for q r new ≡ false = sym has ∙ sym f in rw h
 
   moved_is : moved q r new ≡ words_of (place_slots counts next (slots - next) (place + new) words) (put names (place + new) (at names (place + own) later))
   moved_is = rw (← ep, ← own_is, ← later_is, next_is, ← es)
 
   pub made : true ≡ lie_in room place own later new → {w n : List ℕ} → n ≡ put names (place + new) (at names (place + own) later)
-      → w ≡ place_slots counts next (slots - next) (place + new) words → ((true, place), words_of w n) ≡ made_room q r new
+      → w ≡ place_slots counts next (slots - next) (place + new) words → (some place, words_of w n) ≡ made_room q r new
   unfolding made_room
   made f {w} {n} gn gw =
       let h : has_room_for q r new ≡ true = sym has ∙ sym f in
-      let x : ◌≡◌ {A = (Bool × ℕ) × Words} ((true, place), words_of w n) ((true, place), moved q r new) =
-      rw (gn, gw) (ap (λ (y : Words). ((true, place), y)) (sym moved_is)) in
+      let x : ◌≡◌ {A = Option ℕ × Words} (some place, words_of w n) (some place, moved q r new) =
+      rw (gn, gw) (ap (λ (y : Words). (some place, y)) (sym moved_is)) in
       x ∙ rw (h, ep)
 
 pub same_room : (held r new : ℕ) (ids counts : List ℕ) (c : Words) → made_room (packed held [] counts c) r new ≡ made_room (packed held ids counts c) r new
@@ -202,6 +202,14 @@ module _ (held : ℕ) (ids counts : List ℕ) (id : ℕ) (s : Words) (index : �
 
 -- ---- a Relation
 
+none_picked : (t : Bool) (x : ℕ) → none ≡ pick t (some x) none → t ≡ false
+none_picked true x h = impossible cc
+none_picked false x h = refl
+
+some_picked : (t : Bool) (x y : ℕ) → some y ≡ pick t (some x) none → (t ≡ true) × (y ≡ x)
+some_picked true x y h = (refl, cc)
+some_picked false x y h = impossible cc
+
 module _ (p : Packed) (id : ℕ) (ds : List Described) (r : ℕ) (e : r ≡ slot_in (common p) id) where
   pub kept_full : 64 ≤ r → (28, p) ≡ kept p id ds
   unfolding kept
@@ -212,31 +220,29 @@ module _ (p : Packed) (id : ℕ) (ds : List Described) (r : ℕ) (e : r ≡ slot
     unfolding kept
     kept_large f = rw (← e, lt-leb 64 r h, ← f)
 
-    module _ (f : true ≡ fits ds) {given : Bool} {place : ℕ} {c : Words} (m : ((given, place), c) ≡ made_room p r (new_lens ds)) where
-      room_told : given ≡ has_room_for p r (new_lens ds)
-      unfolding made_room
-      room_told = ap (λ (x : (Bool × ℕ) × Words). x.0.0) m
-
-      pub kept_crowded : given ≡ false → (4, packed p.held p.ids p.counts c) ≡ kept p id ds
+    module _ (f : true ≡ fits ds) {c : Words} where
+      pub kept_crowded : (none, c) ≡ made_room p r (new_lens ds) → (4, packed p.held p.ids p.counts c) ≡ kept p id ds
       unfolding kept made_room
-      kept_crowded g =
-          let b : has_room_for p r (new_lens ds) ≡ false = sym room_told ∙ g in
-          let s : c ≡ p.columns = ap (λ (x : (Bool × ℕ) × Words). x.1) m ∙ rw b in
+      kept_crowded m =
+          let b : has_room_for p r (new_lens ds) ≡ false = none_picked _ (lens_before p r) (ap (λ (x : Option ℕ × Words). x.0) m) in
+          let s : c ≡ p.columns = ap (λ (x : Option ℕ × Words). x.1) m ∙ rw b in
           rw (← e, lt-leb 64 r h, ← f, b, s)
 
-      pub kept_stored : given ≡ true → (n : ℕ) → length ds ≡ n → {h' : ℕ} {ids' counts' : List ℕ} {c' : Words} → h' ≡ max p.held (r + 1)
+      pub kept_stored : {place : ℕ} → (some place, c) ≡ made_room p r (new_lens ds) → (n : ℕ) → length ds ≡ n → {h' : ℕ} {ids' counts' : List ℕ} {c' : Words}
+          → h' ≡ max p.held (r + 1)
           → ids' ≡ set p.ids r id
           → counts' ≡ set p.counts r n → c' ≡ store_words (32 * r) place ds c → (0, packed h' ids' counts' c') ≡ kept p id ds
       unfolding kept made_room
-      kept_stored g n l eh ei ec es =
-          let b : has_room_for p r (new_lens ds) ≡ true = sym room_told ∙ g in
-          let q : place ≡ lens_before p r = ap (λ (x : (Bool × ℕ) × Words). x.0.1) m in
-          let s : c ≡ moved p r (new_lens ds) = ap (λ (x : (Bool × ℕ) × Words). x.1) m ∙ rw b in
+      kept_stored {place} m n l eh ei ec es =
+          let w = some_picked (has_room_for p r (new_lens ds)) (lens_before p r) place (ap (λ (x : Option ℕ × Words). x.0) m) in
+          let b : has_room_for p r (new_lens ds) ≡ true = w.0 in
+          let q : place ≡ lens_before p r = w.1 in
+          let s : c ≡ moved p r (new_lens ds) = ap (λ (x : Option ℕ × Words). x.1) m ∙ rw b in
           rw (← e, lt-leb 64 r h, ← f, b, eh, ei, ec, es, q, s, l, add-one r)
 
 -- ---- one message
 
-both : {a a' : Answer} {p p' : Packed} → a ≡ a' → p ≡ p' → ◌≡◌ {A = Answer × Packed} (a, p) (a', p')
+pub both : {a a' : Answer} {p p' : Packed} → a ≡ a' → p ≡ p' → ◌≡◌ {A = Answer × Packed} (a, p) (a', p')
 both e f = rw (e, f)
 
 -- a row that changes nothing
@@ -279,6 +285,15 @@ unfolding message_of former_message
 other_left p said e =
     both (ap (λ (x : Answer × Memory). x.0) (other_answered (common p) said e) ∙ ap answer_of (sym (same_answered p said e))) (left_alone p said e)
 
+-- the same of what the code reads, by the number that the cache gives
+pub read_left : (p : Packed) (said : Said) {x : Answer} → x ≡ answer_of said → none ≡ related_of x → {w : ℕ} → w ≡ head_judged (count_in (common p)) x
+    → (answer_as w x, p) ≡ message_of p said
+read_left p said e n g = rw (g, e) (other_left p said (rw e at n))
+
+-- data that are refused
+pub refused_left : (p : Packed) (said : Said) {n : ℕ} → refusal n ≡ answer_of said → (refusal n, p) ≡ message_of p said
+refused_left p said e = read_left p said e refl refl
+
 -- what a Relation is answered, by what is kept of it
 kept_answered : (p : Packed) (id : ℕ) (space v : List ℕ) (identity : ℕ) (cs : List Described)
     → (answer_as (kept p id cs).0 (head (head_of (relation id space v identity cs))), (kept p id cs).1)
@@ -300,3 +315,9 @@ relation_left s p {id} r w p' h =
     let a : w ≡ (kept p id r.described).0 = ap (λ (x : ℕ × Packed). x.0) k in
     let b : p' ≡ (kept p id r.described).1 = ap (λ (x : ℕ × Packed). x.1) k in
     rw (r.said, a, b) (kept_answered p id r.space r.name r.identity r.described)
+
+-- the same of what the code reads
+pub kept_left : (s : List ℕ) (p : Packed) {id n from : ℕ} → Relation s id n from → {x : Answer} → x ≡ answer_of (row_said s) → {w : ℕ} {p' : Packed}
+    → (w, p') ≡ kept p id (described_from s n from)
+    → (answer_as w x, p') ≡ message_of p (row_said s)
+kept_left s p r e h = rw e (relation_left s p r _ _ h)

@@ -189,9 +189,9 @@ column_told p id index =
 
 -- ---- what the inner functions say
 
--- whether there is room for so many bytes in slot r, where they begin, and the columns with that room
-unfoldable pub made_room : Packed → ℕ → ℕ → (Bool × ℕ) × Words
-made_room p r new = ((has_room_for p r new, lens_before p r), pick (has_room_for p r new) (moved p r new) p.columns)
+-- where so many bytes begin in slot r, if there is room for them, and the columns with that room
+unfoldable pub made_room : Packed → ℕ → ℕ → Option ℕ × Words
+made_room p r new = (pick (has_room_for p r new) (some (lens_before p r)) none, pick (has_room_for p r new) (moved p r new) p.columns)
 
 -- a Relation is stored, or refused: its number, and the memory after it
 unfoldable pub kept : Packed → ℕ → List Described → ℕ × Packed

@@ -10,12 +10,14 @@ pub mod words;
 
 ghost use Rattle.std.specs.Prelude.{◌≡◌, []};
 ghost use Rattle.rows.specs.Rows.{row_said};
-ghost use Rattle.relations.specs.Answers.{answer_by, count_by, column_by};
+ghost use Rattle.wire.specs.Answer.{maybe};
+ghost use Rattle.relations.specs.Answers.{answer_by, column_by};
 ghost use Rattle.relations.specs.Memory.{count_held};
 ghost use Rattle.packed_relations.specs.Packed.{packed, words_of, emptied, message_of, column_told};
 
 use relations::find::count_of;
-use relations::{Answer, Column, Count, Related, answer_of, relation_of, row_verdict};
+use relations::{Column, Refused, relation_of, row_verdict};
+use rows::Row;
 
 // No more bytes of the names are read or written.
 pub const NAMES: usize = 129024;
@@ -38,24 +40,29 @@ fn message_in(
     words: &mut [u64],
     names: &mut [u8],
     bytes: &[u8],
-) -> Answer
+) -> Result<Option<Row>, Refused>
     ensures { (answer_by result, packed held.new ids.new counts.new (words_of words.new names.new))
         ≡ message_of (packed held.old ids.old counts.old (words_of words.old names.old))
         (row_said bytes.now) }
 {
-    let r = rows::read_row(bytes);
-    let Related::Of {
-        id,
-        columns: n,
-        from,
-    } = relation_of(r)
-    else {
+    let row = rows::read_row(bytes)?;
+    let Some(relation) = relation_of(row) else {
         let before = *held;
-        let w = row_verdict(before, ids, counts, r);
-        return answer_of(w, r);
+        row_verdict(before, ids, counts, row)?;
+        return Ok(row);
     };
-    let v = store::keep(held, ids, counts, words, names, bytes, id, n, from);
-    answer_of(v, r)
+    store::keep(
+        held,
+        ids,
+        counts,
+        words,
+        names,
+        bytes,
+        relation.id,
+        relation.columns,
+        relation.from,
+    )?;
+    Ok(row)
 }
 
 // One message: its answer is what its data say, or a refusal. A Relation that is not refused is held from then on in place of the one with its
@@ -67,7 +74,7 @@ pub fn message(
     words: &mut [u64; 2048],
     names: &mut [u8],
     bytes: &[u8],
-) -> Answer
+) -> Result<Option<Row>, Refused>
     ensures { (answer_by result, packed held.new ids.new counts.new (words_of words.new names.new))
         ≡ message_of (packed held.old ids.old counts.old (words_of words.old names.old))
         (row_said bytes.now) }
@@ -76,8 +83,8 @@ pub fn message(
 }
 
 // How many columns a relation has, if it is held.
-pub fn columns_held(held: u64, ids: &[u32; 64], counts: &[u8; 64], id: u32) -> Count
-    ensures { count_by result ≡ count_held held ids.now counts.now id }
+pub fn columns_held(held: u64, ids: &[u32; 64], counts: &[u8; 64], id: u32) -> Option<usize>
+    ensures { maybe result ≡ count_held held ids.now counts.now id }
 {
     count_of(held, ids, counts, id)
 }
@@ -91,7 +98,7 @@ pub fn held_column(
     names: &[u8],
     id: u32,
     index: usize,
-) -> Column
+) -> Option<Column>
     ensures { column_by result
         ≡ column_told (packed held ids.now counts.now (words_of words.now names.now)) id index }
 {

@@ -1,31 +1,21 @@
 // Where the names lie: the lengths before a name, summed up, and the bytes and places of those that are moved.
-ghost use Rattle.std.specs.Prelude.{◌≡◌, true, ◌+◌, ◌*◌, ◌≤◌, length, set};
+ghost use Rattle.std.specs.Prelude.{◌≡◌, true, ◌+◌, ◌*◌, ◌≤◌, length};
 ghost use Rattle.wire.specs.Bytes.{at, put};
 ghost use Rattle.relations.specs.Cache.{names_fit};
 ghost use Rattle.relations.specs.Memory.{described_from};
 ghost use Rattle.packed_relations.specs.Packed.{len_of, lens_from, slot_lens, new_lens, word_at, place_words, place_slots};
 
-use crate::find::word_at;
-use relations::find::count_at;
+use relations::find::{count_at, element};
+use relations::store::set;
 use relations::{COLUMNS, NAME};
-use rows::Description;
 use rows::items::description_at;
-
-// A word is stored; outside, nothing is.
-pub(crate) fn set_long(s: &mut [u64], i: usize, v: u64)
-    ensures { s.new ≡ set s.old i v }
-{
-    if i < s.len() {
-        s[i] = v;
-    }
-}
 
 // How long the name of a word is, 63 at most.
 fn len_of(word: u64) -> usize
     ensures { result ≡ len_of word }
 {
     let c = column_word::column_in(word);
-    wire::store::least(c.name_len as usize, NAME)
+    (c.name_len as usize).min(NAME)
 }
 
 // The lengths of the names of n columns from column `first` on.
@@ -34,11 +24,9 @@ fn lens_from(words: &[u64], first: usize, n: usize) -> usize
     ensures { (result ≡ lens_from words.now first n) × (result ≤ 63 * n) }
 {
     let mut sum: usize = 0;
-    let mut k: usize = 0;
-    while k < n {
-        let word = word_at(words, first + k);
+    for k in 0..n {
+        let word = element(words, first + k, 0);
         sum += len_of(word);
-        k += 1;
     }
     sum
 }
@@ -49,12 +37,10 @@ pub(crate) fn slot_lens(counts: &[u8], words: &[u64], first: usize, n: usize) ->
     ensures { (result ≡ slot_lens counts.now words.now first n) × (result ≤ 2016 * n) }
 {
     let mut sum: usize = 0;
-    let mut k: usize = 0;
-    while k < n {
+    for k in 0..n {
         let slot = first + k;
         let count = count_at(counts, slot);
         sum += lens_from(words, COLUMNS * slot, count);
-        k += 1;
     }
     sum
 }
@@ -66,15 +52,12 @@ pub(crate) fn new_lens(bytes: &[u8], from: usize, n: usize) -> usize
 {
     let mut sum: usize = 0;
     let mut at = from;
-    let mut k: usize = 0;
-    while k < n {
-        let d = description_at(bytes, at);
-        let Description::Of { name, next, .. } = d else {
+    for _ in 0..n {
+        let Ok((description, next)) = description_at(bytes, at) else {
             return sum;
         };
-        sum += name.len;
+        sum += description.name.len;
         at = next;
-        k += 1;
     }
     sum
 }
@@ -100,13 +83,11 @@ fn place_words(words: &mut [u64], first: usize, n: usize, place: usize) -> usize
         × (result ≡ place + lens_from words.old first n) × (result ≤ place + 63 * n) }
 {
     let mut at = place;
-    let mut k: usize = 0;
-    while k < n {
-        let word = word_at(words, first + k);
+    for k in 0..n {
+        let word = element(words, first + k, 0);
         let moved = placed_word(word, at);
-        set_long(words, first + k, moved);
+        set(words, first + k, moved);
         at += len_of(word);
-        k += 1;
     }
     at
 }
@@ -117,12 +98,10 @@ pub(crate) fn place_slots(counts: &[u8], words: &mut [u64], first: usize, n: usi
     ensures { words.new ≡ place_slots counts.now first n place words.old }
 {
     let mut at = place;
-    let mut k: usize = 0;
-    while k < n {
+    for k in 0..n {
         let slot = first + k;
         let count = count_at(counts, slot);
         at = place_words(words, COLUMNS * slot, count, at);
-        k += 1;
     }
 }
 
@@ -131,10 +110,8 @@ fn move_down(names: &mut [u8], from: usize, to: usize, n: usize)
     requires { (to ≤ from) × (from + n ≤ length names.old) }
     ensures { names.new ≡ put names.old to (at names.old from n) }
 {
-    let mut k: usize = 0;
-    while k < n {
+    for k in 0..n {
         names[to + k] = names[from + k];
-        k += 1;
     }
 }
 
@@ -143,9 +120,7 @@ fn move_up(names: &mut [u8], from: usize, to: usize, n: usize)
     requires { (from ≤ to) × (to + n ≤ length names.old) }
     ensures { names.new ≡ put names.old to (at names.old from n) }
 {
-    let mut k = n;
-    while 0 < k {
-        k -= 1;
+    for k in (0..n).rev() {
         names[to + k] = names[from + k];
     }
 }

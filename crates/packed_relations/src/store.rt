@@ -1,6 +1,7 @@
 // A Relation's columns, stored as words.
 ghost use Rattle.std.specs.Prelude.{◌≡◌, true, [], ◌+◌, ◌*◌, ◌<◌, ◌≤◌, length};
 ghost use Rattle.wire.specs.Bytes.{at};
+ghost use Rattle.wire.specs.Answer.{maybe, value_of};
 ghost use Rattle.relations.specs.Cache.{names_fit, fits, is_key};
 ghost use Rattle.relations.specs.Memory.{described_from};
 ghost use Rattle.relations.specs.Answers.{verdict_by};
@@ -8,13 +9,12 @@ ghost use Rattle.column_word.specs.Word.{word_of};
 ghost use Rattle.packed_relations.specs.Packed.{packed, words_of, word_column, lie_in, made_room, store_word, store_words, kept};
 
 use crate::NAMES;
-use crate::names::{move_names, new_lens, place_slots, set_long, slot_lens};
+use crate::names::{move_names, new_lens, place_slots, slot_lens};
 use relations::find::{is_key, slot_of};
-use relations::store::{most, names_fit, set_byte, set_word};
-use relations::{COLUMNS, RELATIONS, Refusal, Verdict};
+use relations::store::{names_fit, set};
+use relations::{COLUMNS, RELATIONS, Refusal};
+use rows::Description;
 use rows::items::description_at;
-use rows::{Description, Part};
-use wire::store::least;
 
 // Whether the n descriptions from a place on are 32 at most, with names of 63 bytes at most.
 fn fit(bytes: &[u8], from: usize, n: usize) -> bool
@@ -48,18 +48,16 @@ fn store_word(
     i: usize,
     place: usize,
     bytes: &[u8],
-    flag: u8,
-    name: Part,
-    oid: u32,
+    d: Description,
 )
-    requires { (place ≤ 16777216) × (name.from + name.len ≤ length bytes.now) × (name.len ≤ 63) }
+    requires { (place ≤ 16777216) × (d.name.from + d.name.len ≤ length bytes.now) × (d.name.len ≤ 63) }
     ensures { words_of words.new names.new
-        ≡ store_word i place flag (at bytes.now name.from name.len) oid (words_of words.old names.old) }
+        ≡ store_word i place d.flags (at bytes.now d.name.from d.name.len) d.oid (words_of words.old names.old) }
 {
-    let word = word_for(flag, oid, name.len, place);
-    set_long(words, i, word);
-    let from = name.from;
-    let end = from + name.len;
+    let word = word_for(d.flags, d.oid, d.name.len, place);
+    set(words, i, word);
+    let from = d.name.from;
+    let end = from + d.name.len;
     wire::store::place(names, place, &bytes[from..end]);
 }
 
@@ -79,31 +77,14 @@ fn store_words(
 {
     let mut to = place;
     let mut at = from;
-    let mut k: usize = 0;
-    while k < n {
-        let d = description_at(bytes, at);
-        let Description::Of {
-            flags: flag,
-            name,
-            oid,
-            modifier: _,
-            next,
-        } = d
-        else {
+    for k in 0..n {
+        let Ok((description, next)) = description_at(bytes, at) else {
             return;
         };
-        store_word(words, names, first + k, to, bytes, flag, name, oid);
-        to += name.len;
+        store_word(words, names, first + k, to, bytes, description);
+        to += description.name.len;
         at = next;
-        k += 1;
     }
-}
-
-// Whether there is room for the names of a slot, and where they begin.
-#[derive(Clone, Copy)]
-struct Room {
-    given: bool,
-    place: usize,
 }
 
 // Whether the names lie in so many bytes: those in slots before one, its own and those in later slots, and the same with a new length of its own.
@@ -117,7 +98,7 @@ fn lie_in(room: usize, before: usize, own: usize, later: usize, new: usize) -> b
     before + new + later <= room
 }
 
-// The names of later slots make room for so many bytes in a slot, where there are so many; else nothing is altered.
+// The names of later slots make room for so many bytes in a slot, where there are so many; else nothing is altered. Where its names begin.
 fn make_room(
     held: u64,
     counts: &[u8],
@@ -125,26 +106,23 @@ fn make_room(
     names: &mut [u8],
     slot: usize,
     new: usize,
-) -> Room
+) -> Option<usize>
     requires { (slot < 64) × (slot ≤ held) × (new ≤ 2016) }
-    ensures { (((result.given, result.place), words_of words.new names.new)
-        ≡ made_room (packed held [] counts.now (words_of words.old names.old)) slot new) × (result.place ≤ 129024) }
+    ensures { ((maybe result, words_of words.new names.new)
+        ≡ made_room (packed held [] counts.now (words_of words.old names.old)) slot new) × (value_of result ≤ 129024) }
 {
-    let slots = least(held as usize, RELATIONS);
-    let next = least(slot + 1, slots);
+    let slots = (held as usize).min(RELATIONS);
+    let next = (slot + 1).min(slots);
     let place = slot_lens(counts, words, 0, slot);
     let own = slot_lens(counts, words, slot, next - slot);
     let later = slot_lens(counts, words, next, slots - next);
-    let room = least(names.len(), NAMES);
+    let room = names.len().min(NAMES);
     if !lie_in(room, place, own, later, new) {
-        return Room {
-            given: false,
-            place,
-        };
+        return None;
     }
     move_names(names, place + own, place + new, later);
     place_slots(counts, words, next, slots - next, place + new);
-    Room { given: true, place }
+    Some(place)
 }
 
 // A Relation is stored, or refused.
@@ -158,7 +136,7 @@ pub(crate) fn keep(
     id: u32,
     n: usize,
     from: usize,
-) -> Verdict
+) -> Result<(), Refusal>
     requires { length (described_from bytes.now n from) ≡ n }
     ensures { (verdict_by result, packed held.new ids.new counts.new (words_of words.new names.new))
         ≡ kept (packed held.old ids.old counts.old (words_of words.old names.old))
@@ -167,19 +145,18 @@ pub(crate) fn keep(
     let before = *held;
     let slot = slot_of(before, ids, id);
     if RELATIONS <= slot {
-        return Verdict::Refused(Refusal::CacheFull);
+        return Err(Refusal::CacheFull);
     }
     if !fit(bytes, from, n) {
-        return Verdict::Refused(Refusal::TooLarge);
+        return Err(Refusal::TooLarge);
     }
     let new = new_lens(bytes, from, n);
-    let room = make_room(before, counts, words, names, slot, new);
-    if !room.given {
-        return Verdict::Refused(Refusal::NoRoom);
-    }
-    store_words(words, names, COLUMNS * slot, room.place, bytes, from, n);
-    set_word(ids, slot, id);
-    set_byte(counts, slot, n as u8);
-    *held = most(before, slot as u64 + 1);
-    Verdict::Accepted
+    let Some(place) = make_room(before, counts, words, names, slot, new) else {
+        return Err(Refusal::NoRoom);
+    };
+    store_words(words, names, COLUMNS * slot, place, bytes, from, n);
+    set(ids, slot, id);
+    set(counts, slot, n as u8);
+    *held = before.max(slot as u64 + 1);
+    Ok(())
 }

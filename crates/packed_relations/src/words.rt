@@ -1,12 +1,14 @@
 // What a relation cache answers, as words of 64 bits. SCOPE 9.10. The words have names in layout.rt.
 ghost use Rattle.std.specs.Prelude.{◌≡◌};
 ghost use Rattle.rows.specs.Words.{row_reply};
-ghost use Rattle.relations.specs.Answers.{answer_by, count_by, column_by};
+ghost use Rattle.wire.specs.Answer.{maybe};
+ghost use Rattle.relations.specs.Answers.{answer_by, column_by};
 ghost use Rattle.packed_relations.specs.Packed.{packed, words_of};
 ghost use Rattle.packed_relations.specs.Words.{count_reply, column_words, message_call, column_call};
 
 use crate::{held_column, layout, message};
-use relations::{Answer, Column, Count};
+use relations::{Column, Refused};
+use rows::Row;
 use rows::words::{RowReply, no_head, row_reply};
 use wire::word::flag;
 
@@ -18,42 +20,42 @@ pub struct CountReply {
 }
 
 // A message's answer: the words of a row's head, or the number of a refusal.
-pub fn answer_reply(answer: Answer) -> RowReply
+pub fn answer_reply(answer: Result<Option<Row>, Refused>) -> RowReply
     ensures { (result.refusal, result.words) ≡ row_reply (answer_by answer) }
 {
     match answer {
-        Answer::Read(row) => row_reply(row),
-        Answer::Refused(r) => no_head(r.number() as u64),
+        Ok(row) => row_reply(Ok(row)),
+        Err(r) => no_head(r.number() as u64),
     }
 }
 
-pub fn count_reply(count: Count) -> CountReply
-    ensures { (result.held, result.columns) ≡ count_reply (count_by count) }
+pub fn count_reply(count: Option<usize>) -> CountReply
+    ensures { (result.held, result.columns) ≡ count_reply (maybe count) }
 {
     match count {
-        Count::Columns(n) => CountReply {
+        Some(n) => CountReply {
             held: 1,
             columns: n as u64,
         },
-        Count::NotHeld => CountReply {
+        None => CountReply {
             held: 0,
             columns: 0,
         },
     }
 }
 
-pub fn column_words(column: Column) -> [u64; layout::CACHE_COLUMN_WORDS]
+pub fn column_words(column: Option<Column>) -> [u64; layout::CACHE_COLUMN_WORDS]
     ensures { result ≡ column_words (column_by column) }
 {
     match column {
-        Column::Of { name, key, oid } => [
+        Some(c) => [
             1,
-            name.from as u64,
-            name.len as u64,
-            flag(key),
-            oid as u64,
+            c.name.from as u64,
+            c.name.len as u64,
+            flag(c.key),
+            c.oid as u64,
         ],
-        Column::Absent => [0, 0, 0, 0, 0],
+        None => [0, 0, 0, 0, 0],
     }
 }
 

@@ -1,5 +1,6 @@
 -- Pages and state names, character by character. 02, wish 9.
-use Rattle.std.specs.Prelude.{◌≡◌, refl, Bool, true, false, List, [], ◌∷◌, ◌++◌, ℕ}
+use Rattle.std.specs.Prelude.{◌≡◌, refl, Bool, true, false, Some, None, List, [], ◌∷◌, ◌++◌, ℕ}
+use Rattle.wire.specs.Bytes.{pick}
 use Rattle.text.specs.Ascii.{ascii}
 use Rattle.text.specs.Numeral.{numeral}
 use Rattle.lsn.specs.Position.{display_of}
@@ -10,8 +11,7 @@ abbrev pub page : ℕ → Bool → ℕ → ℕ → ℕ → ℕ → ℕ → Page
 page position sent confirmed server events stalls state =
     record {
       position = record { 0 = position };
-      sent = sent;
-      confirmed = record { 0 = confirmed };
+      confirmed = pick sent (Some (record { 0 = confirmed })) None;
       server = record { 0 = server };
       events = events;
       stalls = stalls;

@@ -1,5 +1,5 @@
 -- What the fields of a message say where they are not cut, and the refusal where one is.
-use mathlib.Core.Path.{◌≡◌, refl, sym, ◌∙◌}
+use mathlib.Core.Path.{◌≡◌, refl, sym, ap, ◌∙◌}
 use mathlib.Core.Bool.{Bool}
 use mathlib.Core.List.{List, [], ◌∷◌}
 use mathlib.Core.Option.{some}
@@ -15,7 +15,12 @@ use Rattle.wire.specs.Field.{field_at}
 use Rattle.wire.specs.Int.{half, int_at}
 use Rattle.wire.specs.Find.{index_of}
 use Rattle.wire.proofs.FindLaws.{found_below}
-use Rattle.pgoutput.specs.Boundary.{Said, begin, commit, message, no_boundary, begin_at, commit_at, message_at, boundary_of}
+use Rattle.std.specs.Prelude.{Result, Option as Maybe, Err, IsErrAnd}
+use Rattle.std.proofs.lemmas.Result.{err_from_is_err_and}
+use Rattle.error.specs.Refusal.{number_of}
+use Rattle.error.specs.declared.Refusal.{Refusal}
+use Rattle.pgoutput.specs.declared.Boundary.{Boundary}
+use Rattle.pgoutput.specs.Boundary.{Said, begin, commit, message, no_boundary, refused, said_by, begin_at, commit_at, message_at, boundary_of}
 
 module _ (s : List ℕ) (i : ℕ) where
   pub begin_values : (a : ℕ) (z : ℤ) (x : ℕ) → field_at 8 s i ≡ some a → int_at 8 s (i + 8) ≡ some z → field_at 4 s (i + 16) ≡ some x → begin_at s i ≡ begin a z x
@@ -48,6 +53,10 @@ over_count s from i n e h = rw e (skipped_within s i (n + 5) (omega arith) ∙ o
 -- the same message by equal places
 pub message_same : {flag : Bool} {a n len from content i j : ℕ} {x : Said} → from ≡ i → content ≡ j → x ≡ message flag a i n j len → message flag a from n content len ≡ x
 message_same {flag} {a} {n} {len} {from} {content} {i} {j} {x} e f h = rw (e, f) (sym h)
+
+-- a refusal that is handed on says what it said
+pub handed_on : {x : Said} (r : Result (Maybe Boundary) Refusal) (e : Refusal) → IsErrAnd r (λ y. y ≡ e) → refused (number_of e) ≡ x → said_by r ≡ x
+handed_on r e h p = let q = err_from_is_err_and r h in ap said_by (q.1 ∙ ap Err q.2) ∙ p
 
 -- ---- by the letter
 

@@ -1,15 +1,17 @@
 -- The boundaries of a transaction: PostgreSQL documentation, "Logical Replication Message Formats" (Begin, Commit, Message), protocol
 -- version 1; SCOPE 3.9. Fields are read in their order; the first that is cut gives the refusal: 14 of 8 bits, 15 of 32, 16 of 64, 17 a prefix
 -- without a zero byte, 18 a content that is short or whose length is negative.
-use Rattle.std.specs.Prelude.{ℕ, ◌+◌, ◌-◌, ◌%◌, Bool, List, [], ◌∷◌, ◌++◌, length, drop, ℤ, ltb, eqb}
+use Rattle.std.specs.Prelude.{ℕ, ◌+◌, ◌-◌, ◌%◌, Bool, List, [], ◌∷◌, ◌++◌, length, drop, ℤ, ltb, eqb, Result, Ok, Err, Some, None}
+use Rattle.std.specs.Prelude.{Option as Maybe}
 use Rattle.std.proofs.Math.Option.{Option, some, none}
 use Rattle.wire.specs.Bytes.{pick, be_bytes}
 use Rattle.wire.specs.Field.{field_at}
 use Rattle.wire.specs.Int.{is_negative, int_at, int_bytes}
 use Rattle.wire.specs.Find.{index_of}
 use Rattle.error.specs.Refusal.{number_of}
+use Rattle.error.specs.declared.Refusal.{Refusal}
 use Rattle.pgoutput.specs.declared.Boundary.{Boundary}
-use Rattle.pgoutput.specs.declared.Boundary.TheVariants.{Begin, Commit, Message, NotBoundary, Refused}
+use Rattle.pgoutput.specs.declared.Boundary.TheVariants.{Begin, Commit, Message}
 
 -- the values: Begin's final position, time and xid; Commit's position, end and time; Message's flag, position, and where prefix and
 -- content begin in the data and how long they are; no boundary; or the refusal's number
@@ -71,13 +73,20 @@ boundary_of (letter ∷ s) =
     (pick (eqb letter 77) (message_at (letter ∷ s) 1)
     no_boundary))
 
--- what an answer of the code says
-abbrev pub said_by : Boundary → Said
-said_by (Begin final time xid) = begin final.0 time xid
-said_by (Commit position end time) = commit position.0 end.0 time
-said_by (Message flag position pf pl cf cl) = message flag position.0 pf pl cf cl
-said_by NotBoundary = no_boundary
-said_by (Refused r) = refused (number_of r)
+-- the values of a boundary; what an answer of the code says where the letter is a boundary's, and where it may be none
+abbrev pub values : Boundary → Said
+values (Begin final time xid) = begin final.0 time xid
+values (Commit position end time) = commit position.0 end.0 time
+values (Message flag position pf pl cf cl) = message flag position.0 pf pl cf cl
+
+abbrev pub read_by : Result Boundary Refusal → Said
+read_by (Ok b) = values b
+read_by (Err r) = refused (number_of r)
+
+abbrev pub said_by : Result (Maybe Boundary) Refusal → Said
+said_by (Ok None) = no_boundary
+said_by (Ok (Some b)) = values b
+said_by (Err r) = refused (number_of r)
 
 -- the bytes of each message
 unfoldable pub begin_bytes : ℕ → ℤ → ℕ → List ℕ

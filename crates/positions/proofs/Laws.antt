@@ -1,9 +1,9 @@
 -- Laws of the lines that are printed.
 use mathlib.Core.Path.{◌≡◌, sym, ap, ◌∙◌}
 use mathlib.Core.List.{List, [], ◌∷◌}
-use Prim.Native.Nat.{ℕ, ◌-◌, min, ◌≤◌, ◌<◌}
+use Prim.Native.Nat.{ℕ, min, ◌≤◌, ◌<◌}
 use native.Mathlib.Omega.{arith}
-use lib.ListN.{length, take, drop}
+use lib.ListN.{length, take}
 use lib.Seq.{take_all}
 use lib.Dec.{leb}
 use borrow.Author.Tests.{ne_eqb, leb-true, leb-false}
@@ -23,15 +23,15 @@ unfolding shown_of
 shown_refused s r e = ap (λ (o : ℕ × ℕ). outcome_texts o s) e ∙ simp (ne_eqb _ _ (numbered r))
 
 -- as many of the held bytes as there are
-pub held_bytes : (l : List ℕ) (n m : ℕ) → m ≡ min n (length l) → take (m - 0) (drop 0 l) ≡ take n l
+pub held_bytes : (l : List ℕ) (n m : ℕ) → m ≡ min n (length l) → take m l ≡ take n l
 held_bytes l n m e =
     by_test (leb n (length l))
     (λ t.
     let h : n ≤ length l = leb-true _ _ t in
-    let q : m - 0 ≡ n = omega arith in
+    let q : m ≡ n = omega arith in
     rw q)
     (λ t.
     let h : length l < n = leb-false _ _ t in
-    let p : length l ≤ m - 0 = omega arith in
+    let p : length l ≤ m = omega arith in
     let q : length l ≤ n = omega arith in
-    take_all (m - 0) l p ∙ sym (take_all n l q))
+    take_all m l p ∙ sym (take_all n l q))

@@ -16,7 +16,7 @@ use Rattle.lsn.specs.Hex.{digit_of, value_from, hex_part}
 use Rattle.lsn.specs.Position.{joined, position_of, display_of}
 use Rattle.lsn.proofs.Spelled.{spelled_laws}
 use Rattle.test_lines.specs.Line.{end_texts}
-use Rattle.positions.specs.declared.stored.Held.{Held}
+use Rattle.std.proofs.Common.{Some, None}
 use Rattle.positions.specs.Stored.{shown_of, end_texts_of, fresh, turn_texts, turn_held, turn_line, last_texts}
 use Rattle.positions.specs.Printed.{lines_from, line_text, printed_of, written, turns_print, TurnsPrintLines, PrintedCases}
 
@@ -60,34 +60,31 @@ line_ends t rest h =
 -- ---- what a state stands for
 
 -- the line so far is held whole
-record Short (h : Held) (line t : List ℕ) : Type 0 where
-  not_long : h.long ≡ false
-  count : h.n ≡ length t
+record Short (n : ℕ) (line t : List ℕ) : Type 0 where
+  count : n ≡ length t
   fits : length t ≤ 255
-  bytes : take h.n line ≡ t
+  bytes : take n line ≡ t
   room : length line ≡ 255
 
 -- it has more bytes, and all were printed
-record Long (h : Held) (line t : List ℕ) : Type 0 where
-  is_long : h.long ≡ true
+record Long (line t : List ℕ) : Type 0 where
   more : 255 < length t
   room : length line ≡ 255
 
-first : (line : List ℕ) → length line ≡ 255 → Short fresh line []
-first line e = record { not_long = refl; count = refl; fits = omega arith; bytes = refl; room = e }
+first : (line : List ℕ) → length line ≡ 255 → Short 0 line []
+first line e = record { count = refl; fits = omega arith; bytes = refl; room = e }
 
 one_more : (t : List ℕ) (b : ℕ) → length (t ++ (b ∷ [])) ≡ length t + 1
 one_more t b = simp length-append
 
 -- a byte that is held
-held : (h : Held) (line t : List ℕ) (b : ℕ) → Short h line t → length t < 255 → Short (record { n = h.n + 1; long = false }) (set line h.n b) (t ++ (b ∷ []))
-held h line t b x l =
-    let i : h.n < length line = omega (arith, x.count, x.room) in
+held : (n : ℕ) (line t : List ℕ) (b : ℕ) → Short n line t → length t < 255 → Short (n + 1) (set line n b) (t ++ (b ∷ []))
+held n line t b x l =
+    let i : n < length line = omega (arith, x.count, x.room) in
     record {
-      not_long = refl;
-      count = ap (λ (n : ℕ). n + 1) x.count ∙ sym (one_more t b);
+      count = ap (λ (k : ℕ). k + 1) x.count ∙ sym (one_more t b);
       fits = omega (arith, one_more t b);
-      bytes = rw add-one (take-suc-set line h.n b i ∙ ap (λ (s : List ℕ). s ++ (b ∷ [])) x.bytes);
+      bytes = rw add-one (take-suc-set line n b i ∙ ap (λ (s : List ℕ). s ++ (b ∷ [])) x.bytes);
       room = simp length-set x.room;
     }
 
@@ -96,64 +93,64 @@ held h line t b x l =
 -- what is owed of the bytes s
 Prints : List ℕ → Type 0
 Prints s =
-    ((h : Held) (line t : List ℕ) → Short h line t → turns_print h line s ≡ printed_of (lines_from t s))
-    × ((h : Held) (line t : List ℕ) → Long h line t → line_text t ++ turns_print h line s ≡ printed_of (lines_from t s))
+    ((n : ℕ) (line t : List ℕ) → Short n line t → turns_print (Some n) line s ≡ printed_of (lines_from t s))
+    × ((line t : List ℕ) → Long line t → line_text t ++ turns_print None line s ≡ printed_of (lines_from t s))
 
-short_end : (h : Held) (line t : List ℕ) → Short h line t → turns_print h line [] ≡ printed_of (lines_from t [])
+short_end : (n : ℕ) (line t : List ℕ) → Short n line t → turns_print (Some n) line [] ≡ printed_of (lines_from t [])
 unfolding turns_print lines_from printed_of last_texts end_texts_of written
-short_end h line t x =
+short_end n line t x =
     by_test (eqb (length t) 0)
     (λ e.
-    let n : eqb h.n 0 ≡ true = ap (λ (k : ℕ). eqb k 0) x.count ∙ e in
-    simp (x.not_long, n, e))
+    let z : eqb n 0 ≡ true = ap (λ (k : ℕ). eqb k 0) x.count ∙ e in
+    simp (z, e))
     (λ e.
-    let n : eqb h.n 0 ≡ false = ap (λ (k : ℕ). eqb k 0) x.count ∙ e in
-    simp (x.not_long, n, e, x.bytes) (sym (append-nil (written (shown_of t ++ end_texts))) ∙ line_ends t [] x.fits))
+    let z : eqb n 0 ≡ false = ap (λ (k : ℕ). eqb k 0) x.count ∙ e in
+    simp (z, e, x.bytes) (sym (append-nil (written (shown_of t ++ end_texts))) ∙ line_ends t [] x.fits))
 
-long_end : (h : Held) (line t : List ℕ) → Long h line t → line_text t ++ turns_print h line [] ≡ printed_of (lines_from t [])
+long_end : (line t : List ℕ) → Long line t → line_text t ++ turns_print None line [] ≡ printed_of (lines_from t [])
 unfolding turns_print lines_from printed_of last_texts written
-long_end h line t x =
+long_end line t x =
     let n : length t ≡ 0 → ⊥ = λ e. omega (arith, x.more) in
-    simp (x.is_long, ne_eqb _ _ n)
+    simp (ne_eqb _ _ n)
 
 module _ (b : ℕ) (s : List ℕ) (rest : Prints s) where
-  short_turn : (h : Held) (line t : List ℕ) → Short h line t → turns_print h line (b ∷ s) ≡ printed_of (lines_from t (b ∷ s))
+  short_turn : (n : ℕ) (line t : List ℕ) → Short n line t → turns_print (Some n) line (b ∷ s) ≡ printed_of (lines_from t (b ∷ s))
   unfolding Prints turns_print turn_texts turn_held turn_line lines_from printed_of end_texts_of written
-  short_turn h line t x =
+  short_turn n line t x =
       by_test (eqb b 10)
       (λ e.
-      simp (e, x.not_long, x.bytes)
-      (line_ends t (turns_print fresh line s) x.fits ∙ ap (λ (r : List ℕ). line_text t ++ (10 ∷ r)) (rest.0 fresh line [] (first line x.room))))
+      simp (e, x.bytes)
+      (line_ends t (turns_print fresh line s) x.fits ∙ ap (λ (r : List ℕ). line_text t ++ (10 ∷ r)) (rest.0 0 line [] (first line x.room))))
       (λ e.
-      by_test (ltb h.n (length line))
+      by_test (ltb n (length line))
       (λ u.
-      let k : h.n < length line = ltb-true _ _ u in
+      let k : n < length line = ltb-true _ _ u in
       let l : length t < 255 = omega (arith, x.count, x.room) in
-      simp (e, x.not_long, u)
-      (rest.0 (record { n = h.n + 1; long = false }) (set line h.n b) (t ++ (b ∷ [])) (held h line t b x l)))
+      simp (e, u)
+      (rest.0 (n + 1) (set line n b) (t ++ (b ∷ [])) (held n line t b x l)))
       (λ u.
-      let k : length line ≤ h.n = ltb-false _ _ u in
+      let k : length line ≤ n = ltb-false _ _ u in
       let l : length t ≡ 255 = omega (arith, x.count, x.room, x.fits) in
-      let all : line ≡ t = sym (take_all h.n line k) ∙ x.bytes in
+      let all : line ≡ t = sym (take_all n line k) ∙ x.bytes in
       let m : 255 < length (t ++ (b ∷ [])) = omega (arith, one_more t b) in
       let shown : written (shown_of line ++ ((b ∷ []) ∷ [])) ≡ line_text (t ++ (b ∷ [])) = written_append (shown_of line) ((b ∷ []) ∷ [])
       ∙ ap (λ (y : List ℕ). y ++ (b ∷ [])) (ap (λ (y : List ℕ). written (shown_of y)) all ∙ shown_line t x.fits)
       ∙ sym (longer_line t b (omega arith)) in
-      simp (e, x.not_long, u)
-      (ap (λ (y : List ℕ). y ++ turns_print (record { n = h.n; long = true }) line s) shown
-      ∙ rest.1 (record { n = h.n; long = true }) line (t ++ (b ∷ [])) (record { is_long = refl; more = m; room = x.room }))))
+      simp (e, u)
+      (ap (λ (y : List ℕ). y ++ turns_print None line s) shown
+      ∙ rest.1 line (t ++ (b ∷ [])) (record { more = m; room = x.room }))))
 
-  long_turn : (h : Held) (line t : List ℕ) → Long h line t → line_text t ++ turns_print h line (b ∷ s) ≡ printed_of (lines_from t (b ∷ s))
+  long_turn : (line t : List ℕ) → Long line t → line_text t ++ turns_print None line (b ∷ s) ≡ printed_of (lines_from t (b ∷ s))
   unfolding Prints turns_print turn_texts turn_held turn_line lines_from printed_of end_texts_of written
-  long_turn h line t x =
+  long_turn line t x =
       by_test (eqb b 10)
-      (λ e. simp (e, x.is_long) (ap (λ (r : List ℕ). line_text t ++ (10 ∷ r)) (rest.0 fresh line [] (first line x.room))))
+      (λ e. simp e (ap (λ (r : List ℕ). line_text t ++ (10 ∷ r)) (rest.0 0 line [] (first line x.room))))
       (λ e.
       let m : 255 < length (t ++ (b ∷ [])) = omega (arith, one_more t b, x.more) in
-      simp (e, x.is_long)
-      (sym (append_assoc (line_text t) (b ∷ []) (turns_print h line s))
-      ∙ ap (λ (y : List ℕ). y ++ turns_print h line s) (sym (longer_line t b (omega (arith, x.more))))
-      ∙ rest.1 h line (t ++ (b ∷ [])) (record { is_long = x.is_long; more = m; room = x.room })))
+      simp e
+      (sym (append_assoc (line_text t) (b ∷ []) (turns_print None line s))
+      ∙ ap (λ (y : List ℕ). y ++ turns_print None line s) (sym (longer_line t b (omega (arith, x.more))))
+      ∙ rest.1 line (t ++ (b ∷ [])) (record { more = m; room = x.room })))
 
 prints : (s : List ℕ) → Prints s
 unfolding Prints
@@ -162,7 +159,7 @@ prints (b ∷ s) = (short_turn b s (prints s), long_turn b s (prints s))
 
 pub turns_print_lines : TurnsPrintLines
 unfolding Prints
-turns_print_lines line s e = (prints s).0 fresh line [] (first line e)
+turns_print_lines line s e = (prints s).0 0 line [] (first line e)
 
 pub printed_cases : PrintedCases
 unfolding lines_from line_text printed_of position_of index_of digit_of value_from hex_part joined display_of numeral

@@ -3,8 +3,7 @@ use Rattle.std.specs.Prelude.{◌≡◌, List, [], ◌∷◌, ◌++◌, ℕ, len
 use Rattle.wire.specs.Bytes.{pick}
 use Rattle.text.specs.Numeral.{decimal_text}
 use Rattle.lsn.specs.Position.{position_of, display_of}
-use Rattle.positions.specs.declared.stored.Held.{Held}
-use Rattle.positions.specs.Stored.{fresh, turn_texts, turn_held, turn_line, last_texts}
+use Rattle.positions.specs.Stored.{Held, fresh, turn_texts, turn_held, turn_line, last_texts}
 
 -- the lines of a file of which `held` came before: what stands before each line feed, and what stands after the last one, where that is anything
 unfoldable pub lines_from : List ℕ → List ℕ → List (List ℕ)

@@ -1,10 +1,9 @@
 -- Stored positions, one a line, and what is printed of them. SCOPE 11.6; 02, wish 6.
-use Rattle.std.specs.Prelude.{ℕ, ◌+◌, true, false, List, [], ◌∷◌, ◌++◌, length, take, set, ltb, eqb}
+use Rattle.std.specs.Prelude.{ℕ, ◌+◌, List, [], ◌∷◌, ◌++◌, length, take, set, ltb, eqb, Option, Some, None}
 use Rattle.wire.specs.Bytes.{pick}
 use Rattle.text.specs.Numeral.{decimal_text}
 use Rattle.lsn.specs.Position.{position_of, display_of}
 use Rattle.test_lines.specs.Line.{end_texts}
-use Rattle.positions.specs.declared.stored.Held.{Held}
 
 -- a refusal's number, a space and the line as stored
 abbrev pub refused_texts : ℕ → List ℕ → List (List ℕ)
@@ -20,13 +19,18 @@ shown_of s = outcome_texts (position_of s) s
 
 -- ---- byte by byte: `line` holds the line's first bytes
 
+-- how many of them it holds; none where the line has more than can be held
+abbrev pub Held : Type 0
+Held = Option ℕ
+
 -- before a line's first byte
 abbrev pub fresh : Held
-fresh = record { n = 0; long = false }
+fresh = Some 0
 
 -- what the end of a line prints; of a longer one than is held all but the line feed is printed already
 unfoldable pub end_texts_of : Held → List ℕ → List (List ℕ)
-end_texts_of h line = pick h.long end_texts (shown_of (take h.n line) ++ end_texts)
+end_texts_of None line = end_texts
+end_texts_of (Some n) line = shown_of (take n line) ++ end_texts
 
 -- what the first byte prints that cannot be held: the held ones are judged, and both are shown
 abbrev pub passed_texts : List ℕ → ℕ → List (List ℕ)
@@ -34,15 +38,17 @@ passed_texts line b = shown_of line ++ ((b ∷ []) ∷ [])
 
 -- what a byte of a line prints
 abbrev pub byte_texts : Held → List ℕ → ℕ → List (List ℕ)
-byte_texts h line b = pick h.long ((b ∷ []) ∷ []) (pick (ltb h.n (length line)) [] (passed_texts line b))
+byte_texts None line b = (b ∷ []) ∷ []
+byte_texts (Some n) line b = pick (ltb n (length line)) [] (passed_texts line b)
 
 -- what is held after it
 abbrev pub held_after : Held → List ℕ → Held
-held_after h line =
-    pick h.long h (pick (ltb h.n (length line)) (record { n = h.n + 1; long = false }) (record { n = h.n; long = true }))
+held_after None line = None
+held_after (Some n) line = pick (ltb n (length line)) (Some (n + 1)) None
 
 abbrev pub line_after : Held → List ℕ → ℕ → List ℕ
-line_after h line b = pick h.long line (pick (ltb h.n (length line)) (set line h.n b) line)
+line_after None line b = line
+line_after (Some n) line b = pick (ltb n (length line)) (set line n b) line
 
 -- what is printed for one byte more: a line feed or a byte of the line
 unfoldable pub turn_texts : Held → List ℕ → ℕ → List (List ℕ)
@@ -58,4 +64,5 @@ turn_line h line b = pick (eqb b 10) line (line_after h line b)
 
 -- the end of the file: a last line without a line feed is a line, and nothing after the last line feed is none
 unfoldable pub last_texts : Held → List ℕ → List (List ℕ)
-last_texts h line = pick h.long end_texts (pick (eqb h.n 0) [] (end_texts_of h line))
+last_texts None line = end_texts
+last_texts (Some n) line = pick (eqb n 0) [] (end_texts_of (Some n) line)

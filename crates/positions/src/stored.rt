@@ -3,20 +3,13 @@ ghost use Rattle.std.specs.Prelude.{◌≡◌};
 ghost use Rattle.test_lines.specs.Line.{pieces};
 ghost use Rattle.positions.specs.Stored.{shown_of, refused_texts, end_texts_of, passed_texts, last_texts, turn_texts, turn_held, turn_line};
 
-use lsn::{Lsn, Parsed};
-use wire::store::least;
+use lsn::Lsn;
 
-// How many bytes of the line so far are held, and whether it has more, of which all were printed as they came.
-#[derive(Clone, Copy)]
-pub(crate) struct Held {
-    pub n: usize,
-    pub long: bool,
-}
-
-// What is held after a byte, and the place after all that is to be printed.
+// What is held after a byte, and the place after all that is to be printed. How many bytes of the line so far are held, or none, where it has more than
+// can be, of which all were printed as they came.
 #[derive(Clone, Copy)]
 pub(crate) struct Told {
-    pub held: Held,
+    pub held: Option<usize>,
     pub at: usize,
 }
 
@@ -34,20 +27,19 @@ fn shown(out: &mut [u8], at: usize, s: &[u8]) -> usize
     ensures { (result, out.new) ≡ pieces out.old at (shown_of s.now) }
 {
     match Lsn::parse(s) {
-        Parsed::Position(p) => p.place(out, at),
-        Parsed::Refused(r) => refused(out, at, r.number() as u64, s),
+        Ok(p) => p.place(out, at),
+        Err(r) => refused(out, at, r.number() as u64, s),
     }
 }
 
 // The end of a line. Of a longer one than is held all but the line feed is printed already.
-fn ended(out: &mut [u8], at: usize, h: Held, line: &[u8]) -> usize
-    ensures { (result, out.new) ≡ pieces out.old at (end_texts_of h line.now) }
+fn ended(out: &mut [u8], at: usize, held: Option<usize>, line: &[u8]) -> usize
+    ensures { (result, out.new) ≡ pieces out.old at (end_texts_of held line.now) }
 {
-    if h.long {
+    let Some(n) = held else {
         return test_lines::end(out, at);
-    }
-    let n = least(h.n, line.len());
-    let a = shown(out, at, &line[0..n]);
+    };
+    let a = shown(out, at, &line[..n.min(line.len())]);
     test_lines::end(out, a)
 }
 
@@ -55,56 +47,44 @@ fn ended(out: &mut [u8], at: usize, h: Held, line: &[u8]) -> usize
 fn passed(out: &mut [u8], at: usize, line: &[u8], b: u8) -> usize
     ensures { (result, out.new) ≡ pieces out.old at (passed_texts line.now b) }
 {
-    let one = [b];
     let a = shown(out, at, line);
-    wire::store::place(out, a, &one)
+    wire::store::place(out, a, &[b])
 }
 
 // One byte more.
-pub(crate) fn turn(h: Held, b: u8, line: &mut [u8], out: &mut [u8], at: usize) -> Told
-    ensures { (result.held ≡ turn_held h line.old b)
-        × (line.new ≡ turn_line h line.old b)
-        × ((result.at, out.new) ≡ pieces out.old at (turn_texts h line.old b)) }
+pub(crate) fn turn(held: Option<usize>, b: u8, line: &mut [u8], out: &mut [u8], at: usize) -> Told
+    ensures { (result.held ≡ turn_held held line.old b)
+        × (line.new ≡ turn_line held line.old b)
+        × ((result.at, out.new) ≡ pieces out.old at (turn_texts held line.old b)) }
 {
     if b == b'\n' {
-        let a = ended(out, at, h, line);
-        return Told {
-            held: Held { n: 0, long: false },
-            at: a,
-        };
+        let at = ended(out, at, held, line);
+        return Told { held: Some(0), at };
     }
-    if h.long {
-        let one = [b];
-        let a = wire::store::place(out, at, &one);
-        return Told { held: h, at: a };
-    }
-    let n = h.n;
+    let Some(n) = held else {
+        let at = wire::store::place(out, at, &[b]);
+        return Told { held, at };
+    };
     if n < line.len() {
         line[n] = b;
         return Told {
-            held: Held {
-                n: n + 1,
-                long: false,
-            },
+            held: Some(n + 1),
             at,
         };
     }
-    let a = passed(out, at, line, b);
-    Told {
-        held: Held { n, long: true },
-        at: a,
-    }
+    let at = passed(out, at, line, b);
+    Told { held: None, at }
 }
 
 // The end of the file: a last line without a line feed is a line, and nothing after the last line feed is none.
-pub(crate) fn last(h: Held, line: &[u8], out: &mut [u8], at: usize) -> usize
-    ensures { (result, out.new) ≡ pieces out.old at (last_texts h line.now) }
+pub(crate) fn last(held: Option<usize>, line: &[u8], out: &mut [u8], at: usize) -> usize
+    ensures { (result, out.new) ≡ pieces out.old at (last_texts held line.now) }
 {
-    if h.long {
-        return ended(out, at, h, line);
-    }
-    if h.n == 0 {
+    let Some(n) = held else {
+        return test_lines::end(out, at);
+    };
+    if n == 0 {
         return at;
     }
-    ended(out, at, h, line)
+    ended(out, at, held, line)
 }

@@ -2,45 +2,23 @@
 use Prim.Native.Nat.{ℕ, min, max, ◌<◌, ◌≤◌}
 use native.Mathlib.Omega.{arith}
 use mathlib.Core.Bool.{true, false}
-use mathlib.Core.Path.{◌≡◌, refl, sym, ap, ◌∙◌}
+use mathlib.Core.Path.{◌≡◌, sym, ap, ◌∙◌}
 use lib.Dec.{eqb}
 use borrow.Author.Tests.{ltb-true, ltb-false, lt-ltb, le-ltb, eqb-true, ne_eqb}
 use Rattle.wire.specs.Bytes.{pick}
 use Rattle.wire.proofs.Laws.{by_test}
-use Rattle.error.specs.Refusal.{usage}
 use Rattle.lsn.specs.declared.Lsn.{Lsn}
 use Rattle.lsn.specs.Position.{is_below}
 use Rattle.moment.specs.declared.Moment.{Moment}
 use Rattle.progress.specs.declared.ProgressCell.{ProgressCell}
 use Rattle.progress.specs.declared.files.Files.{Files}
 use Rattle.progress.specs.declared.files.Progress.{Progress}
-use Rattle.progress.specs.declared.files.FileRefusal.{FileRefusal}
-use Rattle.progress.specs.declared.files.FileRefusal.TheVariants.{NoSuchFile}
 use Rattle.progress.specs.Progress.{cell, cell_position, cell_signal, cell_pending, cell_timing, raise_of}
-use Rattle.progress.specs.Files.{file_number, file_kind, no_file, files, smaller, larger, smallest, raised_in, as_cell, beside, filed_of}
+use Rattle.progress.specs.Files.{no_file, files, smallest, raised_in, as_cell, beside, filed_of}
 
 -- a position by its number
 abbrev pub position : ℕ → Lsn
 position n = record { 0 = n }
-
-pub smaller_left : (a b : Lsn) → is_below a b ≡ true → a ≡ smaller a b
-smaller_left a b t = let k = ltb-true a.0 b.0 t in let e : a.0 ≡ min a.0 b.0 = omega arith in ap position e
-
-pub smaller_right : (a b : Lsn) → is_below a b ≡ false → b ≡ smaller a b
-smaller_right a b t = let k = ltb-false a.0 b.0 t in let e : b.0 ≡ min a.0 b.0 = omega arith in ap position e
-
-pub larger_right : (a b : Lsn) → is_below a b ≡ true → b ≡ larger a b
-larger_right a b t = let k = ltb-true a.0 b.0 t in let e : b.0 ≡ max a.0 b.0 = omega arith in ap position e
-
-pub larger_left : (a b : Lsn) → is_below a b ≡ false → a ≡ larger a b
-larger_left a b t = let k = ltb-false a.0 b.0 t in let e : a.0 ≡ max a.0 b.0 = omega arith in ap position e
-
--- the only refusal
-pub only_number : (r : FileRefusal) → 31 ≡ file_number r
-only_number NoSuchFile = refl
-
-pub only_kind : (r : FileRefusal) → usage ≡ file_kind r
-only_kind NoSuchFile = refl
 
 -- four files at one position
 pub all_at : (x : Lsn) → smallest (files x x x x) ≡ x

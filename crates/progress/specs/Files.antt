@@ -1,7 +1,7 @@
 -- The progress of a run: four files, one confirmation. SCOPE 4.5; 02, wish 5. Each file has the largest of the start and its own reports, and a
 -- status confirms the smallest of the four. That smallest is not stored: it is read off the four, so that no words can disagree. What the step
 -- sees of a run's progress is a cell whose position is that smallest (`as_cell`).
-use Rattle.std.specs.Prelude.{ℕ, min, max, Bool, eqb, ltb}
+use Rattle.std.specs.Prelude.{ℕ, min, max, Bool, eqb, ltb, Result, Ok, Err}
 use Rattle.wire.specs.Bytes.{pick}
 use Rattle.error.specs.Refusal.{usage}
 use Rattle.lsn.specs.declared.Lsn.{Lsn}
@@ -11,8 +11,6 @@ use Rattle.progress.specs.declared.files.Files.{Files}
 use Rattle.progress.specs.declared.files.Progress.{Progress}
 use Rattle.progress.specs.declared.files.FileRefusal.{FileRefusal}
 use Rattle.progress.specs.declared.files.FileRefusal.TheVariants.{NoSuchFile}
-use Rattle.progress.specs.declared.files.FileVerdict.{FileVerdict}
-use Rattle.progress.specs.declared.files.FileVerdict.TheVariants.{Accepted, Refused}
 use Rattle.progress.specs.declared.files.Filed.{Filed}
 use Rattle.progress.specs.Progress.{cell, cell_signal, cell_pending, cell_timing, raise_of}
 
@@ -26,9 +24,9 @@ abbrev pub file_kind : FileRefusal → ℕ
 file_kind NoSuchFile = usage
 
 -- the refusal's number, 0 for none
-abbrev pub file_verdict : FileVerdict → ℕ
-file_verdict Accepted = 0
-file_verdict (Refused r) = file_number r
+abbrev pub file_verdict : Result (Unit {0}) FileRefusal → ℕ
+file_verdict (Ok tt) = 0
+file_verdict (Err r) = file_number r
 
 -- the files are numbered from 0 to 3
 abbrev pub no_file : ℕ → Bool

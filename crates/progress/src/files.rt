@@ -31,21 +31,14 @@ pub struct Progress {
 // Why a report is refused.
 #[derive(Clone, Copy)]
 pub enum FileRefusal {
-    NoSuchFile, // the file's number is above 3
+    NoSuchFile = 31, // the file's number is above 3
 }
 
-// Whether a report was accepted, or why it was not.
-#[derive(Clone, Copy)]
-pub enum FileVerdict {
-    Accepted,
-    Refused(FileRefusal),
-}
-
-// The progress after a report.
+// The progress after a report, and whether it was accepted.
 #[derive(Clone, Copy)]
 pub struct Filed {
     pub progress: Progress,
-    pub verdict: FileVerdict,
+    pub verdict: Result<(), FileRefusal>,
 }
 
 // The highest number of a file.
@@ -56,37 +49,27 @@ impl FileRefusal {
     pub fn number(self) -> u8
         ensures { result ≡ file_number self }
     {
-        match self {
-            FileRefusal::NoSuchFile => 31,
-        }
+        self as u8
     }
 
     // Only the caller's own input brings it about.
     pub fn kind(self) -> Kind
         ensures { kind_number result ≡ file_kind self }
     {
-        match self {
-            FileRefusal::NoSuchFile => Kind::Usage,
-        }
+        Kind::Usage
     }
 }
 
 fn smaller(a: Lsn, b: Lsn) -> Lsn
     ensures { result ≡ smaller a b }
 {
-    if a.is_below(b) {
-        return a;
-    }
-    b
+    Lsn(a.0.min(b.0))
 }
 
 fn larger(a: Lsn, b: Lsn) -> Lsn
     ensures { result ≡ larger a b }
 {
-    if a.is_below(b) {
-        return b;
-    }
-    a
+    Lsn(a.0.max(b.0))
 }
 
 impl Files {
@@ -202,7 +185,7 @@ impl Progress {
         if LAST_FILE < file {
             return Filed {
                 progress: self,
-                verdict: FileVerdict::Refused(FileRefusal::NoSuchFile),
+                verdict: Err(FileRefusal::NoSuchFile),
             };
         }
         let before = self.files;
@@ -214,7 +197,7 @@ impl Progress {
         let progress = beside(after, next);
         Filed {
             progress,
-            verdict: FileVerdict::Accepted,
+            verdict: Ok(()),
         }
     }
 }

@@ -16,10 +16,10 @@ use Rattle.wire.specs.Field.{field_at}
 use Rattle.wire.specs.Int.{half, is_negative}
 use Rattle.wire.proofs.FieldLaws.{field_read, part_bytes, part_there}
 use Rattle.wire.proofs.Laws.{impossible}
-use Rattle.query.specs.DataRow.{column_by, column_at, also, column_then, columns_from, data_row_by, columns_of, nth, column_of, column_outcome}
+use Rattle.query.specs.DataRow.{column_by, column_at, also, column_then, columns_from, data_row_by, columns_of, nth, column_of, column_said}
 use Rattle.query.specs.DataRowLayout.{Cell, null, value, cell_bytes, cells_bytes, Sendable, AllSendable, Laid, Meaning, bytes, missing, meaning_of, meanings_by, data_row_read, meant, cell_of, data_row_bytes, Short, LaidIsRead, ReadIsLaid, SentIsRead, cell_at, Answers, ColumnIsLaid, NotLaidIsRefused, PartIsWithin}
 use Rattle.query.specs.declared.Column.{Column}
-use Rattle.query.specs.declared.Column.TheVariants.{Null, Part, Absent, Refused}
+use Rattle.query.specs.declared.Column.TheVariants.{Null, Part, Absent}
 
 -- ---- from the layout to the walk
 
@@ -194,7 +194,6 @@ abbrev Within : List ℕ → Column → Type 0
 Within s Null = Unit
 Within s (Part from len) = from + len ≤ length s
 Within s Absent = Unit
-Within s (Refused r) = Unit
 
 abbrev AllWithin : List ℕ → List Column → Type 0
 AllWithin s [] = Unit
@@ -236,11 +235,10 @@ row_of_within : (payload : List ℕ) → DataRowWithin payload (columns_of paylo
 unfolding columns_of
 row_of_within payload = row_within payload (field_at 2 payload 0)
 
-part_within : (s : List ℕ) (c : Column) → Within s c → (column_outcome c).2 + (column_outcome c).3 ≤ length s
+part_within : (s : List ℕ) (c : Column) → Within s c → (column_said c).2 + (column_said c).3 ≤ length s
 part_within s Null h = omega arith
 part_within s (Part from len) h = h
 part_within s Absent h = omega arith
-part_within s (Refused r) h = omega arith
 
 one_within : (s : List ℕ) (i : ℕ) (r : Option (List Column)) → DataRowWithin s r → (column_of r i).2 + (column_of r i).3 ≤ length s
 one_within s i none h = omega arith
@@ -256,7 +254,7 @@ missing_cell (null n) e = impossible cc
 missing_cell (value v) e = impossible cc
 
 -- a column that says what a cell means
-cell_answers : (s : List ℕ) (c : Column) (d : Cell) → Within s c → meaning_of s c ≡ meant d → Answers s (some d) (column_outcome c)
+cell_answers : (s : List ℕ) (c : Column) (d : Cell) → Within s c → meaning_of s c ≡ meant d → Answers s (some d) (column_said c)
 cell_answers s Null (null n) w e = refl
 cell_answers s Null (value v) w e = impossible cc
 cell_answers s (Part from len) (null n) w e = impossible cc
@@ -266,10 +264,9 @@ cell_answers s (Part from len) (value v) w e =
     let m : len ≡ length v = sym n ∙ ap length f in
     (from, rw m, rw (← m) w, rw (← m) f)
 cell_answers s Absent d w e = missing_cell d e
-cell_answers s (Refused r) d w e = missing_cell d e
 
 cells_answer : (s : List ℕ) (cs : List Column) (cells : List Cell) (i : ℕ) → AllWithin s cs → map (meaning_of s) cs ≡ map meant cells
-    → Answers s (cell_at i cells) (column_outcome (nth i cs))
+    → Answers s (cell_at i cells) (column_said (nth i cs))
 unfolding nth
 cells_answer s [] [] i w e = refl
 cells_answer s [] (d ∷ cells) i w e = impossible cc

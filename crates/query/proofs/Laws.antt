@@ -1,4 +1,4 @@
--- Laws of a row's definitions: the walk that picks one column out, what a row's message answers.
+-- Laws of a row's definitions: the walk that picks one column out.
 use mathlib.Core.Path.{◌≡◌, refl, ap}
 use mathlib.Core.List.{List, [], ◌∷◌}
 use mathlib.Core.Option.{Option, some, none}
@@ -8,13 +8,8 @@ use lib.ListN.{length}
 use lib.Dec.{eqb}
 use borrow.Author.Tests.{eq-eqb, ne_eqb}
 use Rattle.wire.specs.Bytes.{pick}
-use Rattle.query.specs.DataRow.{column_at, columns_from, also, nth, count_of, column_of, column_outcome}
-use Rattle.error.specs.Refusal.{number_of}
-use Rattle.error.specs.declared.Refusal.{Refusal}
-use Rattle.error.proofs.Laws.{numbered}
+use Rattle.query.specs.DataRow.{column_at, columns_from, also, nth}
 use Rattle.query.specs.Code.{picked_of}
-use Rattle.query.specs.Fold.{data_row, refused, fresh, data_row_answer}
-use Rattle.query.specs.declared.simple.SimpleQuery.{SimpleQuery}
 use Rattle.query.specs.declared.Column.{Column}
 use Rattle.query.specs.declared.Column.TheVariants.{Absent}
 
@@ -85,31 +80,3 @@ walk_end n k i s p c h =
     let l : n - k ≡ 0 = omega arith in
     let z : k + 0 ≡ n = omega arith in
     rw (l, z)
-
--- ---- what the walk's answer says of a row
-
-abbrev pub count_by : Option (ℕ × Column) → ℕ × ℕ
-count_by none = (20, 0)
-count_by (some w) = (0, w.0)
-
-pub count_picked : (r : Option (List Column)) (i : ℕ) → count_by (picked_of r i) ≡ count_of r
-count_picked none i = refl
-count_picked (some cs) i = refl
-
-abbrev pub one_by : Option (ℕ × Column) → ℕ × ℕ × ℕ × ℕ
-one_by none = (20, 0, 0, 0)
-one_by (some w) = column_outcome w.1
-
-pub one_picked : (r : Option (List Column)) (i : ℕ) → one_by (picked_of r i) ≡ column_of r i
-one_picked none i = refl
-one_picked (some cs) i = refl
-
--- ---- a row's message
-
-pub row_handed : (q : SimpleQuery) (r : Option (List Column)) (n : ℕ) → (0, n) ≡ count_of r → (q, data_row n) ≡ data_row_answer q r
-row_handed q none n e = let z : ◌≡◌ {A = ℕ} 0 20 = ap (λ (p : ℕ × ℕ). p.0) e in absurd (omega arith)
-row_handed q (some cs) n e = ap (λ (k : ℕ). (q, data_row k)) (ap (λ (p : ℕ × ℕ). p.1) e)
-
-pub row_refused : (q : SimpleQuery) (r : Option (List Column)) (x : Refusal) → (number_of x, 0) ≡ count_of r → (fresh, refused (number_of x)) ≡ data_row_answer q r
-row_refused q none x e = ap (λ (k : ℕ). (fresh, refused k)) (ap (λ (p : ℕ × ℕ). p.0) e)
-row_refused q (some cs) x e = absurd (numbered x (ap (λ (p : ℕ × ℕ). p.0) e))

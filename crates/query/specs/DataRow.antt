@@ -2,16 +2,15 @@
 -- A negative number of columns stands for none, and a negative length for a null; there is no column from the count on; a malformed row is
 -- refused with 20.
 -- That the numbers are signed is 01's and the Rust's reading. SCOPE 3.10; 01, "Messages".
-use Rattle.std.specs.Prelude.{ℕ, zero, suc, ◌+◌, ◌-◌, List, [], ◌∷◌, length, ltb}
+use Rattle.std.specs.Prelude.{ℕ, zero, suc, ◌+◌, ◌-◌, List, [], ◌∷◌, length, ltb, Result, Ok, Err}
 use Rattle.std.proofs.Math.Option.{Option, some, none}
 use Rattle.wire.specs.Bytes.{pick}
 use Rattle.wire.specs.Field.{field_at}
 use Rattle.wire.specs.Int.{is_negative}
 use Rattle.error.specs.Refusal.{number_of}
+use Rattle.error.specs.declared.Refusal.{Refusal}
 use Rattle.query.specs.declared.Column.{Column}
-use Rattle.query.specs.declared.Column.TheVariants.{Null, Part, Absent, Refused as Malformed}
-use Rattle.query.specs.declared.data_row.DataRow.{DataRow}
-use Rattle.query.specs.declared.data_row.DataRow.TheVariants.{Columns, Refused}
+use Rattle.query.specs.declared.Column.TheVariants.{Null, Part, Absent}
 
 -- the column at place i of a payload of n bytes, by its length, and the place after it; none where the length or the value is cut
 abbrev pub column_by : ℕ → ℕ → Option ℕ → Option (Column × ℕ)
@@ -62,18 +61,16 @@ nth (suc i) (c ∷ cs) = nth i cs
 
 -- what the answer about a column says: 01's number, 0 for none; 0 for no such column, 1 for a null, 2 for a value; where the value begins in
 -- the payload, and its length
-abbrev pub column_outcome : Column → ℕ × ℕ × ℕ × ℕ
-column_outcome Absent = (0, 0, 0, 0)
-column_outcome Null = (0, 1, 0, 0)
-column_outcome (Part from len) = (0, 2, from, len)
-column_outcome (Malformed r) = (number_of r, 0, 0, 0)
+abbrev pub column_said : Column → ℕ × ℕ × ℕ × ℕ
+column_said Absent = (0, 0, 0, 0)
+column_said Null = (0, 1, 0, 0)
+column_said (Part from len) = (0, 2, from, len)
+
+abbrev pub column_outcome : Result Column Refusal → ℕ × ℕ × ℕ × ℕ
+column_outcome (Ok c) = column_said c
+column_outcome (Err r) = (number_of r, 0, 0, 0)
 
 -- the same of a row and a column's number, from 0
 abbrev pub column_of : Option (List Column) → ℕ → ℕ × ℕ × ℕ × ℕ
 column_of none i = (20, 0, 0, 0)
-column_of (some cs) i = column_outcome (nth i cs)
-
--- what the answer about a row says: 01's number, 0 for none, and how many columns there are
-abbrev pub data_row_outcome : DataRow → ℕ × ℕ
-data_row_outcome (Columns n) = (0, n)
-data_row_outcome (Refused r) = (number_of r, 0)
+column_of (some cs) i = column_said (nth i cs)

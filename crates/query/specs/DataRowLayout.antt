@@ -8,7 +8,7 @@ use Rattle.wire.specs.Bytes.{at, be_bytes}
 use Rattle.wire.specs.Int.{half}
 use Rattle.query.specs.DataRow.{columns_of, count_of, column_of}
 use Rattle.query.specs.declared.Column.{Column}
-use Rattle.query.specs.declared.Column.TheVariants.{Null, Part, Absent, Refused}
+use Rattle.query.specs.declared.Column.TheVariants.{Null, Part, Absent}
 
 -- a column as it is sent: a null with the length that says so, or a value
 pub data Cell : Type 0 where
@@ -56,7 +56,6 @@ abbrev pub meaning_of : List ℕ → Column → Meaning
 meaning_of payload Null = nothing
 meaning_of payload (Part from len) = bytes (at payload from len)
 meaning_of payload Absent = missing
-meaning_of payload (Refused r) = missing
 
 abbrev pub meanings_by : List ℕ → Option (List Column) → Option (List Meaning)
 meanings_by payload none = none

@@ -1,10 +1,11 @@
 -- The fold of `simple_query` a message at a time: what each message answers, and what it leaves. Rows are handed on one by one until `Z`, and
 -- the last error is the query's. SCOPE 3.11; 01, "Messages".
-use Rattle.std.specs.Prelude.{ℕ, true, false, List, length}
+use Rattle.std.specs.Prelude.{ℕ, true, false, List, length, Result, Ok, Err}
 use Rattle.std.proofs.Math.Option.{Option, some, none}
 use Rattle.wire.specs.Bytes.{pick, copied}
 use Rattle.frames.specs.Tag.{is_data_row, is_error, is_ready_for_query}
 use Rattle.error.specs.Refusal.{number_of}
+use Rattle.error.specs.declared.Refusal.{Refusal}
 use Rattle.query.specs.DataRow.{columns_of}
 use Rattle.query.specs.declared.Column.{Column}
 use Rattle.query.specs.declared.simple.SimpleQuery.{SimpleQuery}
@@ -19,12 +20,12 @@ pub data Said : Type 0 where
   failed : ℕ → ℕ → Said
   refused : ℕ → Said
 
-abbrev pub answer_outcome : Answer → Said
-answer_outcome Answer.More = more
-answer_outcome (Answer.DataRow n) = data_row n
-answer_outcome Answer.Ready = ready
-answer_outcome (Answer.Failed n len) = failed n len
-answer_outcome (Answer.Refused r) = refused (number_of r)
+abbrev pub answer_outcome : Result Answer Refusal → Said
+answer_outcome (Ok Answer.More) = more
+answer_outcome (Ok (Answer.DataRow n)) = data_row n
+answer_outcome (Ok Answer.Ready) = ready
+answer_outcome (Ok (Answer.Failed n len)) = failed n len
+answer_outcome (Err r) = refused (number_of r)
 
 -- a query of which no message came
 abbrev pub fresh : SimpleQuery

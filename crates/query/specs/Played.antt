@@ -4,7 +4,7 @@ use Prim.Native.Char.{code}
 use Rattle.std.proofs.Math.Option.{Option, some, none}
 use Rattle.wire.specs.Bytes.{pick}
 use Rattle.frames.specs.Tag.{is_error}
-use Rattle.query.specs.DataRow.{columns_of, column_of, column_outcome}
+use Rattle.query.specs.DataRow.{columns_of, column_of, column_said}
 use Rattle.query.specs.Query.{Ending, answer_of}
 use Rattle.query.specs.Fold.{Said, fresh, message_of}
 use Rattle.query.specs.declared.Column.{Column}
@@ -17,7 +17,7 @@ asked r i (suc n) = column_of r i ∷ asked r (i + 1) n
 
 -- what the answers about the columns of a row say
 abbrev pub answered : List Column → List (ℕ × ℕ × ℕ × ℕ)
-answered cs = map column_outcome cs
+answered cs = map column_said cs
 
 -- what the calls give: the rows handed on, what the call said that ended the query, if one did, and the query and the buffer after them
 pub record Played : Type 0 where

@@ -1,14 +1,14 @@
 // The fold of simple_query: one call for each whole message. The payload of the last ErrorResponse stands at the front of a lent buffer, as
 // far as that has room; its whole length is answered too, so that a cut one is not taken for whole.
-ghost use Rattle.std.specs.Prelude.{◌≡◌};
+ghost use Rattle.std.specs.Prelude.{◌≡◌, Ok};
 ghost use Rattle.query.specs.DataRow.{columns_of};
 ghost use Rattle.query.specs.Fold.{fresh, answer_outcome, data_row_answer, end_answer, message_of};
 
 use crate::data_row;
-use crate::data_row::DataRow;
 use error::Refusal;
 
-// Whether an ErrorResponse came, how many of its bytes stand in the buffer, and how many it had.
+// Whether an ErrorResponse came, how many of its bytes stand in the buffer, and how many it had. The three stand side by side as in the C interface's words,
+// of which any are the words of some query, and come back as they were (the theorem `QueryWords`).
 #[derive(Clone, Copy)]
 pub struct SimpleQuery {
     pub failed: bool,
@@ -23,14 +23,13 @@ pub enum Answer {
     Ready,
     // The query ended with an error: how many of its bytes stand in the buffer, and how many it had.
     Failed(usize, usize),
-    Refused(Refusal),
 }
 
 // What a message answers, and the query after it.
 #[derive(Clone, Copy)]
 pub struct Step {
     pub query: SimpleQuery,
-    pub answer: Answer,
+    pub answer: Result<Answer, Refusal>,
 }
 
 impl SimpleQuery {
@@ -59,19 +58,19 @@ impl SimpleQuery {
                 };
                 Step {
                     query,
-                    answer: Answer::More,
+                    answer: Ok(Answer::More),
                 }
             }
             b'Z' => {
                 let answer = self.end();
                 Step {
                     query: SimpleQuery::new(),
-                    answer,
+                    answer: Ok(answer),
                 }
             }
             _ => Step {
                 query: self,
-                answer: Answer::More,
+                answer: Ok(Answer::More),
             },
         }
     }
@@ -80,19 +79,19 @@ impl SimpleQuery {
         ensures { (result.query, answer_outcome result.answer) ≡ data_row_answer self (columns_of payload.now) }
     {
         match data_row::parse_data_row(payload) {
-            DataRow::Columns(n) => Step {
+            Ok(n) => Step {
                 query: self,
-                answer: Answer::DataRow(n),
+                answer: Ok(Answer::DataRow(n)),
             },
-            DataRow::Refused(r) => Step {
+            Err(r) => Step {
                 query: SimpleQuery::new(),
-                answer: Answer::Refused(r),
+                answer: Err(r),
             },
         }
     }
 
     fn end(self) -> Answer
-        ensures { answer_outcome result ≡ end_answer self }
+        ensures { answer_outcome (Ok result) ≡ end_answer self }
     {
         if self.failed {
             Answer::Failed(self.kept, self.len)

@@ -5,13 +5,16 @@ use mathlib.Core.List.{List, [], ◌∷◌, ◌++◌}
 use mathlib.Core.Option.{some, none}
 use Prim.Native.Nat.{ℕ, suc, ◌+◌, ◌-◌, ◌<◌, ◌≤◌, min}
 use native.Mathlib.Omega.{arith}
-use native.Mathlib.Numerals.{add-one}
-use lib.ListN.{length, take, drop, get_or, length-take, length-append, drop_of_length-le}
+use native.Mathlib.Numerals.{one-add}
+use lib.ListN.{length, take, get_or, length-take, length-append}
 use lib.IntN.{ℤ}
-use lib.Seq.{drop-cons}
+use lib.Seq.{take_all}
+use Rattle.std.specs.Prelude.{position, nat_eq, nat_lt}
+use Rattle.std.specs.List.{position_or_len}
+use Rattle.std.specs.Option.{unwrap_or}
 use lib.Pow.{are_bytes}
-use lib.Dec.{leb, ltb}
-use borrow.Author.Tests.{eq-eqb, ne_eqb, le-leb, lt-leb, lt-ltb, le-ltb, leb-true, leb-false}
+use lib.Dec.{eqb, leb, ltb}
+use borrow.Author.Tests.{le-leb, lt-leb, lt-ltb, le-ltb, leb-true, leb-false, ltb-false}
 use Rattle.wire.specs.Bytes.{at, be_bytes}
 use Rattle.wire.specs.Int.{int_bytes}
 use Rattle.wire.proofs.Laws.{impossible, by_test, length_be_bytes}
@@ -20,28 +23,41 @@ use Rattle.rows.specs.Rows.{Described, described, described_bytes}
 use Rattle.rows.proofs.Within.{reader_laws}
 use Rattle.rows.proofs.Parts.{part_laws}
 use Rattle.rows.specs.Head.{Span, told_description, described_at, description_at}
-use Rattle.rows.specs.Head.{Answer, refusal}
 use Rattle.relations.specs.declared.Refusal.{Refusal}
 use Rattle.relations.specs.declared.Refusal.TheVariants.{CacheFull, TooLarge, Unmatched, NoRoom}
-use Rattle.relations.specs.Cache.{names_fit, fits, first_of}
-use Rattle.relations.specs.declared.Verdict.{Verdict}
-use Rattle.relations.specs.Answers.{number_of, answer_as, verdict_by}
+use Rattle.relations.specs.Cache.{names_fit, fits}
+use Rattle.rows.specs.Head.{Answer, refusal}
+use Rattle.relations.specs.Answers.{number_of, answer_as}
 use Rattle.relations.specs.Memory.{place_of, count_held, described_from}
 
 -- ---- identifiers
 
-module _ (l : List ℕ) (id k : ℕ) where
-  pub place_here : k < length l → get_or l k 0 ≡ id → k + place_of id (drop k l) ≡ k
-  unfolding place_of
-  place_here h e = rw (drop-cons l k 0 h, eq-eqb _ _ e) (omega arith)
+-- the library's search for the first element that passes a test
+place_is : (id : ℕ) (l : List ℕ) → position_or_len (λ x. nat_eq x id) l ≡ place_of id l
+unfolding place_of
+place_is id [] = refl
+place_is id (j ∷ l) = by_test (eqb j id) (λ t. rw t) (λ t. rw (t, one-add) (ap suc (place_is id l)))
 
-  pub place_next : k < length l → (get_or l k 0 ≡ id → ⊥) → k + place_of id (drop k l) ≡ (k + 1) + place_of id (drop (k + 1) l)
-  unfolding place_of
-  place_next h e = rw (add-one, drop-cons l k 0 h, ne_eqb _ _ e) (omega arith)
+place_most : (id : ℕ) (l : List ℕ) → place_of id l ≤ length l
+unfolding place_of
+place_most id [] = omega arith
+place_most id (j ∷ l) = by_test (eqb j id) (λ t. rw t (omega arith)) (λ t. rw t (omega (arith, place_most id l)))
 
-  pub place_none : length l ≤ k → k + place_of id (drop k l) ≡ k
-  unfolding place_of
-  place_none h = rw (drop_of_length-le l h) (omega arith)
+pub first_place : (id n : ℕ) (l : List ℕ) → n ≡ length l → unwrap_or (position (λ x. nat_eq x id) l) n ≡ place_of id l
+first_place id n l e =
+    by_test (nat_lt (place_of id l) (length l))
+    (λ t. rw (place_is id l, t))
+    (λ t. rw (place_is id l, t) (omega (arith, place_most id l, ltb-false (place_of id l) (length l) t, e)))
+
+-- no more are taken than there are
+pub taken_least : (n : ℕ) (l : List ℕ) → take (min n (length l)) l ≡ take n l
+taken_least n l =
+    by_test (leb n (length l))
+    (λ t. let e : min n (length l) ≡ n = omega (arith, leb-true n (length l) t) in rw e)
+    (λ t.
+    let h : length l < n = leb-false n (length l) t in
+    let e : min n (length l) ≡ length l = omega arith in
+    rw (e, take_all (length l) l (omega arith), take_all n l (omega arith)))
 
 -- ---- descriptions
 
@@ -117,25 +133,13 @@ pub names_none : names_fit [] ≡ true
 unfolding names_fit
 names_none = refl
 
--- ---- verdicts
+-- ---- refusals
 
-refused_by_number : (x : Refusal) (a : Answer) → refusal (number_of x) ≡ answer_as (number_of x) a
-refused_by_number CacheFull a = refl
-refused_by_number TooLarge a = refl
-refused_by_number Unmatched a = refl
-refused_by_number NoRoom a = refl
-
-pub refused_answer : (v : Verdict) (x : Refusal) (a : Answer) → v ≡ Verdict.Refused x → refusal (number_of x) ≡ answer_as (verdict_by v) a
-refused_answer v x a e = rw e (refused_by_number x a)
-
-first_by_number : (x : Refusal) (b : ℕ) → number_of x ≡ first_of (number_of x) b
-first_by_number CacheFull b = refl
-first_by_number TooLarge b = refl
-first_by_number Unmatched b = refl
-first_by_number NoRoom b = refl
-
-pub first_refused : (v : Verdict) (x : Refusal) (a b : ℕ) → v ≡ Verdict.Refused x → verdict_by v ≡ a → verdict_by v ≡ first_of a b
-first_refused v x a b e h = rw (← h, e) (first_by_number x b)
+pub refused_answer : (x : Refusal) (a : Answer) → refusal (number_of x) ≡ answer_as (number_of x) a
+refused_answer CacheFull a = refl
+refused_answer TooLarge a = refl
+refused_answer Unmatched a = refl
+refused_answer NoRoom a = refl
 
 -- ---- a relation that is held
 

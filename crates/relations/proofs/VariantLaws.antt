@@ -17,6 +17,7 @@ same_told types flags lens names i (some n) k = refl
 pub variant_laws : VariantLaws
 variant_laws = record {
   read = λ r. refl;
+  data_refused = λ r. refl;
   full = refl;
   large = refl;
   unmatched = refl;

@@ -1,14 +1,14 @@
 -- What the answers say. Refusals: document 02, wish 4.
-use Rattle.std.specs.Prelude.{Bool, ℕ, ◌+◌, ◌*◌, min, eqb, leb, get_or}
+use Rattle.std.specs.Prelude.{Bool, ℕ, ◌+◌, ◌*◌, min, eqb, leb, get_or, Option as Maybe, Some, None, Result, Ok, Err}
 use Rattle.std.proofs.Math.Option.{Option, some, none}
 use Rattle.wire.specs.Bytes.{pick}
 use Rattle.error.specs.Refusal.{usage, protocol}
-use Rattle.rows.specs.Head.{Span, span_of, relation_head, type_head, origin_head, insert_head, update_head, update_from_head, delete_head, truncate_head, head, none as no_head, refusal, answer_by as row_by, Answer as RowAnswer}
+use Rattle.rows.specs.Head.{Span, span_of, relation_head, type_head, origin_head, insert_head, update_head, update_from_head, delete_head, truncate_head, head, none as no_head, refusal, answer_by as row_by, number_of as row_number, Answer as RowAnswer}
+use Rattle.rows.specs.declared.Row.{Row}
 use Rattle.relations.specs.declared.Refusal.{Refusal}
 use Rattle.relations.specs.declared.Refusal.TheVariants.{CacheFull, TooLarge, Unmatched, NoRoom}
-use Rattle.relations.specs.declared.Answer.{Answer}
-use Rattle.relations.specs.declared.Verdict.{Verdict}
-use Rattle.relations.specs.declared.Count.{Count}
+use Rattle.relations.specs.declared.Refused.{Refused}
+use Rattle.relations.specs.declared.Refused.TheVariants.{Data, Cache}
 use Rattle.relations.specs.declared.Related.{Related}
 use Rattle.relations.specs.declared.Column.{Column}
 use Rattle.relations.specs.Cache.{matches, first_of, is_key}
@@ -28,28 +28,28 @@ kind_of TooLarge = protocol
 kind_of Unmatched = protocol
 kind_of NoRoom = usage
 
+-- the number of a message's refusal
+abbrev pub refused_number : Refused → ℕ
+refused_number (Data r) = row_number r
+refused_number (Cache r) = number_of r
+
 -- a message's answer as that of its data, with more numbers
-abbrev pub answer_by : Answer → RowAnswer
-answer_by (Answer.Read r) = row_by r
-answer_by (Answer.Refused r) = refusal (number_of r)
+abbrev pub answer_by : Result (Maybe Row) Refused → RowAnswer
+answer_by (Ok r) = row_by (Ok r)
+answer_by (Err r) = refusal (refused_number r)
 
 -- 0, or the number of the refusal
-abbrev pub verdict_by : Verdict → ℕ
-verdict_by Verdict.Accepted = 0
-verdict_by (Verdict.Refused r) = number_of r
-
--- a held relation's count
-abbrev pub count_by : Count → Option ℕ
-count_by (Count.Columns n) = some n
-count_by Count.NotHeld = none
+abbrev pub verdict_by : Result Unit Refusal → ℕ
+verdict_by (Ok u) = 0
+verdict_by (Err r) = number_of r
 
 -- a column by the part of the names that has its name, whether it is of the key, and its type
 abbrev pub Told : Type 0
 Told = Span × Bool × ℕ
 
-abbrev pub column_by : Column → Option Told
-column_by (Column.Of name key oid) = some (span_of name, key, oid)
-column_by Column.Absent = none
+abbrev pub column_by : Maybe Column → Option Told
+column_by (Some c) = some (span_of c.name, c.key, c.oid)
+column_by None = none
 
 -- column i
 abbrev pub column_span : Columns → ℕ → Told
@@ -83,9 +83,9 @@ related_of (head (truncate_head n options from)) = none
 related_of no_head = none
 related_of (refusal n) = none
 
-abbrev pub related_by : Related → Option (ℕ × ℕ × ℕ)
-related_by (Related.Of id n from) = some (id, n, from)
-related_by Related.Other = none
+abbrev pub related_by : Maybe Related → Option (ℕ × ℕ × ℕ)
+related_by (Some r) = some (r.id, r.columns, r.from)
+related_by None = none
 
 -- the tuples that a head names, matched by their counts
 abbrev pub head_judged : (ℕ → Option ℕ) → RowAnswer → ℕ

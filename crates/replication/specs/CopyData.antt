@@ -1,11 +1,12 @@
 -- What a CopyData payload of the replication stream says: PostgreSQL documentation, "Streaming Replication Protocol" (XLogData, Primary
 -- keepalive message); SCOPE 3.8.
-use Rattle.std.specs.Prelude.{ℕ, ◌-◌, Bool, true, false, not, List, [], ◌∷◌, ◌++◌, length, get_or, ℤ, ltb, eqb}
+use Rattle.std.specs.Prelude.{ℕ, ◌-◌, Bool, true, false, not, List, [], ◌∷◌, ◌++◌, length, get_or, ℤ, ltb, eqb, Result, Ok, Err}
 use Rattle.wire.specs.Bytes.{pick, at, be, be_bytes}
 use Rattle.wire.specs.Int.{int, int_bytes}
 use Rattle.error.specs.Refusal.{number_of}
+use Rattle.error.specs.declared.Refusal.{Refusal}
 use Rattle.replication.specs.declared.CopyData.{CopyData}
-use Rattle.replication.specs.declared.CopyData.TheVariants.{XLogData, KeepAlive, Refused}
+use Rattle.replication.specs.declared.CopyData.TheVariants.{XLogData, KeepAlive}
 
 -- the values: of `w` start, end, time, and where the data begin in the payload and how long they are; of `k` wal_end, time, and
 -- whether a reply is asked for; or the refusal's number
@@ -50,11 +51,14 @@ asks_reply (w start end time from len) = false
 asks_reply (k end time reply) = reply
 asks_reply (refused n) = false
 
--- what an answer of the code says
-abbrev pub said_by : CopyData → Said
-said_by (XLogData start end time from len) = w start.0 end.0 time from len
-said_by (KeepAlive end time reply) = k end.0 time reply
-said_by (Refused r) = refused (number_of r)
+-- the values of a CopyData, and what an answer of the code says
+abbrev pub values : CopyData → Said
+values (XLogData start end time from len) = w start.0 end.0 time from len
+values (KeepAlive end time reply) = k end.0 time reply
+
+abbrev pub said_by : Result CopyData Refusal → Said
+said_by (Ok d) = values d
+said_by (Err r) = refused (number_of r)
 
 -- the bytes of an XLogData
 unfoldable pub xlog_data : ℕ → ℕ → ℤ → List ℕ → List ℕ

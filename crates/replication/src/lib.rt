@@ -1,11 +1,10 @@
 #![tactic(auto)]
 // CopyData of the replication stream.
 ghost use Rattle.std.specs.Prelude.{◌≡◌};
-ghost use Rattle.replication.specs.CopyData.{copy_data_of, said_by, xlog_of, keep_alive_of, is_xlog_data, is_keep_alive, asks_reply};
+ghost use Rattle.replication.specs.CopyData.{copy_data_of, said_by, values, xlog_of, keep_alive_of, is_xlog_data, is_keep_alive, asks_reply};
 
 use error::Refusal;
 use lsn::Lsn;
-use wire::field::{I64Field, U8Field, U64Field};
 
 // The data are a part of the payload.
 #[derive(Clone, Copy)]
@@ -22,90 +21,77 @@ pub enum CopyData {
         server_time: i64,
         reply: bool,
     },
-    Refused(Refusal),
 }
 
 impl CopyData {
     pub fn is_xlog_data(self) -> bool
-        ensures { result ≡ is_xlog_data (said_by self) }
+        ensures { result ≡ is_xlog_data (values self) }
     {
-        match self {
-            CopyData::XLogData { .. } => true,
-            CopyData::KeepAlive { .. } => false,
-            CopyData::Refused(_) => false,
-        }
+        matches!(self, CopyData::XLogData { .. })
     }
 
     pub fn is_keepalive(self) -> bool
-        ensures { result ≡ is_keep_alive (said_by self) }
+        ensures { result ≡ is_keep_alive (values self) }
     {
-        match self {
-            CopyData::XLogData { .. } => false,
-            CopyData::KeepAlive { .. } => true,
-            CopyData::Refused(_) => false,
-        }
+        matches!(self, CopyData::KeepAlive { .. })
     }
 
     // Whether it is a keepalive that asks for a reply.
     pub fn requires_reply(self) -> bool
-        ensures { result ≡ asks_reply (said_by self) }
+        ensures { result ≡ asks_reply (values self) }
     {
-        match self {
-            CopyData::XLogData { .. } => false,
-            CopyData::KeepAlive { reply, .. } => reply,
-            CopyData::Refused(_) => false,
-        }
+        matches!(self, CopyData::KeepAlive { reply: true, .. })
     }
 }
 
 // An XLogData, of which body is what follows the letter. The data begin at place 25 of the payload.
-fn xlog_data(body: &[u8]) -> CopyData
+fn xlog_data(body: &[u8]) -> Result<CopyData, Refusal>
     ensures { said_by result ≡ xlog_of body.now }
 {
-    let U64Field::Value(start) = wire::field::read_u64(body, 0) else {
-        return CopyData::Refused(Refusal::XLogDataTooShort);
+    let Some(start) = wire::field::read_u64(body, 0) else {
+        return Err(Refusal::XLogDataTooShort);
     };
-    let U64Field::Value(end) = wire::field::read_u64(body, 8) else {
-        return CopyData::Refused(Refusal::XLogDataTooShort);
+    let Some(end) = wire::field::read_u64(body, 8) else {
+        return Err(Refusal::XLogDataTooShort);
     };
-    let I64Field::Value(server_time) = wire::field::read_i64(body, 16) else {
-        return CopyData::Refused(Refusal::XLogDataTooShort);
+    let Some(server_time) = wire::field::read_i64(body, 16) else {
+        return Err(Refusal::XLogDataTooShort);
     };
-    CopyData::XLogData {
+    Ok(CopyData::XLogData {
         wal_start: Lsn(start),
         wal_end: Lsn(end),
         server_time,
         from: 25,
         len: body.len() - 24,
-    }
+    })
 }
 
 // A keepalive, of which body is what follows the letter. Any reply byte but 0 asks for a reply.
-fn keep_alive(body: &[u8]) -> CopyData
+fn keep_alive(body: &[u8]) -> Result<CopyData, Refusal>
     ensures { said_by result ≡ keep_alive_of body.now }
 {
-    let U64Field::Value(end) = wire::field::read_u64(body, 0) else {
-        return CopyData::Refused(Refusal::KeepaliveTooShort);
+    let Some(end) = wire::field::read_u64(body, 0) else {
+        return Err(Refusal::KeepaliveTooShort);
     };
-    let I64Field::Value(server_time) = wire::field::read_i64(body, 8) else {
-        return CopyData::Refused(Refusal::KeepaliveTooShort);
+    let Some(server_time) = wire::field::read_i64(body, 8) else {
+        return Err(Refusal::KeepaliveTooShort);
     };
-    let U8Field::Value(reply) = wire::field::read_u8(body, 16) else {
-        return CopyData::Refused(Refusal::KeepaliveTooShort);
+    let Some(reply) = wire::field::read_u8(body, 16) else {
+        return Err(Refusal::KeepaliveTooShort);
     };
-    CopyData::KeepAlive {
+    Ok(CopyData::KeepAlive {
         wal_end: Lsn(end),
         server_time,
         reply: reply != 0,
-    }
+    })
 }
 
 // What a CopyData payload says.
-pub fn parse_copy_data(payload: &[u8]) -> CopyData
+pub fn parse_copy_data(payload: &[u8]) -> Result<CopyData, Refusal>
     ensures { said_by result ≡ copy_data_of payload.now }
 {
     if payload.len() == 0 {
-        return CopyData::Refused(Refusal::EmptyCopyData);
+        return Err(Refusal::EmptyCopyData);
     }
     let letter = payload[0];
     if letter == b'w' {
@@ -114,5 +100,5 @@ pub fn parse_copy_data(payload: &[u8]) -> CopyData
     if letter == b'k' {
         return keep_alive(&payload[1..]);
     }
-    CopyData::Refused(Refusal::UnknownCopyData)
+    Err(Refusal::UnknownCopyData)
 }

@@ -7,7 +7,7 @@ ghost use Rattle.error.specs.Writer.{writing, outcome};
 ghost use Rattle.frontend.specs.Frontend.{query};
 ghost use Rattle.request.specs.Request.{start_replication, end_text};
 
-use error::{Counted, INPUT_LIMIT, Refusal, Written};
+use error::{INPUT_LIMIT, Refusal};
 use lsn::Lsn;
 
 // How many bytes stand after the names, the zero byte with them.
@@ -65,24 +65,24 @@ pub fn start_replication(
     publications: &[&[u8]],
     position: Lsn,
     out: &mut [u8],
-) -> Written
+) -> Result<usize, Refusal>
     ensures { (outcome result, out.new)
         ≡ writing (length slot.now + total publications.now)
         (query (start_replication binary slot.now publications.now position)) out.old }
 {
     if INPUT_LIMIT < slot.len() {
-        return Written::Refused(Refusal::InputTooLong);
+        return Err(Refusal::InputTooLong);
     }
-    let Counted::Fits(_) = error::inputs_len(publications, INPUT_LIMIT - slot.len()) else {
-        return Written::Refused(Refusal::InputTooLong);
+    let Some(_) = error::inputs_len(publications, INPUT_LIMIT - slot.len()) else {
+        return Err(Refusal::InputTooLong);
     };
-    let Counted::Fits(names) = config::count(publications, out.len()) else {
-        return Written::Refused(Refusal::OutputTooShort);
+    let Some(names) = config::count(publications, out.len()) else {
+        return Err(Refusal::OutputTooShort);
     };
     let n = request_len(slot.len(), position.text_len(), names, end_len(binary));
     if out.len() < n {
-        return Written::Refused(Refusal::OutputTooShort);
+        return Err(Refusal::OutputTooShort);
     }
     place_query(n, binary, slot, publications, position, out);
-    Written::Wrote(n)
+    Ok(n)
 }

@@ -21,10 +21,10 @@ module _ (s : List ℕ) (i : ℕ) where
     abbrev rest : Layout
     rest = both name typed_layout
 
-    pub name_cut : cut ≡ mapped {B = Span} (λ v. (i + 1, length v)) (read_at name s (i + 1)) → Reads cut
-    name_cut h = rw (
+    pub name_cut : {m : ℕ} → refused m ≡ mapped {B = Span} (λ v. (i + 1, length v)) (read_at name s (i + 1)) → Reads (refused m)
+    name_cut {m} h = rw (
       both_got s i (number 1) rest flags (i + 1) (number_got s i 1 flags e),
-      both_refused s (i + 1) name typed_layout 26 (refused_back _ _ 26 h),
+      both_refused s (i + 1) name typed_layout m (refused_back _ _ m h),
     )
 
     as_told : (r : Read (Value typed_layout)) (v : List ℕ) (part : Span) (x : Read ToldDescription) → part ≡ (i + 1, length v)

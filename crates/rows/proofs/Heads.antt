@@ -105,15 +105,16 @@ module _ (s : List ℕ) where
       go w.0 w.1 w.2 (omega (arith, e, length-append w.0 (0 ∷ [])))
 
   module _ (n id : ℕ) (e : field_at n s 1 ≡ some id) where
-    pub name_missing : (b : Layout) (f : Value (both (number n) (both name b)) → Head)
-        → cut ≡ mapped {B = Span} (λ v. (1 + n, length v)) (read_at name s (1 + n))
-        → refusal 26 ≡ head_told f (read_at (both (number n) (both name b)) s 1)
-    name_missing b f h =
-        rw (both_got s 1 (number n) (both name b) id (1 + n) (number_got s 1 n id e), both_refused s (1 + n) name b 26 (refused_back _ _ 26 h))
+    pub name_missing : (b : Layout) (f : Value (both (number n) (both name b)) → Head) {m : ℕ}
+        → refused m ≡ mapped {B = Span} (λ v. (1 + n, length v)) (read_at name s (1 + n))
+        → refusal m ≡ head_told f (read_at (both (number n) (both name b)) s 1)
+    name_missing b f {m} h =
+        rw (both_got s 1 (number n) (both name b) id (1 + n) (number_got s 1 n id e), both_refused s (1 + n) name b m (refused_back _ _ m h))
 
-    pub last_missing : (f : Value (both (number n) name) → Head) → cut ≡ mapped {B = Span} (λ v. (1 + n, length v)) (read_at name s (1 + n))
-        → refusal 26 ≡ head_told f (read_at (both (number n) name) s 1)
-    last_missing f h = rw (both_got s 1 (number n) name id (1 + n) (number_got s 1 n id e), refused_back _ (read_at name s (1 + n)) 26 h)
+    pub last_missing : (f : Value (both (number n) name) → Head) {m : ℕ}
+        → refused m ≡ mapped {B = Span} (λ v. (1 + n, length v)) (read_at name s (1 + n))
+        → refusal m ≡ head_told f (read_at (both (number n) name) s 1)
+    last_missing f {m} h = rw (both_got s 1 (number n) name id (1 + n) (number_got s 1 n id e), refused_back _ (read_at name s (1 + n)) m h)
 
   -- ---- Origin
 
@@ -130,24 +131,24 @@ module _ (s : List ℕ) where
     -- ---- Relation and Type: two names
 
     module _ {p : Span} {a : ℕ} (h : got p a ≡ mapped {B = Span} (λ v. (5, length v)) (read_at name s 5)) where
-      pub second_missing : (b : Layout) (f : Value (both (number 4) (both name (both name b))) → Head)
-          → cut ≡ mapped {B = Span} (λ v. (a, length v)) (read_at name s a)
-          → refusal 26 ≡ head_told f (read_at (both (number 4) (both name (both name b))) s 1)
-      second_missing b f g =
+      pub second_missing : (b : Layout) (f : Value (both (number 4) (both name (both name b))) → Head) {m : ℕ}
+          → refused m ≡ mapped {B = Span} (λ v. (a, length v)) (read_at name s a)
+          → refusal m ≡ head_told f (read_at (both (number 4) (both name (both name b))) s 1)
+      second_missing b f {m} g =
           by_name 5 p a h (λ v r q w.
           rw (
             both_got s 1 (number 4) (both name (both name b)) id 5 id_got,
             both_got s 5 name (both name b) v a r,
-            both_refused s a name b 26 (refused_back _ _ 26 g),
+            both_refused s a name b m (refused_back _ _ m g),
           ))
 
-      pub type_missing : cut ≡ mapped {B = Span} (λ v. (a, length v)) (read_at name s a)
-          → refusal 26 ≡ head_told (λ v. head_of (type_of v)) (read_at type_layout s 1)
-      type_missing g =
+      pub type_missing : {m : ℕ} → refused m ≡ mapped {B = Span} (λ v. (a, length v)) (read_at name s a)
+          → refusal m ≡ head_told (λ v. head_of (type_of v)) (read_at type_layout s 1)
+      type_missing {m} g =
           by_name 5 p a h (λ v r q w. rw (
             both_got s 1 (number 4) (both name name) id 5 id_got,
             both_got s 5 name name v a r,
-            refused_back _ (read_at name s a) 26 g,
+            refused_back _ (read_at name s a) m g,
           ))
 
       module _ {q : Span} {b : ℕ} (g : got q b ≡ mapped {B = Span} (λ v. (a, length v)) (read_at name s a)) where
@@ -221,12 +222,6 @@ module _ (s : List ℕ) where
     as_updated (got v j) c x k m = m ∙ rw (k, length-map v.1 cell_of)
     as_updated (refused n) c x k m = m ∙ rw k
 
-    as_deleted : (which : Which) (r : Read (Value tuple_layout)) (c : Read Span) (x : Answer) → c ≡ mapped {B = Span} (λ v. (length v.1, 8)) r
-        → x ≡ head_told (λ t. delete_head id which t) c
-        → x ≡ head_told (λ v. head_of (delete id which (cells_of v))) r
-    as_deleted which (got v j) c x k m = m ∙ rw (k, length-map v.1 cell_of)
-    as_deleted which (refused n) c x k m = m ∙ rw k
-
     module _ (b : ℕ) (i : field_at 1 s 5 ≡ some b) where
       under : (ls : Letters) → read_at (both (number 4) (letter ls)) s 1 ≡ mapped (λ w. (id, w)) (choose_at ls b s 6)
       under ls = rw (both_got s 1 (number 4) (letter ls) id 5 id_got, letter_got s 5 ls b i)
@@ -271,17 +266,30 @@ module _ (s : List ℕ) where
       abbrev Deletes : Answer → Type 0
       Deletes x = x ≡ head_told (λ v. head_of (delete_of v)) (read_at delete_layout s 1)
 
-      module _ {c : Read Span} {x : Answer} (h : c ≡ mapped {B = Span} (λ v. (length v.1, 8)) (read_at tuple_layout s 6)) where
-        pub delete_key : b ≡ code "K" → x ≡ head_told (λ t. delete_head id Key t) c → Deletes x
-        delete_key k m = as_deleted Key (read_at tuple_layout s 6) c x h m ∙ rw (under _, choose_here s 6 _ _ _ b k, head_told_lem, head_told_lem)
+      -- the old tuple, told by the message that has it
+      abbrev Old_told : Which → Answer → Type 0
+      Old_told which x = x ≡ head_told (λ v. head_of (delete id which (cells_of v))) (read_at tuple_layout s 6)
 
-        pub delete_old : (b ≡ code "K" → ⊥) → b ≡ code "O" → x ≡ head_told (λ t. delete_head id Old t) c → Deletes x
-        delete_old k o m =
-            as_deleted Old (read_at tuple_layout s 6) c x h m ∙ rw
-            (under _, choose_next s 6 _ _ _ b k, choose_here s 6 _ _ _ b o, head_told_lem, head_told_lem, head_told_lem)
+      pub delete_key : b ≡ code "K" → {x : Answer} → Old_told Key x → Deletes x
+      delete_key k m = m ∙ rw (under _, choose_here s 6 _ _ _ b k, head_told_lem, head_told_lem)
+
+      pub delete_old : (b ≡ code "K" → ⊥) → b ≡ code "O" → {x : Answer} → Old_told Old x → Deletes x
+      delete_old k o m = m ∙ rw (under _, choose_next s 6 _ _ _ b k, choose_here s 6 _ _ _ b o, head_told_lem, head_told_lem, head_told_lem)
 
       pub delete_wrong : (b ≡ code "K" → ⊥) → (b ≡ code "O" → ⊥) → Deletes (refusal 27)
       delete_wrong k o = rw (under _, choose_next s 6 _ _ _ b k, choose_next s 6 _ _ _ b o, choose_none s 6 b)
+
+  -- ---- the old tuple alone
+
+  module _ (id : ℕ) (which : Which) where
+    as_deleted : (r : Read (Value tuple_layout)) (c : Read Span) → c ≡ mapped {B = Span} (λ v. (length v.1, 8)) r
+        → head_told (λ t. delete_head id which t) c ≡ head_told (λ v. head_of (delete id which (cells_of v))) r
+    as_deleted (got v j) c k = rw (k, length-map v.1 cell_of)
+    as_deleted (refused n) c k = rw k
+
+    pub deleted_by : {c : Read Span} → c ≡ mapped {B = Span} (λ v. (length v.1, 8)) (read_at tuple_layout s 6)
+        → head_told (λ t. delete_head id which t) c ≡ head_told (λ v. head_of (delete id which (cells_of v))) (read_at tuple_layout s 6)
+    deleted_by {c} k = as_deleted (read_at tuple_layout s 6) c k
 
   -- ---- the old tuple, then the new one
 

@@ -8,13 +8,17 @@ use Prim.Native.Char.{code}
 use Prim.Native.Nat.{ℕ}
 use native.Mathlib.Omega.{arith}
 use lib.ListN.{length, get_or}
+use Rattle.std.specs.Prelude.{Option as Answer_of, Some, Result, Ok, Err}
+use Rattle.std.specs.Result.{MatchResult, IsOkAnd}
 use Rattle.wire.specs.Field.{field_at}
 use Rattle.wire.proofs.FieldLaws.{field_whole, field_cut, be_one}
 use Rattle.rows.specs.Layout.{Layout, Letters, or, Choice, Read, got, refused, read_at, choose_at}
 use Rattle.rows.specs.Rows.{Row, relation_layout, type_layout, origin_layout, insert_layout, update_layout, delete_layout, truncate_layout}
 use Rattle.rows.specs.Rows.{row_letters, row_layout, relation_of, type_of, origin_of, insert_of, update_of, delete_of, truncate_of, row_of}
 use Rattle.rows.specs.Rows.{boundary_letter, said_of, row_said}
-use Rattle.rows.specs.Head.{Head, head_of, Answer, none as no_answer, refusal, answer_of, head_told}
+use Rattle.rows.specs.Head.{Head, head_of, Answer, none as no_answer, refusal, answer_of, answer_by, message_by, head_told}
+use Rattle.rows.specs.declared.Refusal.{Refusal}
+use Rattle.rows.specs.declared.Row.{Row as RowAnswer}
 use Rattle.rows.proofs.Heads.{head_told_lem}
 use Rattle.rows.proofs.Steps.{letter_got, letter_cut, choose_here, choose_next, choose_none}
 
@@ -98,3 +102,10 @@ module _ (s : List ℕ) (n : length s ≡ 0 → ⊥) (h : false ≡ boundary_let
               pub other_letter : (b ≡ code "T" → ⊥) → Says (refusal 27)
               other_letter t = ap (head_told {A = ⊥} (λ v. head_of (absurd v))) (sym (choose_none s 1 b))
                   ∙ next _ _ _ _ (next _ _ _ _ (next _ _ _ _ (next _ _ _ _ (next _ _ _ _ (next _ _ _ _ (next _ _ _ _ start r) y) o) i) u) d) t
+
+-- the answer of a message is the data's
+pub with_row : (r : Result RowAnswer Refusal) (m : Result (Answer_of RowAnswer) Refusal) → MatchResult r (λ x. IsOkAnd m (λ y. y ≡ Some x)) (λ e. m ≡ Err e)
+    → answer_by m ≡ message_by r
+with_row (Ok x) (Ok y) h = rw h
+with_row (Ok x) (Err e) h = absurd h
+with_row (Err e) m h = rw h

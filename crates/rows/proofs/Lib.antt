@@ -21,3 +21,4 @@ pub mod Steps
 pub mod Tells
 pub mod Told
 pub mod Within
+pub mod HandedOn

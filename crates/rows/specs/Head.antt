@@ -1,8 +1,8 @@
 -- What the answers say. Data are answered by a row's head: its numbers, where its names stand, how many columns, descriptions or identifiers it has
 -- and where the first of them stands. Each of these is then read at its place, and the answer has the place of the next.
-use Rattle.std.specs.Prelude.{List, ℕ, ◌+◌, length, ℤ}
+use Rattle.std.specs.Prelude.{List, ℕ, ◌+◌, length, ℤ, Option, Some, None, Result, Ok, Err}
 use Rattle.error.specs.Refusal.{protocol}
-use Rattle.rows.specs.Layout.{Layout, number, integer, both, Read, got, refused, cut, mapped, read_at, all_bytes}
+use Rattle.rows.specs.Layout.{Layout, number, integer, both, Read, got, refused, mapped, read_at, all_bytes}
 use Rattle.rows.specs.Rows.{Cell, null, unchanged, text, binary, Described, described, Row, relation, type, origin, insert, update, update_from}
 use Rattle.rows.specs.Rows.{delete, truncate, cell_bytes, column_layout, described_layout, cell_of, described_of, Said, row, no_row, refused_by}
 use Rattle.rows.specs.declared.Refusal.{Refusal}
@@ -10,15 +10,9 @@ use Rattle.rows.specs.declared.Refusal.TheVariants.{FieldCut, UnknownLetter}
 use Rattle.rows.specs.declared.Which.{Which}
 use Rattle.rows.specs.declared.Part.{Part}
 use Rattle.rows.specs.declared.Tuple.{Tuple}
-use Rattle.rows.specs.declared.Item.{Item}
 use Rattle.rows.specs.declared.Row.{Row as RowAnswer}
 use Rattle.rows.specs.declared.Column.{Column}
 use Rattle.rows.specs.declared.Description.{Description}
-use Rattle.rows.specs.declared.Identifier.{Identifier}
-use Rattle.rows.specs.declared.Name.{Name}
-use Rattle.rows.specs.declared.Bytes.{Bytes}
-use Rattle.rows.specs.declared.End.{End}
-use Rattle.rows.specs.declared.Counted.{Counted}
 
 -- ---- refusals
 
@@ -88,18 +82,27 @@ span_of p = (p.from, p.len)
 abbrev pub tuple_of : Tuple → Span
 tuple_of t = (t.columns, t.from)
 
+-- the head that a row of the code stands for
+abbrev pub row_head : RowAnswer → Head
+row_head (RowAnswer.Relation id space v identity columns from) = relation_head id (span_of space) (span_of v) identity columns from
+row_head (RowAnswer.Type id space v) = type_head id (span_of space) (span_of v)
+row_head (RowAnswer.Origin position v) = origin_head position (span_of v)
+row_head (RowAnswer.Insert id new) = insert_head id (tuple_of new)
+row_head (RowAnswer.Update id new) = update_head id (tuple_of new)
+row_head (RowAnswer.UpdateFrom id which old new) = update_from_head id which (tuple_of old) (tuple_of new)
+row_head (RowAnswer.Delete id which old) = delete_head id which (tuple_of old)
+row_head (RowAnswer.Truncate relations options from) = truncate_head relations options from
+
 -- what an answer of the code says
-abbrev pub answer_by : RowAnswer → Answer
-answer_by (RowAnswer.Relation id space v identity columns from) = head (relation_head id (span_of space) (span_of v) identity columns from)
-answer_by (RowAnswer.Type id space v) = head (type_head id (span_of space) (span_of v))
-answer_by (RowAnswer.Origin position v) = head (origin_head position (span_of v))
-answer_by (RowAnswer.Insert id new) = head (insert_head id (tuple_of new))
-answer_by (RowAnswer.Update id new) = head (update_head id (tuple_of new))
-answer_by (RowAnswer.UpdateFrom id which old new) = head (update_from_head id which (tuple_of old) (tuple_of new))
-answer_by (RowAnswer.Delete id which old) = head (delete_head id which (tuple_of old))
-answer_by (RowAnswer.Truncate relations options from) = head (truncate_head relations options from)
-answer_by RowAnswer.NoRow = none
-answer_by (RowAnswer.Refused r) = refusal (number_of r)
+abbrev pub answer_by : Result (Option RowAnswer) Refusal → Answer
+answer_by (Ok (Some r)) = head (row_head r)
+answer_by (Ok None) = none
+answer_by (Err r) = refusal (number_of r)
+
+-- what the answer to one message says, which always has a row
+abbrev pub message_by : Result RowAnswer Refusal → Answer
+message_by (Ok r) = head (row_head r)
+message_by (Err r) = refusal (number_of r)
 
 -- ---- one column
 
@@ -121,13 +124,17 @@ cell_at i (binary v) = told_binary (i + 5, length v)
 abbrev pub column_at : List ℕ → ℕ → Read Cell
 column_at s i = mapped cell_of (read_at column_layout s i)
 
+-- what a column of the code stands for
+abbrev pub cell_by : Column → ToldCell
+cell_by Column.Null = told_null
+cell_by Column.Unchanged = told_unchanged
+cell_by (Column.Text part) = told_text (span_of part)
+cell_by (Column.Binary part) = told_binary (span_of part)
+
 -- what an answer about a column says
-abbrev pub column_by : Column → Read ToldCell
-column_by (Column.Null next) = got told_null next
-column_by (Column.Unchanged next) = got told_unchanged next
-column_by (Column.Text part next) = got (told_text (span_of part)) next
-column_by (Column.Binary part next) = got (told_binary (span_of part)) next
-column_by (Column.Refused r) = refused (number_of r)
+abbrev pub column_by : Result (Column × ℕ) Refusal → Read ToldCell
+column_by (Ok (c, next)) = got (cell_by c) next
+column_by (Err r) = refused (number_of r)
 
 -- ---- one description
 
@@ -144,9 +151,9 @@ abbrev pub description_at : List ℕ → ℕ → Read Described
 description_at s i = mapped described_of (read_at described_layout s i)
 
 -- what an answer about a description says
-abbrev pub description_by : Description → Read ToldDescription
-description_by (Description.Of flags part oid modifier next) = got (told_description flags (span_of part) oid modifier) next
-description_by (Description.Refused r) = refused (number_of r)
+abbrev pub description_by : Result (Description × ℕ) Refusal → Read ToldDescription
+description_by (Ok (d, next)) = got (told_description d.flags (span_of d.name) d.oid d.modifier) next
+description_by (Err r) = refused (number_of r)
 
 -- ---- one identifier
 
@@ -155,38 +162,27 @@ abbrev pub identifier_at : List ℕ → ℕ → Read ℕ
 identifier_at s i = read_at (number 4) s i
 
 -- what an answer about an identifier says
-abbrev pub identifier_by : Identifier → Read ℕ
-identifier_by (Identifier.Of id next) = got id next
-identifier_by (Identifier.Refused r) = refused (number_of r)
+abbrev pub identifier_by : Result (ℕ × ℕ) Refusal → Read ℕ
+identifier_by (Ok (id, next)) = got id next
+identifier_by (Err r) = refused (number_of r)
 
 -- ---- what the inner functions say
 
--- a name by its part
-abbrev pub name_by : Name → Read Span
-name_by (Name.At part next) = got (span_of part) next
-name_by Name.Cut = cut
-
--- a value by its part
-abbrev pub bytes_by : Bytes → Read Span
-bytes_by (Bytes.At part next) = got (span_of part) next
-bytes_by Bytes.Cut = cut
+-- a name or a value by its part
+abbrev pub part_by : Result (Part × ℕ) Refusal → Read Span
+part_by (Ok (part, next)) = got (span_of part) next
+part_by (Err r) = refused (number_of r)
 
 -- the end of a description: type, type modifier
 abbrev pub typed_layout : Layout
 typed_layout = both (number 4) integer
 
--- which layout is repeated
-abbrev pub layout_of : Item → Layout
-layout_of Item.Column = column_layout
-layout_of Item.Description = described_layout
-layout_of Item.Identifier = number 4
-
 -- the place after fields alone
-abbrev pub end_by : End → Read Unit
-end_by (End.At next) = got tt next
-end_by (End.Refused r) = refused (number_of r)
+abbrev pub end_by : Result ℕ Refusal → Read Unit
+end_by (Ok next) = got tt next
+end_by (Err r) = refused (number_of r)
 
 -- how many there are and where the first one stands
-abbrev pub counted_by : Counted → Read Span
-counted_by (Counted.Of tuple next) = got (tuple_of tuple) next
-counted_by (Counted.Refused r) = refused (number_of r)
+abbrev pub counted_by : Result (Tuple × ℕ) Refusal → Read Span
+counted_by (Ok (tuple, next)) = got (tuple_of tuple) next
+counted_by (Err r) = refused (number_of r)

@@ -1,6 +1,6 @@
 -- What is handed out leads to the values of the row: each place that a head or a reader names is where its value stands; and what the values of the
 -- code stand for. SCOPE 3.13, 7.1.
-use Rattle.std.specs.Prelude.{◌≡◌, true, List, ℕ, length, ℤ}
+use Rattle.std.specs.Prelude.{◌≡◌, true, List, ℕ, length, ℤ, Some, None, Ok, Err}
 use Rattle.std.proofs.Math.Pow.{are_bytes}
 use Rattle.wire.specs.Bytes.{at}
 use Rattle.rows.specs.Layout.{got, refused, mapped}
@@ -20,8 +20,6 @@ use Rattle.rows.specs.declared.Refusal.{Refusal}
 use Rattle.rows.specs.declared.Refusal.TheVariants.{FieldCut, UnknownLetter}
 use Rattle.rows.specs.declared.Row.{Row as RowAnswer}
 use Rattle.rows.specs.declared.Column.{Column}
-use Rattle.rows.specs.declared.Description.{Description}
-use Rattle.rows.specs.declared.Identifier.{Identifier}
 
 -- ---- the head
 
@@ -76,33 +74,34 @@ pub record ToldLaws : Type 0 where
 
 -- each variant stands for the answer of its name, field by field
 pub record VariantLaws : Type 0 where
-  pub relation_is : (id : ℕ) (space v : Part) (identity columns from : ℕ) → answer_by (RowAnswer.Relation id space v identity columns from)
+  pub relation_is : (id : ℕ) (space v : Part) (identity columns from : ℕ) → answer_by (Ok (Some (RowAnswer.Relation id space v identity columns from)))
       ≡ head (relation_head id (space.from, space.len) (v.from, v.len) identity columns from)
-  pub type_is : (id : ℕ) (space v : Part) → answer_by (RowAnswer.Type id space v) ≡ head (type_head id (space.from, space.len) (v.from, v.len))
-  pub origin_is : (position : ℕ) (v : Part) → answer_by (RowAnswer.Origin position v) ≡ head (origin_head position (v.from, v.len))
-  pub insert_is : (id : ℕ) (new : Tuple) → answer_by (RowAnswer.Insert id new) ≡ head (insert_head id (new.columns, new.from))
-  pub update_is : (id : ℕ) (new : Tuple) → answer_by (RowAnswer.Update id new) ≡ head (update_head id (new.columns, new.from))
-  pub update_from_is : (id : ℕ) (which : Which) (old new : Tuple) → answer_by (RowAnswer.UpdateFrom id which old new)
+  pub type_is : (id : ℕ) (space v : Part) → answer_by (Ok (Some (RowAnswer.Type id space v))) ≡ head (type_head id (space.from, space.len) (v.from, v.len))
+  pub origin_is : (position : ℕ) (v : Part) → answer_by (Ok (Some (RowAnswer.Origin position v))) ≡ head (origin_head position (v.from, v.len))
+  pub insert_is : (id : ℕ) (new : Tuple) → answer_by (Ok (Some (RowAnswer.Insert id new))) ≡ head (insert_head id (new.columns, new.from))
+  pub update_is : (id : ℕ) (new : Tuple) → answer_by (Ok (Some (RowAnswer.Update id new))) ≡ head (update_head id (new.columns, new.from))
+  pub update_from_is : (id : ℕ) (which : Which) (old new : Tuple) → answer_by (Ok (Some (RowAnswer.UpdateFrom id which old new)))
       ≡ head (update_from_head id which (old.columns, old.from) (new.columns, new.from))
-  pub delete_is : (id : ℕ) (which : Which) (old : Tuple) → answer_by (RowAnswer.Delete id which old)
+  pub delete_is : (id : ℕ) (which : Which) (old : Tuple) → answer_by (Ok (Some (RowAnswer.Delete id which old)))
       ≡ head (delete_head id which (old.columns, old.from))
-  pub truncate_is : (relations options from : ℕ) → answer_by (RowAnswer.Truncate relations options from) ≡ head (truncate_head relations options from)
-  pub none_is : answer_by RowAnswer.NoRow ≡ none
-  pub refused_cut : answer_by (RowAnswer.Refused FieldCut) ≡ refusal 26
-  pub refused_letter : answer_by (RowAnswer.Refused UnknownLetter) ≡ refusal 27
-  pub null_is : (next : ℕ) → column_by (Column.Null next) ≡ got told_null next
-  pub unchanged_is : (next : ℕ) → column_by (Column.Unchanged next) ≡ got told_unchanged next
-  pub text_is : (part : Part) (next : ℕ) → column_by (Column.Text part next) ≡ got (told_text (part.from, part.len)) next
-  pub binary_is : (part : Part) (next : ℕ) → column_by (Column.Binary part next) ≡ got (told_binary (part.from, part.len)) next
-  pub column_cut : column_by (Column.Refused FieldCut) ≡ refused 26
-  pub column_letter : column_by (Column.Refused UnknownLetter) ≡ refused 27
-  pub description_is : (flags : ℕ) (part : Part) (oid : ℕ) (modifier : ℤ) (next : ℕ) → description_by (Description.Of flags part oid modifier next)
+  pub truncate_is : (relations options from : ℕ) → answer_by (Ok (Some (RowAnswer.Truncate relations options from))) ≡ head (truncate_head relations options from)
+  pub none_is : answer_by (Ok None) ≡ none
+  pub refused_cut : answer_by (Err FieldCut) ≡ refusal 26
+  pub refused_letter : answer_by (Err UnknownLetter) ≡ refusal 27
+  pub null_is : (next : ℕ) → column_by (Ok (Column.Null, next)) ≡ got told_null next
+  pub unchanged_is : (next : ℕ) → column_by (Ok (Column.Unchanged, next)) ≡ got told_unchanged next
+  pub text_is : (part : Part) (next : ℕ) → column_by (Ok (Column.Text part, next)) ≡ got (told_text (part.from, part.len)) next
+  pub binary_is : (part : Part) (next : ℕ) → column_by (Ok (Column.Binary part, next)) ≡ got (told_binary (part.from, part.len)) next
+  pub column_cut : column_by (Err FieldCut) ≡ refused 26
+  pub column_letter : column_by (Err UnknownLetter) ≡ refused 27
+  pub description_is : (flags : ℕ) (part : Part) (oid : ℕ) (modifier : ℤ) (next : ℕ)
+      → description_by (Ok (record { flags = flags; name = part; oid = oid; modifier = modifier }, next))
       ≡ got (told_description flags (part.from, part.len) oid modifier) next
-  pub description_cut : description_by (Description.Refused FieldCut) ≡ refused 26
-  pub description_letter : description_by (Description.Refused UnknownLetter) ≡ refused 27
-  pub identifier_is : (id next : ℕ) → identifier_by (Identifier.Of id next) ≡ got id next
-  pub identifier_cut : identifier_by (Identifier.Refused FieldCut) ≡ refused 26
-  pub identifier_letter : identifier_by (Identifier.Refused UnknownLetter) ≡ refused 27
+  pub description_cut : description_by (Err FieldCut) ≡ refused 26
+  pub description_letter : description_by (Err UnknownLetter) ≡ refused 27
+  pub identifier_is : (id next : ℕ) → identifier_by (Ok (id, next)) ≡ got id next
+  pub identifier_cut : identifier_by (Err FieldCut) ≡ refused 26
+  pub identifier_letter : identifier_by (Err UnknownLetter) ≡ refused 27
   -- the numbers of SCOPE 7.1, and Protocol, kind 3 of SCOPE 7.4
   pub cut_number : number_of FieldCut ≡ 26
   pub letter_number : number_of UnknownLetter ≡ 27

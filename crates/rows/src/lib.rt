@@ -17,7 +17,7 @@ use error::Kind;
 // Why data are refused, 26 and 27.
 #[derive(Clone, Copy)]
 pub enum Refusal {
-    FieldCut, // a field is cut short, or a count or length is negative
+    FieldCut = 26, // a field is cut short, or a count or length is negative
     UnknownLetter, // a letter stands where the document does not list it
 }
 
@@ -86,74 +86,24 @@ pub enum Row {
         options: u8,
         from: usize,
     },
-    NoRow,
-    Refused(Refusal),
 }
 
-// A column of a tuple, and the place of the next one.
+// A column of a tuple.
 #[derive(Clone, Copy)]
 pub enum Column {
-    Null(usize),
-    Unchanged(usize),
-    Text(Part, usize),
-    Binary(Part, usize),
-    Refused(Refusal),
+    Null,
+    Unchanged,
+    Text(Part),
+    Binary(Part),
 }
 
-// A column of a relation, and the place of the next one.
+// A column of a relation.
 #[derive(Clone, Copy)]
-pub enum Description {
-    Of {
-        flags: u8,
-        name: Part,
-        oid: u32,
-        modifier: i32,
-        next: usize,
-    },
-    Refused(Refusal),
-}
-
-// A relation of a Truncate, and the place of the next one.
-#[derive(Clone, Copy)]
-pub enum Identifier {
-    Of(u32, usize),
-    Refused(Refusal),
-}
-
-// A name, and the place after its zero byte.
-#[derive(Clone, Copy)]
-enum Name {
-    At(Part, usize),
-    Cut,
-}
-
-// A value, and the place after it.
-#[derive(Clone, Copy)]
-enum Bytes {
-    At(Part, usize),
-    Cut,
-}
-
-// What is repeated in a message.
-#[derive(Clone, Copy)]
-enum Item {
-    Column,
-    Description,
-    Identifier,
-}
-
-// The place after fields.
-#[derive(Clone, Copy)]
-enum End {
-    At(usize),
-    Refused(Refusal),
-}
-
-// How many there are and where the first one stands, and the place after the last.
-#[derive(Clone, Copy)]
-enum Counted {
-    Of(Tuple, usize),
-    Refused(Refusal),
+pub struct Description {
+    pub flags: u8,
+    pub name: Part,
+    pub oid: u32,
+    pub modifier: i32,
 }
 
 impl Refusal {
@@ -161,19 +111,13 @@ impl Refusal {
     pub fn number(self) -> u8
         ensures { result ≡ number_of self }
     {
-        match self {
-            Refusal::FieldCut => 26,
-            Refusal::UnknownLetter => 27,
-        }
+        self as u8
     }
 
     pub fn kind(self) -> Kind
         ensures { kind_number result ≡ kind_of self }
     {
-        match self {
-            Refusal::FieldCut => Kind::Protocol,
-            Refusal::UnknownLetter => Kind::Protocol,
-        }
+        Kind::Protocol
     }
 }
 
@@ -191,36 +135,36 @@ fn is_boundary(letter: u8) -> bool
 }
 
 // The row that the data hold. What follows it is not read.
-pub fn read_row(bytes: &[u8]) -> Row
+pub fn read_row(bytes: &[u8]) -> Result<Option<Row>, Refusal>
     ensures { answer_by result ≡ answer_of (row_said bytes.now) }
 {
     if bytes.len() == 0 {
-        return Row::Refused(Refusal::FieldCut);
+        return Err(Refusal::FieldCut);
     }
     let letter = bytes[0];
     if is_boundary(letter) {
-        return Row::NoRow;
+        return Ok(None);
     }
     if letter == b'R' {
-        return messages::relation_at(bytes);
+        return messages::relation_at(bytes).map(Some);
     }
     if letter == b'Y' {
-        return messages::type_at(bytes);
+        return messages::type_at(bytes).map(Some);
     }
     if letter == b'O' {
-        return messages::origin_at(bytes);
+        return messages::origin_at(bytes).map(Some);
     }
     if letter == b'I' {
-        return messages::insert_at(bytes);
+        return messages::insert_at(bytes).map(Some);
     }
     if letter == b'U' {
-        return messages::update_at(bytes);
+        return messages::update_at(bytes).map(Some);
     }
     if letter == b'D' {
-        return messages::delete_at(bytes);
+        return messages::delete_at(bytes).map(Some);
     }
     if letter == b'T' {
-        return messages::truncate_at(bytes);
+        return messages::truncate_at(bytes).map(Some);
     }
-    Row::Refused(Refusal::UnknownLetter)
+    Err(Refusal::UnknownLetter)
 }

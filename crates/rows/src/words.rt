@@ -2,12 +2,12 @@
 // The words have names in layout.rt.
 ghost use Rattle.std.specs.Prelude.{◌≡◌};
 ghost use Rattle.wire.specs.Int.{value};
-ghost use Rattle.rows.specs.Head.{answer_by, column_by, description_by, identifier_by, span_of, tuple_of};
+ghost use Rattle.rows.specs.Head.{answer_by, row_head, column_by, description_by, identifier_by, span_of, tuple_of};
 ghost use Rattle.rows.specs.Head.{refusal, relation_head, origin_head, truncate_head};
 ghost use Rattle.rows.specs.Rows.{which_letter};
 ghost use Rattle.rows.specs.Words.{words_by, head_words, row_reply, column_reply, description_reply, identifier_reply};
 
-use crate::{Column, Description, Identifier, Part, Row, Tuple, Which, layout};
+use crate::{Column, Description, Part, Refusal, Row, Tuple, Which, layout};
 use wire::field::of_i64;
 
 // A refusal's number, 0 for none, and the words of a head.
@@ -180,8 +180,9 @@ pub fn no_head(number: u64) -> RowReply
     }
 }
 
-pub fn row_reply(row: Row) -> RowReply
-    ensures { (result.refusal, result.words) ≡ row_reply (answer_by row) }
+// The words of a row's head.
+fn head_reply(row: Row) -> RowReply
+    ensures { (result.refusal ≡ 0) × (result.words ≡ head_words (row_head row)) }
 {
     match row {
         Row::Relation {
@@ -216,75 +217,77 @@ pub fn row_reply(row: Row) -> RowReply
             options,
             from,
         } => truncate_reply(relations, options, from),
-        Row::NoRow => no_head(0),
-        Row::Refused(r) => no_head(r.number() as u64),
     }
 }
 
-pub fn column_reply(column: Column) -> ColumnReply
+pub fn row_reply(row: Result<Option<Row>, Refusal>) -> RowReply
+    ensures { (result.refusal, result.words) ≡ row_reply (answer_by row) }
+{
+    match row {
+        Ok(Some(row)) => head_reply(row),
+        Ok(None) => no_head(0),
+        Err(r) => no_head(r.number() as u64),
+    }
+}
+
+pub fn column_reply(column: Result<(Column, usize), Refusal>) -> ColumnReply
     ensures { (result.next, result.words) ≡ column_reply (column_by column) }
 {
     match column {
-        Column::Null(next) => ColumnReply {
+        Ok((Column::Null, next)) => ColumnReply {
             next: next as u64,
             words: [0, layout::TUPLE_NULL, 0, 0],
         },
-        Column::Unchanged(next) => ColumnReply {
+        Ok((Column::Unchanged, next)) => ColumnReply {
             next: next as u64,
             words: [0, layout::TUPLE_UNCHANGED, 0, 0],
         },
-        Column::Text(part, next) => ColumnReply {
+        Ok((Column::Text(part), next)) => ColumnReply {
             next: next as u64,
             words: [0, layout::TUPLE_TEXT, part.from as u64, part.len as u64],
         },
-        Column::Binary(part, next) => ColumnReply {
+        Ok((Column::Binary(part), next)) => ColumnReply {
             next: next as u64,
             words: [0, layout::TUPLE_BINARY, part.from as u64, part.len as u64],
         },
-        Column::Refused(r) => ColumnReply {
+        Err(r) => ColumnReply {
             next: 0,
             words: [r.number() as u64, layout::TUPLE_NONE, 0, 0],
         },
     }
 }
 
-pub fn description_reply(description: Description) -> DescriptionReply
+pub fn description_reply(description: Result<(Description, usize), Refusal>) -> DescriptionReply
     ensures { (result.next, result.words) ≡ description_reply (description_by description) }
 {
     match description {
-        Description::Of {
-            flags,
-            name,
-            oid,
-            modifier,
-            next,
-        } => DescriptionReply {
+        Ok((d, next)) => DescriptionReply {
             next: next as u64,
             words: [
                 0,
-                flags as u64,
-                name.from as u64,
-                name.len as u64,
-                oid as u64,
-                signed_word(modifier),
+                d.flags as u64,
+                d.name.from as u64,
+                d.name.len as u64,
+                d.oid as u64,
+                signed_word(d.modifier),
             ],
         },
-        Description::Refused(r) => DescriptionReply {
+        Err(r) => DescriptionReply {
             next: 0,
             words: [r.number() as u64, 0, 0, 0, 0, 0],
         },
     }
 }
 
-pub fn identifier_reply(identifier: Identifier) -> IdentifierReply
+pub fn identifier_reply(identifier: Result<(u32, usize), Refusal>) -> IdentifierReply
     ensures { (result.next, result.words) ≡ identifier_reply (identifier_by identifier) }
 {
     match identifier {
-        Identifier::Of(id, next) => IdentifierReply {
+        Ok((id, next)) => IdentifierReply {
             next: next as u64,
             words: [0, id as u64],
         },
-        Identifier::Refused(r) => IdentifierReply {
+        Err(r) => IdentifierReply {
             next: 0,
             words: [r.number() as u64, 0],
         },

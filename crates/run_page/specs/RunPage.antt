@@ -1,4 +1,6 @@
 -- What the service page shows of a run. SCOPE 5.12; 02, wish 9.
+use Rattle.std.specs.Prelude.{Some, None}
+use Rattle.wire.specs.Bytes.{pick}
 use Rattle.page.specs.declared.Page.{Page}
 use Rattle.progress.specs.Progress.{cell_position}
 use Rattle.worker.specs.declared.Run.{Run}
@@ -10,8 +12,7 @@ abbrev pub shown_by : Run → Page
 shown_by r =
     record {
       position = cell_position (cell_in r);
-      sent = r.status.sent;
-      confirmed = r.status.position;
+      confirmed = pick r.status.sent (Some r.status.position) None;
       server = r.server;
       events = r.metrics.events_forwarded;
       stalls = r.metrics.stall_count;

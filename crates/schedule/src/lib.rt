@@ -1,11 +1,10 @@
 #![tactic(auto)]
 // When to call a step again, for an event loop.
-ghost use Rattle.std.specs.Prelude.{◌≡◌, min, get_or};
+ghost use Rattle.std.specs.Prelude.{◌≡◌};
 ghost use Rattle.schedule.specs.NextStep.{next_by, due_of, by_clock, is_whole, opening_next, reading_next, waiting_next, offering_next, next_step_of};
 
 use framing::MessageReader;
 use moment::Moment;
-use wire::store::least;
 use worker::{Queue, Run, State};
 
 // The number after the last moment: no step is accepted at it.
@@ -20,12 +19,6 @@ pub enum NextStep {
     From(Moment),
     OnInput,
     Never,
-}
-
-fn sooner(a: u64, b: u64) -> u64
-    ensures { result ≡ min a b }
-{
-    if a < b { a } else { b }
 }
 
 // The first moment at which the interval has passed. The sum does not wrap: it is made only where it is at most the last moment.
@@ -56,12 +49,6 @@ fn by_clock(due: u64) -> NextStep
     NextStep::OnInput
 }
 
-fn tag_of(header: [u8; 5]) -> u8
-    ensures { result ≡ get_or header 0 0 }
-{
-    header[0]
-}
-
 // Whether the reader's message lacks no byte; no call leaves such a reader.
 fn is_whole(reader: MessageReader, payload_len: usize) -> bool
     ensures { result ≡ is_whole reader payload_len }
@@ -70,7 +57,7 @@ fn is_whole(reader: MessageReader, payload_len: usize) -> bool
     if filled < 5 {
         return false;
     }
-    least(reader.payload_len, payload_len) <= filled - 5
+    reader.payload_len.min(payload_len) <= filled - 5
 }
 
 fn opening(reader: MessageReader, payload_len: usize) -> NextStep
@@ -80,8 +67,7 @@ fn opening(reader: MessageReader, payload_len: usize) -> NextStep
         return NextStep::AtOnce;
     }
     if is_whole(reader, payload_len) {
-        let header = reader.header;
-        let tag = tag_of(header);
+        let tag = reader.tag();
         if framing::tag::is_copy_both_response(tag) {
             return NextStep::AtOnce;
         }
@@ -111,7 +97,7 @@ fn waiting(run: Run) -> NextStep
     let idle = due(run.settings.idle_wakeup_interval, run.clock.wait_began);
     if run.pending {
         let status = due(run.settings.status_interval, run.status.at);
-        return by_clock(sooner(status, idle));
+        return by_clock(status.min(idle));
     }
     if run.progress.signalled {
         return NextStep::AtOnce;

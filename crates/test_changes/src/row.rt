@@ -1,19 +1,17 @@
 // A row's line: its head, and its columns, descriptions or identifiers read one by one from the places that the head names.
 use crate::words;
 use lsn::Lsn;
-use rows::{Part, Row, Tuple, Which};
+use rows::{Part, Refusal, Row, Tuple, Which};
 
 // A tuple: its column count, and a word for each column.
 fn tuple(line: &mut [u8], from: usize, input: &[u8], t: Tuple) -> usize {
     let n = t.columns;
     let mut at = test_lines::number(line, from, n as u64);
     let mut place = t.from;
-    let mut k: usize = 0;
-    while k < n {
+    for _ in 0..n {
         let c = rows::items::column_at(input, place);
         at = words::column(line, at, input, c);
-        place = words::after_column(c, place);
-        k += 1;
+        place = words::after(c, place);
     }
     at
 }
@@ -22,12 +20,10 @@ fn tuple(line: &mut [u8], from: usize, input: &[u8], t: Tuple) -> usize {
 fn descriptions(line: &mut [u8], from: usize, input: &[u8], n: usize, first: usize) -> usize {
     let mut at = test_lines::number(line, from, n as u64);
     let mut place = first;
-    let mut k: usize = 0;
-    while k < n {
+    for _ in 0..n {
         let d = rows::items::description_at(input, place);
         at = words::description(line, at, input, d);
-        place = words::after_description(d, place);
-        k += 1;
+        place = words::after(d, place);
     }
     at
 }
@@ -36,12 +32,10 @@ fn descriptions(line: &mut [u8], from: usize, input: &[u8], n: usize, first: usi
 fn identifiers(line: &mut [u8], from: usize, input: &[u8], n: usize, first: usize) -> usize {
     let mut at = from;
     let mut place = first;
-    let mut k: usize = 0;
-    while k < n {
+    for _ in 0..n {
         let i = rows::items::identifier_at(input, place);
         at = words::identifier(line, at, i);
-        place = words::after_identifier(i, place);
-        k += 1;
+        place = words::after(i, place);
     }
     at
 }
@@ -108,35 +102,47 @@ fn truncate(line: &mut [u8], input: &[u8], n: usize, options: u8, from: usize) -
 }
 
 // Rows that describe.
-fn described(line: &mut [u8], input: &[u8], r: Row) -> usize {
+fn described(line: &mut [u8], input: &[u8], r: Result<Option<Row>, Refusal>) -> usize {
     match r {
-        Row::Relation {
-            id,
-            namespace,
-            name,
-            identity,
-            columns,
-            from,
-        } => {
+        Ok(
+            Some(
+                Row::Relation {
+                    id,
+                    namespace,
+                    name,
+                    identity,
+                    columns,
+                    from,
+                },
+            ),
+        ) => {
             let a = begun(line, b'R', id);
             let b = two_names(line, a, input, namespace, name);
             relation(line, b, input, identity, columns, from)
         }
-        Row::Type {
-            id,
-            namespace,
-            name,
-        } => {
+        Ok(
+            Some(
+                Row::Type {
+                    id,
+                    namespace,
+                    name,
+                },
+            ),
+        ) => {
             let c = begun(line, b'Y', id);
             two_names(line, c, input, namespace, name)
         }
-        Row::Origin { position, name } => origin(line, input, position, name),
-        Row::Truncate {
-            relations,
-            options,
-            from,
-        } => truncate(line, input, relations, options, from),
-        Row::Refused(r) => test_lines::number(line, 1, r.number() as u64),
+        Ok(Some(Row::Origin { position, name })) => origin(line, input, position, name),
+        Ok(
+            Some(
+                Row::Truncate {
+                    relations,
+                    options,
+                    from,
+                },
+            ),
+        ) => truncate(line, input, relations, options, from),
+        Err(r) => test_lines::number(line, 1, r.number() as u64),
         _ => wire::store::place(line, 1, b" 0 n"),
     }
 }
@@ -145,29 +151,37 @@ fn described(line: &mut [u8], input: &[u8], r: Row) -> usize {
 pub(crate) fn after_fields(line: &mut [u8], input: &[u8]) -> usize {
     let r = rows::read_row(input);
     match r {
-        Row::Insert { relation, new: t } => {
+        Ok(Some(Row::Insert { relation, new: t })) => {
             let a = begun(line, b'I', relation);
             new(line, a, input, t)
         }
-        Row::Update { relation, new: t } => {
+        Ok(Some(Row::Update { relation, new: t })) => {
             let b = begun(line, b'U', relation);
             new(line, b, input, t)
         }
-        Row::UpdateFrom {
-            relation,
-            which,
-            old: o,
-            new: t,
-        } => {
+        Ok(
+            Some(
+                Row::UpdateFrom {
+                    relation,
+                    which,
+                    old: o,
+                    new: t,
+                },
+            ),
+        ) => {
             let c = begun(line, b'U', relation);
             let d = old(line, c, input, which, o);
             new(line, d, input, t)
         }
-        Row::Delete {
-            relation,
-            which,
-            old: o,
-        } => {
+        Ok(
+            Some(
+                Row::Delete {
+                    relation,
+                    which,
+                    old: o,
+                },
+            ),
+        ) => {
             let e = begun(line, b'D', relation);
             old(line, e, input, which, o)
         }

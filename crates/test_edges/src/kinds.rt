@@ -20,7 +20,7 @@ fn asked(r: Refusal) -> u64 {
         + bit(r.is_transient(), 16)
 }
 
-fn kind(output: Stdout, r: Refusal) -> bool {
+fn kind(output: Stdout, r: Refusal) {
     let k = r.kind();
     told(
         output,
@@ -29,49 +29,40 @@ fn kind(output: Stdout, r: Refusal) -> bool {
         k.number() as u64,
         asked(r),
         0,
-    )
+    );
 }
 
-fn of_calls(output: Stdout) {
-    kind(output, Refusal::IntervalTooLong);
-    kind(output, Refusal::RunEnded);
-    kind(output, Refusal::PayloadBufferTooShort);
-    kind(output, Refusal::OutputTooShort);
-    kind(output, Refusal::MomentOutOfOrder);
-}
-
-fn of_reads(output: Stdout) {
-    kind(output, Refusal::InvalidLength);
-    kind(output, Refusal::MessageTooLarge);
-    kind(output, Refusal::EofInHeader);
-    kind(output, Refusal::EofInPayload);
-}
-
-fn of_messages(output: Stdout) {
-    kind(output, Refusal::EmptyCopyData);
-    kind(output, Refusal::XLogDataTooShort);
-    kind(output, Refusal::KeepaliveTooShort);
-    kind(output, Refusal::UnknownCopyData);
-    kind(output, Refusal::TruncatedI8);
-    kind(output, Refusal::TruncatedI32);
-    kind(output, Refusal::TruncatedI64);
-    kind(output, Refusal::UnterminatedPrefix);
-    kind(output, Refusal::ContentTooShort);
-}
-
-fn of_others(output: Stdout) {
-    kind(output, Refusal::ServerError);
-    kind(output, Refusal::MalformedDataRow);
-    kind(output, Refusal::AuthRequestTooShort);
-    kind(output, Refusal::MissingSlash);
-    kind(output, Refusal::InvalidHighPart);
-    kind(output, Refusal::InvalidLowPart);
-    kind(output, Refusal::InputTooLong);
-}
+// Of calls, of reads, of messages and of others.
+const REFUSALS: [Refusal; 25] = [
+    Refusal::IntervalTooLong,
+    Refusal::RunEnded,
+    Refusal::PayloadBufferTooShort,
+    Refusal::OutputTooShort,
+    Refusal::MomentOutOfOrder,
+    Refusal::InvalidLength,
+    Refusal::MessageTooLarge,
+    Refusal::EofInHeader,
+    Refusal::EofInPayload,
+    Refusal::EmptyCopyData,
+    Refusal::XLogDataTooShort,
+    Refusal::KeepaliveTooShort,
+    Refusal::UnknownCopyData,
+    Refusal::TruncatedI8,
+    Refusal::TruncatedI32,
+    Refusal::TruncatedI64,
+    Refusal::UnterminatedPrefix,
+    Refusal::ContentTooShort,
+    Refusal::ServerError,
+    Refusal::MalformedDataRow,
+    Refusal::AuthRequestTooShort,
+    Refusal::MissingSlash,
+    Refusal::InvalidHighPart,
+    Refusal::InvalidLowPart,
+    Refusal::InputTooLong,
+];
 
 pub(crate) fn all(output: Stdout) {
-    of_calls(output);
-    of_reads(output);
-    of_messages(output);
-    of_others(output);
+    for r in REFUSALS {
+        kind(output, r);
+    }
 }

@@ -16,8 +16,7 @@ fn spelled(line: &mut [u8], letter: u8, a: u64, b: u64, c: u64, d: u64) -> usize
         ≡ pieces line.old 0
         (((letter ∷ []) ∷ []) ++ (number_texts a ++ (number_texts b ++ (number_texts c ++ (number_texts d ++ end_texts))))) }
 {
-    let head = [letter];
-    let e = wire::store::place(line, 0, &head);
+    let e = wire::store::place(line, 0, &[letter]);
     let f = test_lines::number(line, e, a);
     let g = test_lines::number(line, f, b);
     let h = test_lines::number(line, g, c);
@@ -25,10 +24,11 @@ fn spelled(line: &mut [u8], letter: u8, a: u64, b: u64, c: u64, d: u64) -> usize
     test_lines::end(line, i)
 }
 
-pub(crate) fn told(output: Stdout, letter: u8, a: u64, b: u64, c: u64, d: u64) -> bool {
+// A line that cannot be written is let go, and the next ones come all the same.
+pub(crate) fn told(output: Stdout, letter: u8, a: u64, b: u64, c: u64, d: u64) {
     let mut line = [0u8; 128];
     let n = spelled(&mut line, letter, a, b, c, d);
-    test_lines::print(output, &line, n)
+    let _ = test_lines::print(output, &line, n);
 }
 
 fn main(rt: HostRuntime) {

@@ -1,20 +1,21 @@
 // A reader whose buffer is one byte short for one read, in a header and in a payload: refused with 3, and what was read before is kept.
 use crate::told;
-use framing::{Answer, MessageReader};
+use error::Refusal;
+use framing::{MessageReader, Whole};
 use std::io::Stdout;
 
-fn answer(output: Stdout, a: Answer, taken: usize, payload: &[u8]) -> bool {
+fn answer(output: Stdout, a: Result<Option<Whole>, Refusal>, taken: usize, payload: &[u8]) {
     match a {
-        Answer::More => told(output, b'G', 0, 0, taken as u64, test_lines::sum(payload)),
-        Answer::Whole(tag, n) => told(
+        Ok(None) => told(output, b'G', 0, 0, taken as u64, test_lines::sum(payload)),
+        Ok(Some(whole)) => told(
             output,
             b'G',
-            tag as u64,
-            n as u64,
+            whole.tag as u64,
+            whole.len as u64,
             taken as u64,
             test_lines::sum(payload),
         ),
-        Answer::Refused(r) => told(
+        Err(r) => told(
             output,
             b'G',
             0,
@@ -27,75 +28,23 @@ fn answer(output: Stdout, a: Answer, taken: usize, payload: &[u8]) -> bool {
 
 fn read(output: Stdout, reader: MessageReader, bytes: &[u8], payload: &mut [u8]) -> MessageReader {
     let s = reader.read(10, bytes, false, payload);
-    let a = s.answer;
-    answer(output, a, s.taken, payload);
+    answer(output, s.answer, s.taken, payload);
     s.reader
 }
 
-fn filled(short: &mut [u8], payload: &mut [u8]) {
-    test_lines::fill(short, 7);
-    test_lines::fill(payload, 7);
-}
-
-// First some bytes, then the rest with a short buffer.
-fn begun(
-    output: Stdout,
-    first: &[u8],
-    rest: &[u8],
-    short: &mut [u8],
-    payload: &mut [u8],
-) -> MessageReader {
-    let a = read(output, MessageReader::new(), first, payload);
-    read(output, a, rest, short)
-}
-
-// The rest again, and another message.
-fn ended(output: Stdout, reader: MessageReader, rest: &[u8], payload: &mut [u8]) -> MessageReader {
-    let a = read(output, reader, rest, payload);
-    read(output, a, b"e\x00\x00\x00\x05f", payload)
-}
-
-fn parted(
-    output: Stdout,
-    first: &[u8],
-    rest: &[u8],
-    short: &mut [u8],
-    payload: &mut [u8],
-) -> MessageReader {
-    filled(short, payload);
-    let reader = begun(output, first, rest, short, payload);
-    ended(output, reader, rest, payload)
+// First some bytes, then the rest with a short buffer, then the rest again, and another message.
+fn parted(output: Stdout, first: &[u8], rest: &[u8]) {
+    let mut short = [7u8; 9];
+    let mut payload = [7u8; 10];
+    let a = read(output, MessageReader::new(), first, &mut payload);
+    let b = read(output, a, rest, &mut short);
+    let c = read(output, b, rest, &mut payload);
+    read(output, c, b"e\x00\x00\x00\x05f", &mut payload);
 }
 
 pub(crate) fn all(output: Stdout) {
-    let mut short = [0u8; 9];
-    let mut payload = [0u8; 10];
-    parted(
-        output,
-        b"",
-        b"d\x00\x00\x00\x08wxyz",
-        &mut short,
-        &mut payload,
-    );
-    parted(
-        output,
-        b"d\x00\x00",
-        b"\x00\x08wxyz",
-        &mut short,
-        &mut payload,
-    );
-    parted(
-        output,
-        b"d\x00\x00\x00\x08",
-        b"wxyz",
-        &mut short,
-        &mut payload,
-    );
-    parted(
-        output,
-        b"d\x00\x00\x00\x08wx",
-        b"yz",
-        &mut short,
-        &mut payload,
-    );
+    parted(output, b"", b"d\x00\x00\x00\x08wxyz");
+    parted(output, b"d\x00\x00", b"\x00\x08wxyz");
+    parted(output, b"d\x00\x00\x00\x08", b"wxyz");
+    parted(output, b"d\x00\x00\x00\x08wx", b"yz");
 }

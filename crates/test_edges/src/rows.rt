@@ -3,22 +3,20 @@ use crate::told;
 use query::Column;
 use std::io::Stdout;
 
-fn column(output: Stdout, payload: &[u8], i: usize) -> bool {
+fn column(output: Stdout, payload: &[u8], i: usize) {
     match query::data_row::column(payload, i) {
-        Column::Absent => told(output, b'C', 0, 0, 0, 0),
-        Column::Null => told(output, b'C', 0, 1, 0, 0),
-        Column::Part(from, len) => told(output, b'C', 0, 2, from as u64, len as u64),
-        Column::Refused(r) => told(output, b'C', r.number() as u64, 0, 0, 0),
+        Ok(Column::Absent) => told(output, b'C', 0, 0, 0, 0),
+        Ok(Column::Null) => told(output, b'C', 0, 1, 0, 0),
+        Ok(Column::Part(from, len)) => told(output, b'C', 0, 2, from as u64, len as u64),
+        Err(r) => told(output, b'C', r.number() as u64, 0, 0, 0),
     }
 }
 
 // The first four, and the last that a number can ask for.
 fn columns(output: Stdout, payload: &[u8]) {
-    column(output, payload, 0);
-    column(output, payload, 1);
-    column(output, payload, 2);
-    column(output, payload, 3);
-    column(output, payload, usize::MAX);
+    for i in [0, 1, 2, 3, usize::MAX] {
+        column(output, payload, i);
+    }
 }
 
 // Two columns, one of them null, and surplus bytes; a negative number of columns; a cut length; a cut value; no byte.

@@ -1,15 +1,12 @@
 // Opening hours: seven windows, Monday first, each 2 bytes of its opening and 2 of its closing minute, then 4 of the offset and 8 of the moment.
-use hours::{Answer, Change, Hours};
+use crate::shown::{accepted, refused};
+use hours::{Hours, Told};
 use test_lines::fields;
 
 const INPUT: usize = 40;
 
 fn minute(input: &[u8], at: usize) -> u64 {
     fields::half(input, at) as u64
-}
-
-fn minutes(offset: i32) -> i64 {
-    offset as i64
 }
 
 fn hours_of(input: &[u8]) -> Hours {
@@ -32,27 +29,27 @@ fn hours_of(input: &[u8]) -> Hours {
             minute(input, 22),
             minute(input, 26),
         ],
-        offset: minutes(fields::signed_word(input, 28)),
+        offset: i64::from(fields::signed_word(input, 28)),
     }
 }
 
-fn told(line: &mut [u8], state: bool, change: Change) -> usize {
-    let a = wire::store::place(line, 1, b" 0");
-    let b = test_lines::flag(line, a, state);
-    match change {
-        Change::At(moment) => test_lines::long(line, b, moment),
-        Change::Never => wire::store::place(line, b, b" never"),
+fn told(line: &mut [u8], told: Told) -> usize {
+    let a = accepted(line);
+    let b = test_lines::flag(line, a, told.is_open);
+    match told.change {
+        Some(moment) => test_lines::long(line, b, moment),
+        None => wire::store::place(line, b, b" never"),
     }
 }
 
-// An input of another length is malformed, and so answers 0.
-pub(crate) fn after_fields(line: &mut [u8], input: &[u8]) -> usize {
+// An input of another length is malformed.
+pub(crate) fn after_fields(line: &mut [u8], input: &[u8]) -> Option<usize> {
     if input.len() != INPUT {
-        return 0;
+        return None;
     }
     let hours = hours_of(input);
     match hours.ask(fields::signed_long(input, 32)) {
-        Answer::Told(state, change) => told(line, state, change),
-        Answer::Refused(r) => test_lines::number(line, 1, r.number() as u64),
+        Ok(answer) => Some(told(line, answer)),
+        Err(r) => Some(refused(line, r.number())),
     }
 }

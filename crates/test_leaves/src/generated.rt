@@ -1,18 +1,19 @@
 // A generated load: its stream as a writer's line, and its own list of events.
-use crate::writers;
+use crate::shown::{accepted, refused};
 use crate::writers::Answer;
-use load::{Loaded, Message};
+use load::{Message, Refusal};
+use lossy::Lossy;
 use lsn::Lsn;
 use test_lines::fields;
 
 // The seed and how many messages.
-pub(crate) fn stream(input: &[u8], out: &mut [u8]) -> Answer {
+pub(crate) fn stream(input: &[u8], out: &mut [u8]) -> Option<Answer> {
     if input.len() != 16 {
-        return writers::malformed();
+        return None;
     }
     match load::write_load(fields::long(input, 0), fields::long(input, 8), out) {
-        Loaded::Wrote(n) => writers::wrote(n, 0),
-        Loaded::Refused(r) => writers::refused(r.number()),
+        Ok(bytes) => Some(Ok(Lossy { bytes, marks: 0 })),
+        Err(r) => Some(Err(r)),
     }
 }
 
@@ -52,32 +53,29 @@ fn event(line: &mut [u8], at: usize, m: Message) -> usize {
 }
 
 fn list(line: &mut [u8], seed: u64, messages: usize) -> usize {
-    let mut at = wire::store::place(line, 1, b" 0");
+    let mut at = accepted(line);
     let mut state = seed;
-    let mut i: usize = 0;
-    while i < messages {
+    for _ in 0..messages {
         let m = load::message_from(state);
-        let message = m.message;
         let bar = wire::store::place(line, at, b" | ");
-        at = event(line, bar, message);
+        at = event(line, bar, m.message);
         state = m.state;
-        i += 1;
     }
     at
 }
 
-// The seed and how many events, at most 1,000. An input of another length is malformed, and so answers 0.
-pub(crate) fn events(line: &mut [u8], input: &[u8]) -> usize {
+// The seed and how many events, at most 1,000. An input of another length is malformed.
+pub(crate) fn events(line: &mut [u8], input: &[u8]) -> Option<usize> {
     if input.len() != 10 {
-        return 0;
+        return None;
     }
     let messages = fields::half(input, 8);
     if 1000 < messages {
-        return 0;
+        return None;
     }
     let seed = fields::long(input, 0);
     if seed == 0 {
-        return test_lines::number(line, 1, 35);
+        return Some(refused(line, Refusal::SeedZero.number()));
     }
-    list(line, seed, messages)
+    Some(list(line, seed, messages))
 }

@@ -1,108 +1,95 @@
 // Kinds of records whose input is read: each answers the place after the line's fields, which begin after the kind.
-use crate::shown::{Item, Items};
-use crate::{boundaries, calendar, generated, rows, session, shown};
-use lsn::{Lsn, Parsed};
-use messages::{AuthRequest, ErrorFields, Field};
+use crate::shown::{accepted, null, refused};
+use crate::{boundaries, calendar, generated, rows, session};
+use lsn::Lsn;
+use messages::{ErrorFields, Field};
 use replication::CopyData;
 
-fn position(input: &[u8]) -> Items {
+fn position(line: &mut [u8], input: &[u8]) -> usize {
     match Lsn::parse(input) {
-        Parsed::Position(p) => Items {
-            refusal: 0,
-            letter: 0,
-            first: Item::Position(p.0),
-            second: Item::Empty,
-            third: Item::Empty,
-            fourth: Item::Empty,
-        },
-        Parsed::Refused(r) => shown::refused(r.number()),
+        Ok(p) => {
+            let a = accepted(line);
+            test_lines::position(line, a, p)
+        }
+        Err(r) => refused(line, r.number()),
     }
 }
 
-fn auth(input: &[u8]) -> Items {
+fn auth(line: &mut [u8], input: &[u8]) -> usize {
     match messages::parse_auth_request(input) {
-        AuthRequest::Request { code, from, len } => Items {
-            refusal: 0,
-            letter: 0,
-            first: Item::Code(code),
-            second: Item::Part(from, len),
-            third: Item::Empty,
-            fourth: Item::Empty,
-        },
-        AuthRequest::Refused(r) => shown::refused(r.number()),
+        Ok(request) => {
+            let a = accepted(line);
+            let b = test_lines::long(line, a, i64::from(request.code));
+            test_lines::part(line, b, input, request.from, request.len)
+        }
+        Err(r) => refused(line, r.number()),
     }
 }
 
-fn copy_data(input: &[u8]) -> Items {
+fn copy_data(line: &mut [u8], input: &[u8]) -> usize {
     match replication::parse_copy_data(input) {
-        CopyData::XLogData {
-            wal_start,
-            wal_end,
-            server_time,
-            from,
-            len,
-        } => Items {
-            refusal: 0,
-            letter: b'w',
-            first: Item::Position(wal_start.0),
-            second: Item::Position(wal_end.0),
-            third: Item::Time(server_time),
-            fourth: Item::Part(from, len),
-        },
-        CopyData::KeepAlive {
-            wal_end,
-            server_time,
-            reply,
-        } => Items {
-            refusal: 0,
-            letter: b'k',
-            first: Item::Position(wal_end.0),
-            second: Item::Time(server_time),
-            third: Item::Flag(reply),
-            fourth: Item::Empty,
-        },
-        CopyData::Refused(r) => shown::refused(r.number()),
+        Ok(
+            CopyData::XLogData {
+                wal_start,
+                wal_end,
+                server_time,
+                from,
+                len,
+            },
+        ) => {
+            let a = accepted(line);
+            let b = wire::store::place(line, a, b" w");
+            let c = test_lines::position(line, b, wal_start);
+            let d = test_lines::position(line, c, wal_end);
+            let e = test_lines::long(line, d, server_time);
+            test_lines::part(line, e, input, from, len)
+        }
+        Ok(
+            CopyData::KeepAlive {
+                wal_end,
+                server_time,
+                reply,
+            },
+        ) => {
+            let a = accepted(line);
+            let b = wire::store::place(line, a, b" k");
+            let c = test_lines::position(line, b, wal_end);
+            let d = test_lines::long(line, c, server_time);
+            test_lines::flag(line, d, reply)
+        }
+        Err(r) => refused(line, r.number()),
     }
 }
 
-fn field(f: Field) -> Item {
-    if f.given {
-        return Item::Part(f.from, f.len);
+fn field(line: &mut [u8], at: usize, input: &[u8], field: Option<Field>) -> usize {
+    match field {
+        Some(f) => test_lines::part(line, at, input, f.from, f.len),
+        None => null(line, at),
     }
-    Item::Null
 }
 
 fn fields(line: &mut [u8], input: &[u8]) -> usize {
     let all = ErrorFields::parse(input);
-    let mut at = wire::store::place(line, 1, b" 0");
-    let mut i: usize = 0;
-    while i < 15 {
-        at = shown::one(line, at, input, field(all.field(i)));
-        i += 1;
+    let mut at = accepted(line);
+    for i in 0..15 {
+        at = field(line, at, input, all.field(i));
     }
     at
 }
 
-// Kinds whose line has at most four fields.
-fn few(kind: u8, input: &[u8]) -> Items {
+// An unknown kind is malformed.
+pub(crate) fn after_fields(kind: u8, input: &[u8], line: &mut [u8]) -> Option<usize> {
     match kind {
-        b'p' => position(input),
-        b'a' => auth(input),
-        b'c' => copy_data(input),
-        _ => boundaries::boundary(input),
-    }
-}
-
-// An unknown kind is malformed, and so answers 0.
-pub(crate) fn after_fields(kind: u8, input: &[u8], line: &mut [u8]) -> usize {
-    match kind {
-        b'p' | b'a' | b'c' | b'b' => shown::all(line, input, few(kind, input)),
-        b'f' => fields(line, input),
-        b'r' => rows::row(line, input),
-        b'm' => session::simple(line, input),
+        b'p' => Some(position(line, input)),
+        b'a' => Some(auth(line, input)),
+        b'c' => Some(copy_data(line, input)),
+        b'b' => Some(boundaries::boundary(line, input)),
+        b'f' => Some(fields(line, input)),
+        b'r' => Some(rows::row(line, input)),
+        b'm' => Some(session::simple(line, input)),
         b'k' => generated::events(line, input),
         b'v' => calendar::after_fields(line, input),
-        b'w' => test_lines::number(line, 1, lossy::well_formed_prefix(input) as u64),
-        _ => 0,
+        b'w' => Some(test_lines::number(line, 1, lossy::well_formed_prefix(input) as u64)),
+        _ => None,
     }
 }

@@ -4,59 +4,23 @@ ghost use Rattle.std.specs.Prelude.{◌≡◌, ◌++◌};
 ghost use Rattle.test_lines.specs.Line.{pieces, number_texts, sum_of, part_texts};
 
 use crate::{generated, names};
-use error::Written;
+use load::Refusal;
 use lossy::Lossy;
 use lsn::Lsn;
 use test_lines::fields;
 
-// What a writer answered, or that the record is malformed.
-#[derive(Clone, Copy)]
-pub(crate) struct Answer {
-    pub(crate) good: bool,
-    pub(crate) refusal: u8,
-    pub(crate) count: usize,
-    pub(crate) marks: usize,
-}
+// What a writer answered: how many bytes and marks it wrote.
+pub(crate) type Answer = Result<Lossy, Refusal>;
 
-pub(crate) fn wrote(count: usize, marks: usize) -> Answer {
-    Answer {
-        good: true,
-        refusal: 0,
-        count,
-        marks,
-    }
-}
-
-pub(crate) fn refused(refusal: u8) -> Answer {
-    Answer {
-        good: true,
-        refusal,
-        count: 0,
-        marks: 0,
-    }
-}
-
-pub(crate) fn malformed() -> Answer {
-    Answer {
-        good: false,
-        refusal: 0,
-        count: 0,
-        marks: 0,
-    }
-}
-
-pub(crate) fn written(w: Written) -> Answer {
+pub(crate) fn written(w: Result<usize, error::Refusal>) -> Answer {
     match w {
-        Written::Wrote(n) => wrote(n, 0),
-        Written::Refused(r) => refused(r.number()),
+        Ok(bytes) => Ok(Lossy { bytes, marks: 0 }),
+        Err(r) => Err(Refusal::Writer(r)),
     }
 }
 
-fn shown(w: Lossy) -> Answer {
-    match w {
-        Lossy::Wrote { bytes, marks } => wrote(bytes, marks),
-        Lossy::Refused(r) => refused(r.number()),
-    }
+fn shown(w: Result<Lossy, error::Refusal>) -> Answer {
+    w.map_err(Refusal::Writer)
 }
 
 fn of_text(kind: u8, input: &[u8], out: &mut [u8]) -> Answer {
@@ -70,36 +34,32 @@ fn of_text(kind: u8, input: &[u8], out: &mut [u8]) -> Answer {
     }
 }
 
-fn of_nothing(kind: u8, out: &mut [u8]) -> Answer {
-    if kind == b'z' {
-        return written(frontend::write_copy_done(out));
-    }
-    written(frontend::write_terminate(out))
-}
-
-fn display(input: &[u8], out: &mut [u8]) -> Answer {
+// An input of another length is malformed.
+fn display(input: &[u8], out: &mut [u8]) -> Option<Answer> {
     if input.len() != 8 {
-        return malformed();
+        return None;
     }
     let position = Lsn::from_u64(fields::long(input, 0));
-    written(position.display(out))
+    Some(written(position.display(out)))
 }
 
 // A position, a client time and a reply byte.
-fn status(input: &[u8], out: &mut [u8]) -> Answer {
+fn status(input: &[u8], out: &mut [u8]) -> Option<Answer> {
     if input.len() != 17 {
-        return malformed();
+        return None;
     }
     let position = Lsn::from_u64(fields::long(input, 0));
     let time = fields::signed_long(input, 8);
     let reply = fields::byte(input, 16) != 0;
-    written(frontend::write_status_update(position, time, reply, out))
+    Some(written(frontend::write_status_update(position, time, reply, out)))
 }
 
-fn write(kind: u8, input: &[u8], out: &mut [u8]) -> Answer {
+// None for a malformed record.
+fn write(kind: u8, input: &[u8], out: &mut [u8]) -> Option<Answer> {
     match kind {
-        b'q' | b'y' | b'l' | b'u' | b'U' | b'e' => of_text(kind, input, out),
-        b'z' | b'x' => of_nothing(kind, out),
+        b'q' | b'y' | b'l' | b'u' | b'U' | b'e' => Some(of_text(kind, input, out)),
+        b'z' => Some(written(frontend::write_copy_done(out))),
+        b'x' => Some(written(frontend::write_terminate(out))),
         b'd' => display(input, out),
         b't' => status(input, out),
         b'n' => generated::stream(input, out),
@@ -119,14 +79,19 @@ fn spelled(line: &mut [u8], refusal: u8, count: usize, out: &[u8]) -> usize
     test_lines::part(line, c, out, 0, count)
 }
 
-pub(crate) fn after_fields(kind: u8, input: &[u8], out: &mut [u8], line: &mut [u8]) -> usize {
-    let a = write(kind, input, out);
-    if !a.good {
-        return 0;
-    }
-    let at = spelled(line, a.refusal, a.count, out);
+pub(crate) fn after_fields(
+    kind: u8,
+    input: &[u8],
+    out: &mut [u8],
+    line: &mut [u8],
+) -> Option<usize> {
+    let (refusal, wrote) = match write(kind, input, out)? {
+        Ok(wrote) => (0, wrote),
+        Err(r) => (r.number(), Lossy { bytes: 0, marks: 0 }),
+    };
+    let at = spelled(line, refusal, wrote.bytes, out);
     match kind {
-        b'l' | b'u' | b'U' | b'e' => test_lines::number(line, at, a.marks as u64),
-        _ => at,
+        b'l' | b'u' | b'U' | b'e' => Some(test_lines::number(line, at, wrote.marks as u64)),
+        _ => Some(at),
     }
 }

@@ -1,15 +1,15 @@
--- Laws of texts placed one after the other, of sums, filled buffers and counted turns.
+-- Laws of texts placed one after the other and of sums.
 use mathlib.Core.Path.{◌≡◌, refl, ap, ◌∙◌}
-use mathlib.Core.Bool.{Bool, true, false}
-use mathlib.Core.List.{List, [], ◌∷◌, ◌++◌, append-nil}
-use Prim.Native.Nat.{ℕ, zero, suc, ◌+◌, ◌-◌, ◌≤◌, ◌<◌}
-use native.Mathlib.Nat.{le_of_suc-le-suc, not-suc-le-zero}
+use mathlib.Core.List.{List, [], ◌∷◌, ◌++◌}
+use Prim.Native.Nat.{ℕ, ◌+◌, ◌-◌, ◌≤◌, ◌<◌}
 use native.Mathlib.Numerals.{add-one}
 use native.Mathlib.Omega.{arith}
-use lib.ListN.{length, drop, get_or, set, replicate, drop_of_length-le}
+use lib.ListN.{length, drop, get_or, drop_of_length-le}
 use lib.Seq.{drop-cons}
+use Rattle.std.proofs.lemmas.Bool.Decides.{nat_tests}
+use lib.Dec.{leb}
 use borrow.Author.Tests.{le-leb, lt-leb}
-use Rattle.wire.specs.Bytes.{pick, at, placed}
+use Rattle.wire.specs.Bytes.{at, placed}
 use Rattle.text.specs.Numeral.{hex_bytes}
 use Rattle.test_lines.specs.Line.{sum_next, sum_from, sum_of, pieces, bytes_texts, outside_texts, part_texts}
 
@@ -26,31 +26,6 @@ sum_turn s h i x l e = rw add-one (rw (drop-cons s i 0 l) at e)
 pub sum_end : (s : List ℕ) (h i x : ℕ) → length s ≤ i → sum_from h (drop i s) ≡ x → h ≡ x
 unfolding sum_from
 sum_end s h i x l e = rw (drop_of_length-le s l) at e
-
--- ---- a buffer filled with one byte
-
-fill_set : (d : List ℕ) (i b : ℕ) → i < length d → set (replicate i b ++ drop i d) i b ≡ replicate (suc i) b ++ drop (suc i) d
-fill_set [] i b h = absurd (not-suc-le-zero h)
-fill_set (x ∷ xs) zero b h = refl
-fill_set (x ∷ xs) (suc i) b h = ap (λ (l : List ℕ). b ∷ l) (fill_set xs i b (le_of_suc-le-suc h))
-
-pub fill_turn : (d d₀ : List ℕ) (i b : ℕ) → i < length d₀ → d ≡ replicate i b ++ drop i d₀ → set d i b ≡ replicate (i + 1) b ++ drop (i + 1) d₀
-fill_turn d d₀ i b h e = rw (e, add-one) (fill_set d₀ i b h)
-
-pub fill_end : (d d₀ : List ℕ) (i b : ℕ) → i ≡ length d₀ → d ≡ replicate i b ++ drop i d₀ → d ≡ replicate (length d₀) b
-fill_end d d₀ i b h e =
-    let l : length d₀ ≤ i = omega arith in
-    e ∙ rw (drop_of_length-le d₀ l, append-nil, h)
-
--- ---- turns
-
-pub left_none : (turns : ℕ) (go : Bool) → turns ≡ 0 → 0 ≡ pick go (turns - 1) 0
-left_none turns true e = omega arith
-left_none turns false e = refl
-
-pub left_less : (turns : ℕ) (go : Bool) {r : ℕ} → r ≡ pick go (turns - 1) 0 → 0 < turns → r < turns
-left_less turns true e h = omega arith
-left_less turns false e h = omega arith
 
 -- ---- pieces
 
@@ -76,6 +51,10 @@ pub pieces_two : (d : List ℕ) (i : ℕ) (t u : List ℕ) {e q : List ℕ} {a r
 pieces_two d i t u {e} {q} {a} f g = pieces_next d i (t ∷ []) (u ∷ []) (pieces_one d i t f) (pieces_one e a u g)
 
 -- ---- bytes and parts of them
+
+-- a length that is tested against what is left
+pub within_rest : (from len n : ℕ) → from ≤ n → leb len (n - from) ≡ leb (from + len) n
+within_rest from len n h = grind (arith, nat_tests)
 
 pub bytes_none : (s : List ℕ) → length s ≡ 0 → bytes_texts s ≡ (32 ∷ 45 ∷ []) ∷ []
 bytes_none [] e = refl

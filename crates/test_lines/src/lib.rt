@@ -4,23 +4,21 @@ pub mod fields;
 pub mod names;
 pub mod streams;
 
-ghost use Rattle.std.specs.Prelude.{◌≡◌, false, ◌-◌, ◌<◌, length, replicate};
-ghost use Rattle.wire.specs.Bytes.{pick};
+ghost use Rattle.std.specs.Prelude.{◌≡◌, ◌<◌, length, IsErr};
 ghost use Rattle.test_lines.specs.Line.{sum_next, sum_of, after_of, pieces, number_texts, signed_texts, flag_texts, is_within, outside_texts, part_texts};
 ghost use Rattle.test_lines.specs.Line.{bytes_texts, position_texts, dated_texts, spanned_texts, flagged_texts, end_texts};
 
 use lsn::Lsn;
-use std::io::Stdout;
+use std::io;
+use std::io::{Print, Stdout};
 
 // The sum of a buffer.
 pub fn sum(s: &[u8]) -> u64
     ensures { result ≡ sum_of s.now }
 {
     let mut h: u64 = 7;
-    let mut i: usize = 0;
-    while i < s.len() {
-        h = next(h, s[i]);
-        i += 1;
+    for &b in s {
+        h = next(h, b);
     }
     h
 }
@@ -32,26 +30,6 @@ fn next(h: u64, b: u8) -> u64
     (31 * h + b as u64) % 4294967296
 }
 
-pub fn fill(out: &mut [u8], b: u8)
-    ensures { out.new ≡ replicate (length out.old) b }
-{
-    let mut i: usize = 0;
-    while i < out.len() {
-        out[i] = b;
-        i += 1;
-    }
-}
-
-// One turn fewer, or none where there is nothing more to do. Nothing says that an input ends, so programs count their turns down.
-pub fn left(turns: u64, go: bool) -> u64
-    ensures { result ≡ pick go (turns - 1) 0 }
-{
-    if turns == 0 {
-        return 0;
-    }
-    if go { turns - 1 } else { 0 }
-}
-
 // The place after what was taken of the bytes between two places.
 pub fn after(from: usize, to: usize, taken: usize) -> usize
     ensures { result ≡ after_of from to taken }
@@ -59,7 +37,7 @@ pub fn after(from: usize, to: usize, taken: usize) -> usize
     if to < from {
         return to;
     }
-    from + wire::store::least(taken, to - from)
+    from + taken.min(to - from)
 }
 
 pub fn number(line: &mut [u8], at: usize, n: u64) -> usize
@@ -67,13 +45,6 @@ pub fn number(line: &mut [u8], at: usize, n: u64) -> usize
 {
     let a = wire::store::place(line, at, b" ");
     text::place_decimal(line, a, n)
-}
-
-pub fn signed(line: &mut [u8], at: usize, n: i32) -> usize
-    ensures { (result, line.new) ≡ pieces line.old at (signed_texts n) }
-{
-    let a = wire::store::place(line, at, b" ");
-    text::place_signed(line, a, n as i64)
 }
 
 pub fn long(line: &mut [u8], at: usize, n: i64) -> usize
@@ -97,13 +68,7 @@ pub fn flag(line: &mut [u8], at: usize, on: bool) -> usize
 pub fn within(s: &[u8], from: usize, len: usize) -> bool
     ensures { result ≡ is_within s.now from len }
 {
-    if s.len() < from {
-        return false;
-    }
-    if s.len() - from < len {
-        return false;
-    }
-    true
+    from <= s.len() && len <= s.len() - from
 }
 
 // What a line has for a part that does not lie within its slice.
@@ -117,10 +82,7 @@ pub fn outside(line: &mut [u8], at: usize) -> usize
 pub fn part(line: &mut [u8], at: usize, s: &[u8], from: usize, len: usize) -> usize
     ensures { (result, line.new) ≡ pieces line.old at (part_texts s.now from len) }
 {
-    if s.len() < from {
-        return outside(line, at);
-    }
-    if s.len() - from < len {
+    if !within(s, from, len) {
         return outside(line, at);
     }
     bytes(line, at, &s[from..from + len])
@@ -130,7 +92,7 @@ pub fn part(line: &mut [u8], at: usize, s: &[u8], from: usize, len: usize) -> us
 pub fn bytes(line: &mut [u8], at: usize, s: &[u8]) -> usize
     ensures { (result, line.new) ≡ pieces line.old at (bytes_texts s.now) }
 {
-    if s.len() == 0 {
+    if s.is_empty() {
         return wire::store::place(line, at, b" -");
     }
     let a = wire::store::place(line, at, b" ");
@@ -148,8 +110,7 @@ pub fn position(line: &mut [u8], at: usize, p: Lsn) -> usize
 pub fn dated(line: &mut [u8], at: usize, letter: u8, p: Lsn, time: i64) -> usize
     ensures { (result, line.new) ≡ pieces line.old at (dated_texts letter p time) }
 {
-    let head = [letter];
-    let a = wire::store::place(line, at, &head);
+    let a = wire::store::place(line, at, &[letter]);
     let b = position(line, a, p);
     long(line, b, time)
 }
@@ -158,8 +119,7 @@ pub fn dated(line: &mut [u8], at: usize, letter: u8, p: Lsn, time: i64) -> usize
 pub fn spanned(line: &mut [u8], at: usize, letter: u8, p: Lsn, q: Lsn, time: i64) -> usize
     ensures { (result, line.new) ≡ pieces line.old at (spanned_texts letter p q time) }
 {
-    let head = [letter];
-    let a = wire::store::place(line, at, &head);
+    let a = wire::store::place(line, at, &[letter]);
     let b = position(line, a, p);
     let c = position(line, b, q);
     long(line, c, time)
@@ -180,12 +140,12 @@ pub fn end(line: &mut [u8], at: usize) -> usize
     wire::store::place(line, at, b"\n")
 }
 
-// Prints the first n bytes of a line, and says whether all were written. Nothing is printed, and the answer is false, where the line is shorter.
-pub fn print(output: Stdout, line: &[u8], n: usize) -> bool
-    ensures { length line.now < n → result ≡ false }
+// Prints the first n bytes of a line. Nothing is printed, and the answer is an error, where the line is shorter.
+pub fn print(output: Stdout, line: &[u8], n: usize) -> io::Result<()>
+    ensures { length line.now < n → IsErr result }
 {
     if line.len() < n {
-        return false;
+        return Err(io::Error::from(io::ErrorKind::InvalidInput));
     }
-    streams::write_all(output, &line[0..n])
+    output.write_all(&line[..n])
 }

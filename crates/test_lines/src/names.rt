@@ -3,7 +3,6 @@ ghost use Rattle.std.specs.Prelude.{◌≡◌, ◌≤◌, length};
 ghost use Rattle.test_lines.specs.Fields.{name_at};
 
 use crate::fields;
-use wire::store::least;
 
 #[derive(Clone, Copy)]
 pub struct Name {
@@ -16,8 +15,8 @@ pub fn name_at(s: &[u8], at: usize) -> Name
     ensures { (result ≡ name_at s.now at) × (result.from ≤ result.to) × (result.to ≤ length s.now) }
 {
     let n = s.len();
-    let a = least(at, n);
-    let from = a + least(2, n - a);
-    let to = from + least(fields::half(s, a), n - from);
+    let a = at.min(n);
+    let from = a + 2_usize.min(n - a);
+    let to = from + fields::half(s, a).min(n - from);
     Name { from, to }
 }

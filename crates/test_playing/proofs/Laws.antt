@@ -6,6 +6,9 @@ use mathlib.Core.List.{List}
 use native.Mathlib.Omega.{arith}
 use lib.ListN.{length}
 use lib.Dec.{ltb}
+use Rattle.std.proofs.Common.{Option, Some, None}
+use Rattle.std.specs.Option.{unwrap_or}
+use Rattle.wire.specs.Answer.{maybe}
 use Rattle.wire.specs.Bytes.{pick, at}
 use Rattle.worker.specs.declared.Input.{Input}
 use Rattle.worker.specs.declared.Run.{Run}
@@ -13,7 +16,13 @@ use Rattle.worker.specs.declared.Stepped.{Stepped}
 use Rattle.worker.specs.Answer.{verdict_number, lent}
 use Rattle.worker.specs.Step.{Outcome, is_ended, step_of}
 use Rattle.test_playing.specs.declared.Playing.{Playing}
+use Rattle.test_playing.specs.Spelling.{fitting}
 use Rattle.test_playing.specs.Playing.{input_of, Plays, playing, refilled_of, event_line, told_by, told_of, goes_on, stepped}
+
+-- a length or 0
+pub or_nothing : (x : Option ℕ) → unwrap_or x 0 ≡ fitting (maybe x)
+or_nothing (Some n) = refl
+or_nothing None = refl
 
 pub picked : (b : Bool) (p q : Playing) → b ≡ true → p ≡ pick b p q
 picked true p q e = refl

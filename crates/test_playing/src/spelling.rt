@@ -4,17 +4,17 @@ ghost use Rattle.test_lines.specs.Line.{pieces};
 ghost use Rattle.worker.specs.Answer.{verdict_number};
 ghost use Rattle.test_playing.specs.Spelling.{stopped_texts, length_texts, part_by, lossy_length, prefix_by, data_texts, event_texts};
 
-use error::Counted;
+use error::Refusal;
 use lsn::Lsn;
-use worker::{Event, Verdict};
+use worker::Event;
 
 // The refusal's number, 0 for none: SCOPE 7.1; 01, "Where each call turns back".
-pub fn number(verdict: Verdict) -> u8
+pub fn number(verdict: Result<(), Refusal>) -> u8
     ensures { result ≡ verdict_number verdict }
 {
     match verdict {
-        Verdict::Accepted => 0,
-        Verdict::Refused(r) => r.number(),
+        Ok(()) => 0,
+        Err(r) => r.number(),
     }
 }
 
@@ -42,16 +42,10 @@ fn part(line: &mut [u8], at: usize, payload: &[u8], from: usize, len: usize, bri
 fn lossy_len(payload: &[u8], from: usize, len: usize) -> u64
     ensures { result ≡ lossy_length payload.now from len }
 {
-    if payload.len() < from {
+    if !test_lines::within(payload, from, len) {
         return 0;
     }
-    if payload.len() - from < len {
-        return 0;
-    }
-    match lossy::count(&payload[from..from + len], usize::MAX) {
-        Counted::Fits(n) => n as u64,
-        Counted::Over => 0,
-    }
+    lossy::count(&payload[from..from + len], usize::MAX).unwrap_or(0) as u64
 }
 
 // A prefix: the length of its text, or its bytes.

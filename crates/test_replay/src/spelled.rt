@@ -1,33 +1,34 @@
-// The lines of a script.
-ghost use Rattle.std.specs.Prelude.{◌≡◌, length};
-
-use error::Written;
+// The lines of a script. One that cannot be written is let go, and the next ones come all the same.
+use error::Refusal;
 use lsn::Lsn;
 use metrics::Metrics;
-use progress::files::FileVerdict;
+use progress::files::FileRefusal;
 use std::io::Stdout;
+use test_lines::streams::zeros;
 use test_playing::spelling;
-use worker::{Event, Run, State, Stepped, Waited};
+use worker::{Event, Run, State, Stepped};
 
-// The longest line has the bytes of the longest payload in hexadecimal, and some fields of at most 20 digits.
-fn line_buffer() -> [u8; 132096]
-    ensures { 132096 ≡ length result }
-{
-    [0; 132096]
+// What a writer answered: the refusal's number, 0 for none, how many bytes were written, and the sum of the whole output.
+fn written(line: &mut [u8], at: usize, w: Result<usize, Refusal>, out: &[u8]) -> usize {
+    let (refusal, count) = match w {
+        Ok(n) => (0, n),
+        Err(r) => (r.number(), 0),
+    };
+    let a = test_lines::number(line, at, refusal as u64);
+    let b = test_lines::number(line, a, count as u64);
+    test_lines::number(line, b, test_lines::sum(out))
 }
 
-fn opened_line(line: &mut [u8], refusal: u8, written: usize, out: &[u8]) -> usize {
+fn opened_line(line: &mut [u8], w: Result<usize, Refusal>, out: &[u8]) -> usize {
     let a = wire::store::place(line, 0, b"OPEN");
-    let b = test_lines::number(line, a, refusal as u64);
-    let c = test_lines::number(line, b, written as u64);
-    let d = test_lines::number(line, c, test_lines::sum(out));
-    test_lines::end(line, d)
+    let b = written(line, a, w, out);
+    test_lines::end(line, b)
 }
 
-pub(crate) fn opened(output: Stdout, refusal: u8, written: usize, out: &[u8]) -> bool {
+pub(crate) fn opened(output: Stdout, w: Result<usize, Refusal>, out: &[u8]) {
     let mut line = [0u8; 128];
-    let n = opened_line(&mut line, refusal, written, out);
-    test_lines::print(output, &line, n)
+    let n = opened_line(&mut line, w, out);
+    let _ = test_lines::print(output, &line, n);
 }
 
 fn report_line(line: &mut [u8], position: Lsn) -> usize {
@@ -36,16 +37,16 @@ fn report_line(line: &mut [u8], position: Lsn) -> usize {
     test_lines::end(line, b)
 }
 
-pub(crate) fn report(output: Stdout, position: Lsn) -> bool {
+pub(crate) fn report(output: Stdout, position: Lsn) {
     let mut line = [0u8; 64];
     let n = report_line(&mut line, position);
-    test_lines::print(output, &line, n)
+    let _ = test_lines::print(output, &line, n);
 }
 
-fn file_refusal(verdict: FileVerdict) -> u8 {
+fn file_refusal(verdict: Result<(), FileRefusal>) -> u8 {
     match verdict {
-        FileVerdict::Accepted => 0,
-        FileVerdict::Refused(r) => r.number(),
+        Ok(()) => 0,
+        Err(r) => r.number(),
     }
 }
 
@@ -56,59 +57,45 @@ fn file_report_line(line: &mut [u8], refusal: u8, position: Lsn) -> usize {
     test_lines::end(line, c)
 }
 
-pub(crate) fn file_report(output: Stdout, verdict: FileVerdict, position: Lsn) -> bool {
+pub(crate) fn file_report(output: Stdout, verdict: Result<(), FileRefusal>, position: Lsn) {
     let refusal = file_refusal(verdict);
     let mut line = [0u8; 64];
     let n = file_report_line(&mut line, refusal, position);
-    test_lines::print(output, &line, n)
+    let _ = test_lines::print(output, &line, n);
 }
 
-// The refusal, how many bytes were written, the sum of the whole output, and the bytes written.
-fn page_line(line: &mut [u8], refusal: u8, written: usize, out: &[u8]) -> usize {
+// A page's answer, and the bytes written.
+fn page_line(line: &mut [u8], w: Result<usize, Refusal>, out: &[u8]) -> usize {
     let a = wire::store::place(line, 0, b"G");
-    let b = test_lines::number(line, a, refusal as u64);
-    let c = test_lines::number(line, b, written as u64);
-    let d = test_lines::number(line, c, test_lines::sum(out));
-    let e = test_lines::part(line, d, out, 0, written);
-    test_lines::end(line, e)
+    let b = written(line, a, w, out);
+    let c = test_lines::part(line, b, out, 0, w.unwrap_or(0));
+    test_lines::end(line, c)
 }
 
-fn page_told(output: Stdout, refusal: u8, written: usize, out: &[u8]) -> bool {
+pub(crate) fn page(output: Stdout, w: Result<usize, Refusal>, out: &[u8]) {
     let mut line = [0u8; 512];
-    let n = page_line(&mut line, refusal, written, out);
-    test_lines::print(output, &line, n)
-}
-
-pub(crate) fn page(output: Stdout, w: Written, out: &[u8]) -> bool {
-    match w {
-        Written::Wrote(n) => page_told(output, 0, n, out),
-        Written::Refused(r) => page_told(output, r.number(), 0, out),
-    }
-}
-
-fn later_state(line: &mut [u8], at: usize, s: State) -> usize {
-    match s {
-        State::Waiting => wire::store::place(line, at, b" WAITING"),
-        State::Handling => wire::store::place(line, at, b" HANDLING"),
-        State::Offering => wire::store::place(line, at, b" OFFERING"),
-        _ => wire::store::place(line, at, b" ENDED"),
-    }
+    let n = page_line(&mut line, w, out);
+    let _ = test_lines::print(output, &line, n);
 }
 
 fn state(line: &mut [u8], at: usize, s: State) -> usize {
-    match s {
-        State::Opening => wire::store::place(line, at, b" OPENING"),
-        State::Turn => wire::store::place(line, at, b" TURN"),
-        State::Drain => wire::store::place(line, at, b" DRAIN"),
-        State::Reading => wire::store::place(line, at, b" READING"),
-        _ => later_state(line, at, s),
-    }
+    let word: &[u8] = match s {
+        State::Opening => b" OPENING",
+        State::Turn => b" TURN",
+        State::Drain => b" DRAIN",
+        State::Reading => b" READING",
+        State::Waiting => b" WAITING",
+        State::Handling => b" HANDLING",
+        State::Offering => b" OFFERING",
+        State::Ended => b" ENDED",
+    };
+    wire::store::place(line, at, word)
 }
 
-fn waited(line: &mut [u8], at: usize, w: Waited) -> usize {
+fn waited(line: &mut [u8], at: usize, w: Option<u64>) -> usize {
     match w {
-        Waited::Untold => wire::store::place(line, at, b" -"),
-        Waited::Nanos(n) => test_lines::number(line, at, n),
+        None => wire::store::place(line, at, b" -"),
+        Some(n) => test_lines::number(line, at, n),
     }
 }
 
@@ -136,7 +123,7 @@ fn sums(line: &mut [u8], at: usize, out: &[u8], payload: &[u8]) -> usize {
     test_lines::number(line, a, test_lines::sum(payload))
 }
 
-fn event_line(line: &mut [u8], at: usize, w: Waited, payload: &[u8], event: Event) -> usize {
+fn event_line(line: &mut [u8], at: usize, w: Option<u64>, payload: &[u8], event: Event) -> usize {
     let a = waited(line, at, w);
     let b = handed_on(line, a, payload, event);
     test_lines::end(line, b)
@@ -163,10 +150,11 @@ fn step_line(line: &mut [u8], s: Stepped, out: &[u8], payload: &[u8]) -> usize {
     event_line(line, b, w, payload, event)
 }
 
-pub(crate) fn step(output: Stdout, s: Stepped, out: &[u8], payload: &[u8]) -> bool {
-    let mut line = line_buffer();
+// The longest line has the bytes of the longest payload in hexadecimal, and some fields of at most 20 digits.
+pub(crate) fn step(output: Stdout, s: Stepped, out: &[u8], payload: &[u8]) {
+    let mut line = zeros::<132096>();
     let n = step_line(&mut line, s, out, payload);
-    test_lines::print(output, &line, n)
+    let _ = test_lines::print(output, &line, n);
 }
 
 fn counters(line: &mut [u8], m: Metrics) -> usize {
@@ -193,8 +181,8 @@ fn last_line(line: &mut [u8], m: Metrics) -> usize {
     positions(line, b, m)
 }
 
-pub(crate) fn finish(output: Stdout, run: Run) -> bool {
+pub(crate) fn finish(output: Stdout, run: Run) {
     let mut line = [0u8; 256];
     let n = last_line(&mut line, worker::session::metrics(run));
-    test_lines::print(output, &line, n)
+    let _ = test_lines::print(output, &line, n);
 }

@@ -5,32 +5,15 @@ mod opens;
 mod spelled;
 mod writers;
 
-ghost use Rattle.std.specs.Prelude.{◌≡◌, length};
+use test_lines::streams::zeros;
 
-use std::io::Stdout;
-
-// One byte more than the inputs of a call may have together.
-fn names() -> [u8; 1048577]
-    ensures { 1048577 ≡ length result }
-{
-    [b'n'; 1048577]
-}
-
-// Room for the longest text.
-fn room() -> [u8; 1048832]
-    ensures { 1048832 ≡ length result }
-{
-    [0; 1048832]
-}
-
-fn all(output: Stdout, bytes: &[u8], short: &mut [u8], long: &mut [u8]) {
-    opens::all(output, bytes, short, long);
-    writers::all(output, bytes, short, long);
-}
-
+// One byte more than the inputs of a call may have together, and outputs with room for less and for the longest text.
 fn main(rt: HostRuntime) {
-    let bytes = names();
+    let output = rt.stdout();
+    let mut bytes = zeros::<1048577>();
+    bytes.fill(b'n');
     let mut short = [0u8; 256];
-    let mut long = room();
-    all(rt.stdout(), &bytes, &mut short, &mut long);
+    let mut long = zeros::<1048832>();
+    opens::all(output, &bytes, &mut short, &mut long);
+    writers::all(output, &bytes, &mut short, &mut long);
 }

@@ -2,7 +2,6 @@
 use crate::spelled;
 use lsn::Lsn;
 use std::io::Stdout;
-use wire::store::least;
 use worker::Settings;
 
 fn settings(interval: u64) -> Settings {
@@ -17,20 +16,6 @@ fn settings(interval: u64) -> Settings {
     }
 }
 
-fn tried(
-    output: Stdout,
-    interval: u64,
-    slot: &[u8],
-    publications: &[&[u8]],
-    out: &mut [u8],
-) -> bool {
-    test_lines::fill(out, 7);
-    let zero = Lsn(0);
-    let o = worker::session::open(settings(interval), slot, publications, zero, zero, out);
-    let w = o.written;
-    spelled::written(output, b"OPEN", w, out)
-}
-
 // A slot of that many bytes, and that many publications of three bytes each, at most two.
 fn named(
     output: Stdout,
@@ -39,26 +24,25 @@ fn named(
     slot: usize,
     publications: usize,
     out: &mut [u8],
-) -> bool {
-    let n = least(slot, bytes.len());
-    let three = least(3, bytes.len());
-    let list = [&bytes[0..three]; 2];
-    let k = least(publications, 2);
-    tried(output, interval, &bytes[0..n], &list[0..k], out)
+) {
+    let slot = &bytes[..slot.min(bytes.len())];
+    let name = &bytes[..3.min(bytes.len())];
+    let list = [name, name];
+    let publications = &list[..publications.min(2)];
+    out.fill(7);
+    let zero = Lsn(0);
+    let o = worker::session::open(settings(interval), slot, publications, zero, zero, out);
+    spelled::written(output, b"OPEN", o.written, out);
 }
 
-// One above the limit and at it, in the slot alone and with publications.
-fn around(output: Stdout, bytes: &[u8], short: &mut [u8]) -> bool {
+// One above the limit and at it, in the slot alone and with publications; then an interval that comes before 25, a short query that is written, and
+// the longest one.
+pub(crate) fn all(output: Stdout, bytes: &[u8], short: &mut [u8], long: &mut [u8]) {
     named(output, 0, bytes, 1048577, 0, short);
     named(output, 0, bytes, 1048576, 0, short);
     named(output, 0, bytes, 1048571, 2, short);
-    named(output, 0, bytes, 1048570, 2, short)
-}
-
-// The same, then an interval that comes before 25, a short query that is written, and the longest one.
-pub(crate) fn all(output: Stdout, bytes: &[u8], short: &mut [u8], long: &mut [u8]) -> bool {
-    around(output, bytes, short);
+    named(output, 0, bytes, 1048570, 2, short);
     named(output, 86400000000001, bytes, 1048577, 0, short);
     named(output, 0, bytes, 5, 2, short);
-    named(output, 0, bytes, 1048570, 2, long)
+    named(output, 0, bytes, 1048570, 2, long);
 }

@@ -1,5 +1,5 @@
 // The lines: a name, the refusal, how many bytes were written, and the sum of the output.
-use error::Written;
+use error::Refusal;
 use lossy::Lossy;
 use std::io::Stdout;
 
@@ -11,22 +11,23 @@ fn line(line: &mut [u8], name: &[u8], refusal: u8, written: usize, out: &[u8]) -
     test_lines::end(line, d)
 }
 
-fn print(output: Stdout, name: &[u8], refusal: u8, written: usize, out: &[u8]) -> bool {
+// A line that cannot be written is let go, and the next ones come all the same.
+fn print(output: Stdout, name: &[u8], refusal: u8, written: usize, out: &[u8]) {
     let mut space = [0u8; 80];
     let n = line(&mut space, name, refusal, written, out);
-    test_lines::print(output, &space, n)
+    let _ = test_lines::print(output, &space, n);
 }
 
-pub(crate) fn written(output: Stdout, name: &[u8], w: Written, out: &[u8]) -> bool {
+pub(crate) fn written(output: Stdout, name: &[u8], w: Result<usize, Refusal>, out: &[u8]) {
     match w {
-        Written::Wrote(n) => print(output, name, 0, n, out),
-        Written::Refused(r) => print(output, name, r.number(), 0, out),
+        Ok(n) => print(output, name, 0, n, out),
+        Err(r) => print(output, name, r.number(), 0, out),
     }
 }
 
-pub(crate) fn shown(output: Stdout, name: &[u8], w: Lossy, out: &[u8]) -> bool {
+pub(crate) fn shown(output: Stdout, name: &[u8], w: Result<Lossy, Refusal>, out: &[u8]) {
     match w {
-        Lossy::Wrote { bytes, marks: _ } => print(output, name, 0, bytes, out),
-        Lossy::Refused(r) => print(output, name, r.number(), 0, out),
+        Ok(length) => print(output, name, 0, length.bytes, out),
+        Err(r) => print(output, name, r.number(), 0, out),
     }
 }

@@ -8,7 +8,7 @@ use native.Mathlib.Omega.{arith}
 use lib.ListN.{length, drop, get_or, set, length-append, drop_of_length-le}
 use lib.Seq.{drop-cons}
 use lib.Dec.{ltb}
-use borrow.Author.Tests.{lt-ltb, le-ltb}
+use borrow.Author.Tests.{lt-ltb, le-ltb, ltb-true, ltb-false}
 use Rattle.wire.specs.Bytes.{put}
 use Rattle.wire.proofs.Laws.{put_set, put_one, put_two, put_next, put_none, by_test}
 use Rattle.text.specs.Numeral.{glyph_of, numeral, lower_of, hex_bytes}
@@ -63,6 +63,26 @@ numeral_more base x p h k =
 -- the length of a number of one digit more
 pub numeral_longer : (base x : ℕ) → 0 < base → base ≤ x → x < base ^ 20 → length (numeral base 20 x) ≡ length (numeral base 20 (x / base)) + 1
 numeral_longer base x p h k = ap length (numeral_more base x p h k) ∙ simp length-append
+
+-- a numeral has more than one digit exactly where the number is not below the base
+pub several : (base x : ℕ) → 1 < length (numeral base 20 x) → base ≤ x
+several base x h =
+    by_test (ltb x base) (λ t. let e = ap length (numeral_one base x (ltb-true x base t)) in absurd (omega arith)) (λ t. ltb-false x base t)
+
+pub digit_there : (base x : ℕ) → 1 ≤ length (numeral base 20 x)
+digit_there base x =
+    by_test (ltb x base)
+    (λ t. let e = ap length (numeral_one base x (ltb-true x base t)) in omega arith)
+    (λ t. rw (last_digit base 19 x (ltb-false x base t)) (simp length-append (omega arith)))
+
+pub single : (base x : ℕ) → 0 < base → x < base ^ 20 → length (numeral base 20 x) ≤ 1 → x < base
+single base x p h l =
+    by_test (ltb x base)
+    (λ t. ltb-true x base t)
+    (λ t.
+    let e = numeral_longer base x p (ltb-false x base t) h in
+    let d = digit_there base (x / base) in
+    absurd (omega arith))
 
 pub numeral_length : (base n x : ℕ) → length (numeral base n x) ≤ n
 unfolding numeral

@@ -2,9 +2,13 @@
 use Rattle.std.specs.Prelude.{ℕ, zero, suc, ◌+◌, ◌/◌, ◌%◌, List, [], ◌∷◌, ◌++◌, ℤ, pos, negsuc, ltb}
 use Rattle.wire.specs.Bytes.{pick}
 
+-- the digit of a value below 16, where a value from 10 on has the letter that stands so far behind a place
+abbrev pub digit_behind : ℕ → ℕ → ℕ
+digit_behind place d = pick (ltb d 10) (48 + d) (place + d)
+
 -- the digit of a value below 16, upper case
 abbrev pub glyph_of : ℕ → ℕ
-glyph_of d = pick (ltb d 10) (48 + d) (55 + d)
+glyph_of d = digit_behind 55 d
 
 -- the digits of v to a base, the highest first, at most n of them
 unfoldable pub numeral : ℕ → ℕ → ℕ → List ℕ
@@ -26,7 +30,7 @@ signed_text (negsuc n) = 45 ∷ decimal_text (n + 1)
 
 -- the digit of a value below 16, lower case
 abbrev pub lower_of : ℕ → ℕ
-lower_of d = pick (ltb d 10) (48 + d) (87 + d)
+lower_of d = digit_behind 87 d
 
 -- each byte as two digits, lower case
 unfoldable pub hex_bytes : List ℕ → List ℕ

@@ -2,15 +2,21 @@
 // Numbers and bytes as texts.
 ghost use Rattle.std.specs.Prelude.{◌≡◌, ◌∷◌, ◌+◌, ◌*◌, ◌≤◌, ◌<◌, ◌^◌, length};
 ghost use Rattle.wire.specs.Bytes.{put, placed};
-ghost use Rattle.text.specs.Numeral.{glyph_of, numeral, hex_text, decimal_text, signed_text, lower_of, hex_bytes};
+ghost use Rattle.text.specs.Numeral.{digit_behind, numeral, hex_text, decimal_text, signed_text, hex_bytes};
 
 use wire::store::NOWHERE;
 
-fn glyph(d: u64) -> u8
-    requires { d < 16 }
-    ensures { result ≡ glyph_of d }
+// Where the letters of digits begin: ten places before A and a.
+const UPPER: u8 = b'A' - 10;
+
+const LOWER: u8 = b'a' - 10;
+
+// The digit of a value, whose letters begin behind that place.
+fn digit(d: u8, letters: u8) -> u8
+    requires { (d < 16) × (letters ≤ 87) }
+    ensures { result ≡ digit_behind letters d }
 {
-    if d < 10 { 48 + d as u8 } else { 55 + d as u8 }
+    if d < 10 { b'0' + d } else { letters + d }
 }
 
 // How many digits v has.
@@ -21,7 +27,7 @@ fn places(v: u64, base: u64) -> usize
     let mut x = v;
     let mut n: usize = 1;
     while base <= x {
-        x = x / base;
+        x /= base;
         n += 1;
     }
     n
@@ -33,13 +39,11 @@ fn spell(out: &mut [u8], to: usize, n: usize, v: u64, base: u64)
     ensures { out.new ≡ put out.old to (numeral base 20 v) }
 {
     let mut x = v;
-    let mut i = n;
-    while base <= x {
-        i -= 1;
-        out[to + i] = glyph(x % base);
-        x = x / base;
+    for i in (1..n).rev() {
+        out[to + i] = digit((x % base) as u8, UPPER);
+        x /= base;
     }
-    out[to] = glyph(x);
+    out[to] = digit(x as u8, UPPER);
 }
 
 fn place_number(out: &mut [u8], to: usize, v: u64, base: u64) -> usize
@@ -101,25 +105,15 @@ pub fn place_signed(out: &mut [u8], to: usize, v: i64) -> usize
     }
 }
 
-fn lower(d: u8) -> u8
-    requires { d < 16 }
-    ensures { result ≡ lower_of d }
-{
-    if d < 10 { 48 + d } else { 87 + d }
-}
-
 fn spell_bytes(out: &mut [u8], to: usize, s: &[u8])
     requires { to + length s.now * 2 ≤ length out.old }
     ensures { out.new ≡ put out.old to (hex_bytes s.now) }
 {
     let mut at = to;
-    let mut i: usize = 0;
-    while i < s.len() {
-        let b = s[i];
-        out[at] = lower(b / 16);
-        out[at + 1] = lower(b % 16);
+    for b in s {
+        out[at] = digit(*b / 16, LOWER);
+        out[at + 1] = digit(*b % 16, LOWER);
         at += 2;
-        i += 1;
     }
 }
 

@@ -7,7 +7,7 @@ use borrow.Author.Tests.{le-ltb}
 use Rattle.framing.specs.Read.{Result}
 use Rattle.framing.specs.Read as F
 use Rattle.framing.specs.declared.MessageReader.{MessageReader}
-use Rattle.messages.specs.Fields.{fields_of, indexed}
+use Rattle.messages.specs.Fields.{fields_of, indexed, is_given}
 use Rattle.query.specs.declared.simple.SimpleQuery.{SimpleQuery}
 use Rattle.query.specs.Fold as Q
 use Rattle.ffi_answers.specs.Fold.{fold_words, fold_left, query_words}
@@ -81,14 +81,13 @@ column_words =
       no_such = λ payload i cs e h. rw (e, h);
       null = λ payload i cs e h. rw (e, h);
       value = λ payload i place len cs e h. rw (e, h);
-      refused = λ payload i cs r e h. rw (e, h);
     }
 
 pub auth_words_lem : AuthWords
 auth_words_lem payload refusal asked place len e = ap auth_words e ∙ ap (λ (n : ℕ). refusal ∷ n ∷ place ∷ len ∷ []) (time_is asked)
 
 pub field_words : FieldWords
-field_words payload i = rw (flag_is (indexed (fields_of payload) i).given)
+field_words payload i = rw (flag_is (is_given (indexed (fields_of payload) i)))
 
 pub fields_numbered : FieldsNumbered
 unfolding fields_of

@@ -10,7 +10,7 @@ use Rattle.wire.specs.Int.{is_negative}
 use Rattle.framing.specs.Read as F
 use Rattle.framing.specs.Read.{Said, Result, fresh, shut, at_byte, limit_of, unfinished, payload_of, judged_of, header_of, read_of, after_taking}
 use Rattle.framing.specs.declared.MessageReader.{MessageReader}
-use Rattle.messages.specs.Fields.{absent, fields_of}
+use Rattle.messages.specs.Fields.{absent, part_of, fields_of}
 use Rattle.messages.proofs.AuthLayout.{auth_is_within as auth_within}
 use Rattle.messages.proofs.FieldsSent.{field_is_within as field_within}
 use Rattle.query.proofs.DataRowLayout.{part_is_within as column_within}
@@ -26,7 +26,7 @@ pub column_is_within : ColumnIsWithin
 column_is_within payload i = column_within payload i
 
 indexed_within : (payload : List ℕ) (i : ℕ) (b : Bool)
-    → (pick b (get_or (fields_of payload) i absent) absent).from + (pick b (get_or (fields_of payload) i absent) absent).len ≤ length payload
+    → (part_of (pick b (get_or (fields_of payload) i absent) absent)).0 + (part_of (pick b (get_or (fields_of payload) i absent) absent)).1 ≤ length payload
 indexed_within payload i true = field_within payload i
 indexed_within payload i false = omega arith
 

@@ -2,18 +2,16 @@
 -- of data, authentication requests, fields of errors; and of two answers about a run. SCOPE 9.2, 9.4.
 -- The places and values have names in ffi_words/src/layout.rt.
 use Prim.Native.Char.{code}
-use Rattle.std.specs.Prelude.{ℕ, ◌≤◌, ◌%◌, Bool, List, [], ◌∷◌, ◌≡◌, ℤ, length}
+use Rattle.std.specs.Prelude.{ℕ, ◌≤◌, ◌%◌, Bool, List, [], ◌∷◌, ◌≡◌, ℤ, length, Option as Answer}
 use Rattle.std.proofs.Math.Option.{some, none}
-use Rattle.error.specs.declared.Refusal.{Refusal}
-use Rattle.error.specs.Refusal.{number_of}
 use Rattle.framing.specs.Read as F
 use Rattle.framing.specs.Read.{read_of}
 use Rattle.framing.specs.declared.MessageReader.{MessageReader}
 use Rattle.messages.specs.declared.Field.{Field}
 use Rattle.messages.specs.Auth.{auth_of}
-use Rattle.messages.specs.Fields.{fields_of, indexed, last_of, absent, entries_of}
+use Rattle.messages.specs.Fields.{fields_of, indexed, is_given, part_of, last_of, absent, entries_of}
 use Rattle.query.specs.declared.Column.{Column}
-use Rattle.query.specs.declared.Column.TheVariants.{Null, Part, Absent, Refused}
+use Rattle.query.specs.declared.Column.TheVariants.{Null, Part, Absent}
 use Rattle.query.specs.declared.simple.SimpleQuery.{SimpleQuery}
 use Rattle.query.specs.Fold as Q
 use Rattle.query.specs.Fold.{message_of}
@@ -125,8 +123,6 @@ pub record ColumnWords : Type 0 where
       → data_column_call payload i ≡ (0, 1 ∷ 0 ∷ 0 ∷ [])
   pub value : (payload : List ℕ) (i place len : ℕ) (cs : List Column) → columns_of payload ≡ some cs → nth i cs ≡ Part place len
       → data_column_call payload i ≡ (0, 2 ∷ place ∷ len ∷ [])
-  pub refused : (payload : List ℕ) (i : ℕ) (cs : List Column) (r : Refusal) → columns_of payload ≡ some cs → nth i cs ≡ Refused r
-      → data_column_call payload i ≡ (number_of r, 0 ∷ 0 ∷ 0 ∷ [])
 
 -- ---- an authentication request, a field of an error
 
@@ -139,10 +135,11 @@ AuthWords =
 -- whether it is given, its place, its length
 abbrev pub FieldWords : Type 0
 FieldWords =
-    (payload : List ℕ) (i : ℕ) → let f : Field = indexed (fields_of payload) i in error_field_call payload i ≡ flag f.given ∷ f.from ∷ f.len ∷ []
+    (payload : List ℕ) (i : ℕ) → let f : Answer Field = indexed (fields_of payload) i in
+    error_field_call payload i ≡ flag (is_given f) ∷ (part_of f).0 ∷ (part_of f).1 ∷ []
 
 -- the field that has a letter, which is the last one with it
-abbrev pub lettered : List ℕ → ℕ → Field
+abbrev pub lettered : List ℕ → ℕ → Answer Field
 lettered payload letter = last_of letter absent (entries_of payload)
 
 -- the number of each field, by its letter; from 15 on there is none

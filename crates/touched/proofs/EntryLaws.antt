@@ -8,9 +8,12 @@ use native.Mathlib.Nat.{zero-min, min-zero, suc-min-suc, not-suc-le-zero, le_of_
 use native.Mathlib.Numerals.{add-one}
 use native.Mathlib.Omega.{arith}
 use borrow.Author.Tests.{lt-ltb, le-ltb, eq-eqb, ne_eqb}
-use lib.ListN.{length, drop, get_or, length-take, drop_of_length-le}
+use lib.ListN.{length, take, drop, get_or, length-take, drop_of_length-le}
 use lib.Seq.{drop-cons, get_or-take}
 use lib.Dec.{ltb}
+use Rattle.std.specs.Prelude.{nat_lt}
+use Rattle.std.specs.List.{list_any}
+use Rattle.wire.proofs.Laws.{by_test}
 use Rattle.touched.specs.Touched.{paired, entries_of, has_no_file, file_of}
 use Rattle.touched.specs.ListLaws.{EntryLaws, RefusedLists}
 use Rattle.touched.proofs.Laws.{or_true}
@@ -47,20 +50,6 @@ module _ (ids fs : List ℕ) where
       let g : get_or (entries_of ids fs) i (0, 0) ≡ (get_or ids i 0, get_or fs i 0) = entry_each i l in
       rw (add-one, ← g) (drop-cons (entries_of ids fs) i (0, 0) l)
 
-  -- ---- whether one has a file above 3
-
-  pub no_file_here : (i : ℕ) → i < count → 3 < get_or fs i 0 → has_no_file (drop i (entries_of ids fs)) ≡ true
-  unfolding has_no_file
-  no_file_here i h k = rw (entry_at i h, lt-ltb 3 (get_or fs i 0) k)
-
-  pub no_file_next : (i : ℕ) → i < count → get_or fs i 0 ≤ 3 → has_no_file (drop i (entries_of ids fs)) ≡ has_no_file (drop (i + 1) (entries_of ids fs))
-  unfolding has_no_file
-  no_file_next i h k = rw (entry_at i h, le-ltb 3 (get_or fs i 0) k)
-
-  pub no_file_end : (i : ℕ) → count ≤ i → has_no_file (drop i (entries_of ids fs)) ≡ false
-  unfolding has_no_file
-  no_file_end i h = rw (drop_of_length-le (entries_of ids fs) {i = i} (omega (arith, entries_length)))
-
   -- ---- the file of an identifier
 
   pub file_here : (i id : ℕ) → i < count → get_or ids i 0 ≡ id → file_of (drop i (entries_of ids fs)) id ≡ some (get_or fs i 0)
@@ -94,3 +83,18 @@ entry_laws = record { how_many = entries_length; each = entry_each }
 
 pub refused_lists : RefusedLists
 refused_lists = record { refused = list_refused; accepted = list_accepted }
+
+-- ---- files above 3: those that are read are the files of the entries
+
+pub other_among : (k : ℕ) (ids fs : List ℕ) (n : ℕ) → n ≡ min k (min (length ids) (length fs))
+    → list_any (λ f. nat_lt 3 f) (take n fs) ≡ has_no_file (take k (paired ids fs))
+unfolding paired has_no_file
+other_among zero ids fs zero e = refl
+other_among zero ids fs (suc n) e = absurd (omega arith)
+other_among (suc k) [] fs zero e = refl
+other_among (suc k) [] fs (suc n) e = absurd (omega arith)
+other_among (suc k) (id ∷ ids) [] zero e = refl
+other_among (suc k) (id ∷ ids) [] (suc n) e = absurd (omega arith)
+other_among (suc k) (id ∷ ids) (f ∷ fs) zero e = absurd (omega arith)
+other_among (suc k) (id ∷ ids) (f ∷ fs) (suc n) e =
+    by_test (ltb 3 f) (λ t. rw t) (λ t. rw t (other_among k ids fs n (omega arith)))

@@ -20,7 +20,7 @@ use Rattle.touched.specs.declared.Files.{Files}
 use Rattle.touched.specs.Touched.{entries_of, has_no_file, file_of, changed_in, changed_by, is_among, files, with_all, Told, begins, brings, nothing}
 use Rattle.touched.specs.Touched.{is_full, after_of, answer_by}
 use Rattle.touched.specs.Bits.{files_by}
-use Rattle.touched.specs.declared.Answer.{Answer}
+use Rattle.std.specs.Prelude.{Err}
 use Rattle.progress.specs.declared.files.FileRefusal.{FileRefusal}
 use Rattle.touched.specs.Walk.{has_begin, since_begin, all_changed, walk_of, Among, left_by, FirstEntry, Touches}
 use Rattle.touched.specs.Exact.{Has, none_touched, Listed, AllFiles, FirstFile, Names, Reaches, AfterData, CallLaws}
@@ -332,7 +332,7 @@ each_full b h =
     let s : b.three ≡ true = h 3 (omega arith) in
     rw (p, q, r, s)
 
-one_refusal : (b : Files) (r : FileRefusal) → answer_by b (Answer.Refused r) ≡ (31, b)
+one_refusal : (b : Files) (r : FileRefusal) → answer_by b (Err r) ≡ (31, b)
 one_refusal b FileRefusal.NoSuchFile = refl
 
 pub file_laws : FileLaws

@@ -1,17 +1,10 @@
 -- What the inner functions say. SCOPE 18.
 use Rattle.std.specs.Prelude.{true, List, [], ◌∷◌, ℕ, zero, suc, eqb}
-use Rattle.std.proofs.Math.Option.{Option, some, none}
 use Rattle.wire.specs.Bytes.{pick}
 use Rattle.rows.specs.Layout.{Read, got, refused}
 use Rattle.rows.specs.Head.{identifier_at}
 use Rattle.touched.specs.declared.Files.{Files}
-use Rattle.touched.specs.declared.Filed.{Filed}
 use Rattle.touched.specs.Touched.{files}
-
--- a file that was found
-abbrev pub file_by : Filed → Option ℕ
-file_by (Filed.In f) = some f
-file_by Filed.Unlisted = none
 
 -- file f too; a number above 3 is no file's
 abbrev pub with_file : ℕ → Files → Files

@@ -1,13 +1,12 @@
 -- Which files a call leaves touched, said by the two lists that are lent, the bytes of the data and what is told alone: no definition of the walk, of
 -- the entries or of the reader of rows is used. 02, wish 10; SCOPE 18.
-use Rattle.std.specs.Prelude.{◌≡◌, true, false, List, [], ◌∷◌, ◌++◌, ◌⊎◌, ℕ, zero, suc, ◌/◌, ◌%◌, ◌<◌, ◌≤◌, length, get_or}
+use Rattle.std.specs.Prelude.{◌≡◌, true, false, List, [], ◌∷◌, ◌++◌, ◌⊎◌, ℕ, zero, suc, ◌/◌, ◌%◌, ◌<◌, ◌≤◌, length, get_or, Ok, Err}
 use Rattle.std.proofs.Math.Pow.{are_bytes}
 use Rattle.rows.specs.Rows.{Row, relation, type, origin, insert, update, update_from, delete, truncate, row_bytes}
 use Rattle.rows.specs.RowLayout.{RowFits}
 use Rattle.touched.specs.declared.Files.{Files}
 use Rattle.progress.specs.declared.files.FileRefusal.{FileRefusal}
 use Rattle.touched.specs.declared.Tells.{Tells}
-use Rattle.touched.specs.declared.Answer.{Answer}
 use Rattle.touched.specs.Bits.{files_by}
 use Rattle.touched.specs.Touched.{entries_of, files, clear, is_full, tells_by, Told, begins, brings, nothing, after_of, answer_by}
 use Rattle.touched.specs.Walk.{Among, left_by}
@@ -138,8 +137,8 @@ pub record FileLaws : Type 0 where
   pub full : (b : Files) → is_full b ≡ true → (f : ℕ) → f ≤ 3 → Has b f
   pub not_full : (b : Files) → ((f : ℕ) → f ≤ 3 → Has b f) → is_full b ≡ true
   pub none_at_first : clear ≡ none_touched
-  pub left : (b c : Files) → answer_by b (Answer.Left c) ≡ (0, c)
-  pub refused : (b : Files) (r : FileRefusal) → answer_by b (Answer.Refused r) ≡ (31, b)
+  pub left : (b c : Files) → answer_by b (Ok c) ≡ (0, c)
+  pub refused : (b : Files) (r : FileRefusal) → answer_by b (Err r) ≡ (31, b)
   pub begin_told : (s : List ℕ) → tells_by Tells.Begin s ≡ begins
   pub data_told : (s : List ℕ) → tells_by Tells.Data s ≡ brings s
   pub nothing_told : (s : List ℕ) → tells_by Tells.Nothing s ≡ nothing

@@ -1,13 +1,13 @@
 -- Which files a transaction touched, call by call: one bit for each of four files, cleared by Begin, set by every row and Truncate whose relation
 -- has the file in a list. 02, wish 10; SCOPE 18.
-use Rattle.std.specs.Prelude.{Bool, true, false, List, [], ◌∷◌, ℕ, take, eqb}
+use Rattle.std.specs.Prelude.{Bool, true, false, List, [], ◌∷◌, ℕ, take, eqb, Result, Ok, Err}
 use Rattle.std.proofs.Math.Option.{Option, some, none}
 use Rattle.wire.specs.Bytes.{pick}
+use Rattle.progress.specs.declared.files.FileRefusal.{FileRefusal}
 use Rattle.progress.specs.Files.{file_number, no_file}
 use Rattle.rows.specs.Rows.{Row, relation, type, origin, insert, update, update_from, delete, truncate, Said, row, no_row, refused_by, row_said}
 use Rattle.touched.specs.declared.Files.{Files}
 use Rattle.touched.specs.declared.Tells.{Tells}
-use Rattle.touched.specs.declared.Answer.{Answer}
 
 -- ---- the list
 
@@ -105,6 +105,6 @@ unfoldable pub after_of : List (ℕ × ℕ) → Told → Files → ℕ × Files
 after_of es t b = pick (has_no_file es) (31, b) (0, files_after es t b)
 
 -- what an answer of the code says, of the files as they were before
-abbrev pub answer_by : Files → Answer → ℕ × Files
-answer_by b (Answer.Left c) = (0, c)
-answer_by b (Answer.Refused r) = (file_number r, b)
+abbrev pub answer_by : Files → Result Files FileRefusal → ℕ × Files
+answer_by b (Ok c) = (0, c)
+answer_by b (Err r) = (file_number r, b)

@@ -1,6 +1,8 @@
 -- The touched files as words: the event by its kind and its data, the files as a number. 02, wish 10; SCOPE 9.7.
-use Rattle.std.specs.Prelude.{◌≡◌, false, List, [], ◌∷◌, ℕ, eqb}
+use Rattle.std.specs.Prelude.{◌≡◌, false, List, [], ◌∷◌, ℕ, eqb, Result, Ok, Err}
 use Rattle.wire.specs.Bytes.{pick}
+use Rattle.progress.specs.declared.files.FileRefusal.{FileRefusal}
+use Rattle.progress.specs.Files.{file_number}
 use Rattle.touched.specs.declared.Files.{Files}
 use Rattle.touched.specs.Bits.{bits_of, files_by}
 use Rattle.touched.specs.Touched.{entries_of, has_no_file, Told, begins, brings, nothing, after_of}
@@ -18,6 +20,11 @@ reply_of bits a = (a.0, pick (eqb a.0 0) (bits_of a.1) bits)
 -- number, 0 for none, and the bits
 abbrev pub touched_call : List ℕ → List ℕ → ℕ → List ℕ → ℕ → ℕ × ℕ
 touched_call ids fs kind s bits = reply_of bits (after_of (entries_of ids fs) (told_by kind s) (files_by bits))
+
+-- what the code's own bits after a call say, of those before
+abbrev pub bits_by : ℕ → Result ℕ FileRefusal → ℕ × ℕ
+bits_by bits (Ok n) = (0, n)
+bits_by bits (Err r) = (file_number r, bits)
 
 -- ---- theorems
 

@@ -2,15 +2,16 @@
 // Which files a transaction touched: one bit for each of four, cleared by Begin, set by every row and Truncate whose relation has a file in a list.
 pub mod words;
 
-ghost use Rattle.std.specs.Prelude.{◌≡◌, [], ◌∷◌, ◌≤◌, min, length};
+ghost use Rattle.std.specs.Prelude.{◌≡◌, [], ◌∷◌, ◌≤◌, min, length, nat_lt};
+ghost use Rattle.std.specs.List.{list_any};
 ghost use Rattle.rows.specs.Rows.{row_said};
 ghost use Rattle.touched.specs.Touched.{entries_of, has_no_file, file_of, changed_by, clear, is_full, with_all, tells_by, after_of, answer_by};
 ghost use Rattle.touched.specs.Bits.{bit_of, bit_at, bits_of, files_by};
-ghost use Rattle.touched.specs.Code.{file_by, with_file, identifiers_at};
+ghost use Rattle.touched.specs.Code.{with_file, identifiers_at};
+ghost use Rattle.wire.specs.Answer.{maybe};
 
 use progress::files::{FileRefusal, LAST_FILE};
-use rows::{Identifier, Row};
-use wire::store::least;
+use rows::Row;
 
 // Entries past so many are not read.
 pub const ENTRIES: usize = 64;
@@ -30,20 +31,6 @@ pub enum Tells {
     Begin,
     Data,
     Nothing,
-}
-
-// The files after an event, or why the list is refused, which leaves them as they were.
-#[derive(Clone, Copy)]
-pub enum Answer {
-    Left(Files),
-    Refused(FileRefusal),
-}
-
-// The file of an identifier.
-#[derive(Clone, Copy)]
-enum Filed {
-    In(u64),
-    Unlisted,
 }
 
 impl Files {
@@ -132,14 +119,21 @@ fn is_odd(n: u64) -> bool
 fn bit(b: bool) -> u64
     ensures { (result ≡ bit_of b) × (result ≤ 1) }
 {
-    if b { 1 } else { 0 }
+    u64::from(b)
 }
 
 // How many entries are read: identifiers and files are lent apart, and the shorter length holds.
 fn entries(identifiers: &[u32], files: &[u64]) -> usize
     ensures { result ≡ min 64 (min (length identifiers.now) (length files.now)) }
 {
-    least(ENTRIES, least(identifiers.len(), files.len()))
+    ENTRIES.min(identifiers.len().min(files.len()))
+}
+
+// Whether one of these is above 3.
+fn has_other(files: &[u64]) -> bool
+    ensures { result ≡ list_any (λ f. nat_lt 3 f) files.now }
+{
+    files.iter().any(|file| LAST_FILE < *file)
 }
 
 // Whether an entry that is read has a file above 3.
@@ -147,39 +141,29 @@ fn has_no_file(identifiers: &[u32], files: &[u64]) -> bool
     ensures { result ≡ has_no_file (entries_of identifiers.now files.now) }
 {
     let n = entries(identifiers, files);
-    let mut i: usize = 0;
-    while i < n {
-        if LAST_FILE < files[i] {
-            return true;
-        }
-        i += 1;
-    }
-    false
+    has_other(&files[..n])
 }
 
-// Of a repeated identifier the first entry holds.
-fn file_of(identifiers: &[u32], files: &[u64], id: u32) -> Filed
-    ensures { file_by result ≡ file_of (entries_of identifiers.now files.now) id }
+// The file of an identifier. Of a repeated one the first entry holds.
+fn file_of(identifiers: &[u32], files: &[u64], id: u32) -> Option<u64>
+    ensures { maybe result ≡ file_of (entries_of identifiers.now files.now) id }
 {
     let n = entries(identifiers, files);
-    let mut i: usize = 0;
-    while i < n {
+    for i in 0..n {
         if identifiers[i] == id {
-            return Filed::In(files[i]);
+            return Some(files[i]);
         }
-        i += 1;
     }
-    Filed::Unlisted
+    None
 }
 
 // A relation was changed.
 fn with_relation(identifiers: &[u32], files: &[u64], id: u32, before: Files) -> Files
     ensures { result ≡ with_all (entries_of identifiers.now files.now) (id ∷ []) before }
 {
-    let filed = file_of(identifiers, files, id);
-    match filed {
-        Filed::In(file) => before.with(file),
-        Filed::Unlisted => before,
+    match file_of(identifiers, files, id) {
+        Some(file) => before.with(file),
+        None => before,
     }
 }
 
@@ -196,15 +180,12 @@ fn with_relations(
 {
     let mut touched = before;
     let mut place = from;
-    let mut k: usize = 0;
-    while k < n {
-        let i = rows::items::identifier_at(data, place);
-        let Identifier::Of(id, next) = i else {
+    for _ in 0..n {
+        let Ok((id, next)) = rows::items::identifier_at(data, place) else {
             return touched;
         };
         touched = with_relation(identifiers, files, id, touched);
         place = next;
-        k += 1;
     }
     touched
 }
@@ -213,37 +194,45 @@ fn with_relations(
 fn after_row(identifiers: &[u32], files: &[u64], data: &[u8], before: Files) -> Files
     ensures { result ≡ with_all (entries_of identifiers.now files.now) (changed_by (row_said «data».now)) before }
 {
-    let row = rows::read_row(data);
-    match row {
-        Row::Insert {
-            relation: a,
-            new: _,
-        } => with_relation(identifiers, files, a, before),
-        Row::Update {
-            relation: b,
-            new: _,
-        } => with_relation(identifiers, files, b, before),
-        Row::UpdateFrom {
-            relation: c,
-            which: _,
-            old: _,
-            new: _,
-        } => with_relation(identifiers, files, c, before),
-        Row::Delete {
-            relation: d,
-            which: _,
-            old: _,
-        } => with_relation(identifiers, files, d, before),
-        Row::Truncate {
-            relations: n,
-            options: _,
-            from,
-        } => with_relations(identifiers, files, data, n, from, before),
-        Row::Relation { .. } => before,
-        Row::Type { .. } => before,
-        Row::Origin { .. } => before,
-        Row::NoRow => before,
-        Row::Refused(_) => before,
+    match rows::read_row(data) {
+        Ok(Some(Row::Insert { relation, .. })) => with_relation(
+            identifiers,
+            files,
+            relation,
+            before,
+        ),
+        Ok(Some(Row::Update { relation, .. })) => with_relation(
+            identifiers,
+            files,
+            relation,
+            before,
+        ),
+        Ok(Some(Row::UpdateFrom { relation, .. })) => with_relation(
+            identifiers,
+            files,
+            relation,
+            before,
+        ),
+        Ok(Some(Row::Delete { relation, .. })) => with_relation(
+            identifiers,
+            files,
+            relation,
+            before,
+        ),
+        Ok(
+            Some(
+                Row::Truncate {
+                    relations,
+                    from,
+                    ..
+                },
+            ),
+        ) => with_relations(identifiers, files, data, relations, from, before),
+        Ok(Some(Row::Relation { .. })) => before,
+        Ok(Some(Row::Type { .. })) => before,
+        Ok(Some(Row::Origin { .. })) => before,
+        Ok(None) => before,
+        Err(_) => before,
     }
 }
 
@@ -258,19 +247,25 @@ fn after_data(identifiers: &[u32], files: &[u64], data: &[u8], before: Files) ->
 }
 
 // The list is judged first, at every call. Data are looked at where the event tells that there are some.
-pub fn after(identifiers: &[u32], files: &[u64], tells: Tells, data: &[u8], before: Files) -> Answer
+pub fn after(
+    identifiers: &[u32],
+    files: &[u64],
+    tells: Tells,
+    data: &[u8],
+    before: Files,
+) -> Result<Files, FileRefusal>
     ensures { answer_by before result
         ≡ after_of (entries_of identifiers.now files.now) (tells_by tells «data».now) before }
 {
     if has_no_file(identifiers, files) {
-        return Answer::Refused(FileRefusal::NoSuchFile);
+        return Err(FileRefusal::NoSuchFile);
     }
     match tells {
-        Tells::Begin => Answer::Left(Files::clear()),
+        Tells::Begin => Ok(Files::clear()),
         Tells::Data => {
             let touched = after_data(identifiers, files, data, before);
-            Answer::Left(touched)
+            Ok(touched)
         }
-        Tells::Nothing => Answer::Left(before),
+        Tells::Nothing => Ok(before),
     }
 }

@@ -1,9 +1,10 @@
 // The touched files as a host has them: the event by its kind and its data, the files as a number. SCOPE 9.7.
 ghost use Rattle.std.specs.Prelude.{◌≡◌, List, ℕ};
-ghost use Rattle.touched.specs.Touched.{tells_by, answer_by};
-ghost use Rattle.touched.specs.Words.{told_by, touched_call, reply_of};
+ghost use Rattle.touched.specs.Touched.{tells_by};
+ghost use Rattle.touched.specs.Words.{told_by, touched_call, bits_by};
 
-use crate::{Answer, Files, Tells};
+use crate::{Files, Tells};
+use progress::files::FileRefusal;
 
 // The kinds of two events, as the words of an answer have them (SCOPE 9.2).
 const BEGIN: u64 = 2;
@@ -30,31 +31,34 @@ fn tells_by(kind: u64) -> Tells
     Tells::Nothing
 }
 
-// Refused, the bits are all as they were, those above the four too.
-fn reply_of(answer: Answer, before: Files, bits: u64) -> Reply
-    ensures { (result.refusal, result.bits) ≡ reply_of bits (answer_by before answer) }
+// The bits of the files after an event, by its kind and its data.
+pub fn bits_after(
+    identifiers: &[u32],
+    files: &[u64],
+    kind: u64,
+    data: &[u8],
+    bits: u64,
+) -> Result<u64, FileRefusal>
+    ensures { bits_by bits result ≡ touched_call identifiers.now files.now kind «data».now bits }
 {
-    match answer {
-        Answer::Left(files) => Reply {
+    let before = Files::of_bits(bits);
+    let tells = tells_by(kind);
+    let after = crate::after(identifiers, files, tells, data, before)?;
+    Ok(after.bits())
+}
+
+// The same as words. Refused, the bits are all as they were, those above the four too.
+pub fn after_event(identifiers: &[u32], files: &[u64], kind: u64, data: &[u8], bits: u64) -> Reply
+    ensures { (result.refusal, result.bits) ≡ touched_call identifiers.now files.now kind «data».now bits }
+{
+    match bits_after(identifiers, files, kind, data, bits) {
+        Ok(after) => Reply {
             refusal: 0,
-            bits: files.bits(),
+            bits: after,
         },
-        Answer::Refused(r) => Reply {
+        Err(r) => Reply {
             refusal: r.number() as u64,
             bits,
         },
     }
-}
-
-// The files after an event, by its kind and its data.
-pub fn after_event(identifiers: &[u32], files: &[u64], kind: u64, data: &[u8], bits: u64) -> Reply
-    ensures { (result.refusal, result.bits) ≡ touched_call identifiers.now files.now kind «data».now bits }
-{
-    let before = Files::of_bits(bits);
-    let tells = tells_by(kind);
-    reply_of(
-        crate::after(identifiers, files, tells, data, before),
-        before,
-        bits,
-    )
 }

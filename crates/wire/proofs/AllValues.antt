@@ -195,24 +195,10 @@ search_laws = record { first = first; nowhere_there = nowhere_there }
 pub value_laws : ValueLaws
 value_laws =
     record {
-      found = λ i. refl;
+      found = λ v. refl;
       not_found = refl;
-      u8 = λ v. refl;
-      u8_cut = refl;
-      u16 = λ v. refl;
-      u16_cut = refl;
-      u32 = λ v. refl;
-      u32_cut = refl;
-      u64 = λ v. refl;
-      u64_cut = refl;
-      i8 = λ v. refl;
-      i8_cut = refl;
-      i16 = λ v. refl;
-      i16_cut = refl;
-      i32 = λ v. refl;
-      i32_cut = refl;
-      i64 = λ v. refl;
-      i64_cut = refl;
+      signed = λ v. refl;
+      signed_cut = refl;
       size = λ v. refl;
       no_size = refl;
     }

@@ -16,9 +16,10 @@ use lib.Dec.{leb, ltb}
 use lib.Pow.{are_bytes}
 use borrow.Author.Tests.{lt-ltb, le-ltb, le-leb, lt-leb, ltb-true, ltb-false, leb-true}
 use Rattle.wire.specs.Bytes.{be, be_from, be_bytes, at}
-use Rattle.wire.specs.Field.{field_at, signed, unsigned, value_of}
+use Rattle.wire.specs.Field.{field_at, signed, unsigned}
 use Rattle.wire.specs.Int.{half, int, int_at, int_bytes}
-use Rattle.wire.specs.declared.field.U64Field.{U64Field}
+use Rattle.std.specs.Prelude.{Option as Answer, Some}
+use Rattle.wire.specs.Answer.{value_of}
 use Rattle.wire.proofs.Laws.{be_snoc, be_more, be_none, length_be_bytes, more, by_test, impossible}
 
 -- ---- a number and the bytes that spell it
@@ -111,7 +112,7 @@ module _ (half : ℕ) where
 pub told : {F A : Type 0} (f : F → Option A) {r x : F} {o : Option A} → f r ≡ o → r ≡ x → o ≡ f x
 told f h e = sym h ∙ ap f e
 
-pub value_below : {r : U64Field} {v m : ℕ} → r ≡ U64Field.Value v → value_of r < m → v < m
+pub value_below : {r : Answer ℕ} {v m : ℕ} → r ≡ Some v → value_of r < m → v < m
 value_below e h = rw e at h
 
 -- ---- a field that is not cut

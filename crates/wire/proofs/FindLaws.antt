@@ -1,12 +1,16 @@
 -- The search for a byte, both ways: where a byte is found in a list that is known, and what the list is where one was found.
 use mathlib.Core.Path.{◌≡◌, refl, sym, ap, ◌∙◌}
 use mathlib.Core.List.{List, [], ◌∷◌, ◌++◌}
-use Prim.Native.Nat.{ℕ, suc, ◌+◌, ◌<◌}
+use Prim.Native.Nat.{ℕ, suc, ◌+◌, ◌<◌, ◌≤◌}
 use native.Mathlib.Numerals.{add-one, one-add}
 use native.Mathlib.Omega.{arith}
 use lib.ListN.{length, take, drop}
 use lib.Dec.{eqb}
-use borrow.Author.Tests.{eqb-true, eqb-false, ne_eqb}
+use borrow.Author.Tests.{eqb-true, eqb-false, ne_eqb, lt-ltb, le-ltb, ltb-true, ltb-false}
+use mathlib.Core.Bool.{true, false}
+use Rattle.std.specs.Prelude.{position, nat_eq, nat_lt}
+use Rattle.std.specs.List.{position_or_len}
+use Rattle.wire.specs.Answer.{maybe}
 use Rattle.wire.specs.Find.{index_of, later, NoZero}
 use mathlib.Core.Option.{Option, some, none}
 use Rattle.wire.proofs.Laws.{by_test, impossible}
@@ -63,3 +67,29 @@ found_at (b ∷ s) k e =
     let w = found_later (index_of 0 s) k (rw t at e) in
     let r = found_at s w.0 w.1 in
     rw (add-one, w.2) ((eqb-false b 0 t, r.0), ap (λ (l : List ℕ). b ∷ l) (rw add-one at r.1)))
+
+-- ---- the library's search for the first element that passes a test
+
+pub place_is : (b : ℕ) (s : List ℕ) → maybe (position (λ x. nat_eq x b) s) ≡ index_of b s
+unfolding index_of
+place_is b [] = refl
+place_is b (x ∷ xs) =
+    let i = place_is b xs in
+    let k : ℕ = position_or_len (λ x. nat_eq x b) xs in
+    let n : ℕ = length xs in
+    by_test (eqb x b)
+    (λ t.
+    let h : nat_lt 0 (1 + n) ≡ true = lt-ltb 0 (1 + n) (omega arith) in
+    simp (t, one-add, rw one-add at h))
+    (λ t.
+    by_test (nat_lt k n)
+    (λ u.
+    let l : k < n = ltb-true k n u in
+    let h : nat_lt (1 + k) (1 + n) ≡ true = lt-ltb (1 + k) (1 + n) (omega arith) in
+    let e : some k ≡ index_of b xs = rw u at i in
+    rw (t, ← e) (simp (rw (one-add n) at h)))
+    (λ u.
+    let l : n ≤ k = ltb-false k n u in
+    let h : nat_lt (1 + k) (1 + n) ≡ false = le-ltb (1 + k) (1 + n) (omega arith) in
+    let e : none ≡ index_of b xs = rw u at i in
+    rw (t, ← e) (simp (rw (one-add n) at h))))

@@ -6,13 +6,10 @@ use native.Mathlib.Nat.{le_of_suc-le-suc, not-suc-le-zero, add-zero, pow-suc, lt
 use native.Mathlib.Numerals.{add-one}
 use native.Mathlib.Omega.{arith}
 use lib.ListN.{length, take, drop, get_or, set, length-append, length-take, length-drop, length-set, take-append-drop, drop_of_length-le}
-use lib.Seq.{take-suc, take-take, get_or-drop, drop-drop, take_all, take-set-le, take-length, drop-cons, set_split, take_at, drop-append-add}
-use lib.Dec.{eqb}
+use lib.Seq.{take-suc, take-take, get_or-drop, drop-drop, take_all, take-set-le, set_split, take_at, drop-append-add}
 use mathlib.Core.Bool.{Bool, true, false}
-use borrow.Author.Tests.{eq-eqb, ne_eqb, le-leb, lt-leb}
+use borrow.Author.Tests.{le-leb, lt-leb}
 use Rattle.wire.specs.Bytes.{be, be_from, be_bytes, at, put, nowhere, placed, copied}
-use Rattle.wire.specs.Find.{index_of, later}
-use mathlib.Core.Option.{Option, some, none}
 
 -- one byte more at the end
 be_from_snoc : (acc : ℕ) (l : List ℕ) (x : ℕ) → be_from acc (l ++ (x ∷ [])) ≡ be_from acc l * 256 + x
@@ -29,6 +26,10 @@ pub be_more : (s : List ℕ) (i n : ℕ) → i + n < length s → be (at s i (n 
 be_more s i n h =
     let k : n < length (drop i s) = simp length-drop (omega arith) in
     rw (add-one, take-suc (drop i s) n 0, be_snoc, get_or-drop)
+
+-- the same of a list's front
+pub be_next : (s : List ℕ) (n : ℕ) → n < length s → be (take (n + 1) s) ≡ be (take n s) * 256 + get_or s n 0
+be_next s n h = rw (add-one, take-suc s n 0, be_snoc)
 
 pub be_none : (s : List ℕ) (i : ℕ) → be (at s i 0) ≡ 0
 unfolding be be_from
@@ -49,26 +50,6 @@ fits i n {a} {b} hi hn ha hb =
     let k : i + 1 ≤ 8 = omega arith in
     let z : 0 < 256 = omega arith in
     lt_of_lt_of_le (more i ha hb) (pow-le-pow_right z k)
-
--- a turn of a copying loop: one byte more of src stands over the front of d
-store : (src dst : List ℕ) (i : ℕ) → i < length src → i < length dst → set (take i src ++ drop i dst) i (get_or src i 0) ≡ take (suc i) src ++ drop (suc i) dst
-store [] dst i h k = absurd (not-suc-le-zero h)
-store (x ∷ xs) [] i h k = absurd (not-suc-le-zero k)
-store (x ∷ xs) (y ∷ ys) zero h k = refl
-store (x ∷ xs) (y ∷ ys) (suc i) h k = ap (λ (l : List ℕ). x ∷ l) (store xs ys i (le_of_suc-le-suc h) (le_of_suc-le-suc k))
-
-pub copy_turn : (src d d₀ : List ℕ) (i : ℕ) → i < length src → length src ≤ length d₀ → d ≡ take i src ++ drop i d₀
-    → set d i (get_or src i 0) ≡ take (i + 1) src ++ drop (i + 1) d₀
-copy_turn src d d₀ i h k inv =
-    let l : i < length d₀ = omega arith in
-    rw (inv, add-one) (store src d₀ i h l)
-
--- the whole of src is copied
-pub copy_done : (src d d₀ : List ℕ) (i : ℕ) → i ≡ length src → d ≡ take i src ++ drop i d₀ → d ≡ put d₀ 0 src
-unfolding put
-copy_done src d d₀ i e inv =
-    let z : 0 + length src ≡ length src = omega arith in
-    inv ∙ rw (e, take-length, z)
 
 drop_set_same : (d : List ℕ) (i b : ℕ) → i < length d → drop i (set d i b) ≡ b ∷ drop (suc i) d
 drop_set_same [] i b h = absurd (not-suc-le-zero h)
@@ -110,6 +91,11 @@ lent_tail d ys src a k h e =
     let z : 0 + length src ≡ length src = omega arith in
     rw (e, take_all k (drop a d) l, drop_of_length-le (drop a d) l, append-nil, z, drop-drop)
 
+-- a part that was lent and written over, said of the whole
+pub lent_part : (d ys src : List ℕ) (a k : ℕ) → k ≡ length src → ys ≡ src → take a d ++ (ys ++ drop k (drop a d)) ≡ put d a src
+unfolding put
+lent_part d ys src a k h e = rw (e, h, drop-drop)
+
 -- a part that goes on to the end
 pub tail_whole : (s : List ℕ) (a : ℕ) → take (length s - a) (drop a s) ≡ drop a s
 tail_whole s a = take_all (length s - a) (drop a s) (simp length-drop (omega arith))
@@ -135,34 +121,6 @@ put_next d a b i n e h =
     rw (e, w, ← append_assoc (take i d) a (drop (i + n) d), t, s) (simp append_assoc)
 
 -- ---- the search for a byte
-
-pub find_start : (b : ℕ) (s : List ℕ) → index_of b s ≡ later 0 (index_of b (drop 0 s))
-find_start b s = later_zero (index_of b s)
-  where
-    later_zero : (f : Option ℕ) → f ≡ later 0 f
-    later_zero (some i) = ap some (omega arith)
-    later_zero none = refl
-
-later_later : (n m : ℕ) (f : Option ℕ) → later n (later m f) ≡ later (n + m) f
-later_later n m (some i) = ap some (omega arith)
-later_later n m none = refl
-
-pub find_here : (s : List ℕ) (b i : ℕ) → i < length s → get_or s i 0 ≡ b → later i (index_of b (drop i s)) ≡ some i
-unfolding index_of
-find_here s b i h e =
-    let t : eqb (get_or s i 0) b ≡ true = eq-eqb _ _ e in
-    let z : i + 0 ≡ i = omega arith in
-    rw (drop-cons s i 0 h, t, z)
-
-pub find_next : (s : List ℕ) (b i : ℕ) → i < length s → (get_or s i 0 ≡ b → ⊥) → later i (index_of b (drop i s)) ≡ later (i + 1) (index_of b (drop (i + 1) s))
-unfolding index_of
-find_next s b i h e =
-    let t : eqb (get_or s i 0) b ≡ false = ne_eqb _ _ e in
-    rw (drop-cons s i 0 h, t, later_later, add-one)
-
-pub find_none : (s : List ℕ) (b i : ℕ) → length s ≤ i → later i (index_of b (drop i s)) ≡ none
-unfolding index_of
-find_none s b i h = rw (drop_of_length-le s h)
 
 -- ---- a list placed where it fits
 

@@ -1,22 +1,14 @@
 -- Laws over all values of the definitions of bytes, fields and searches: SCOPE 1.2. What is written over a buffer leaves its front and its rest as
 -- they were; a number and its bytes, and a signed number and its value, are inverse to each other over their whole ranges, at every width.
-use Rattle.std.specs.Prelude.{◌≡◌, true, false, List, [], ◌∷◌, ◌++◌, ℕ, ◌+◌, ◌*◌, ◌%◌, ◌^◌, ◌≤◌, ◌<◌, length, take, drop, get_or, ℤ, pos, negsuc}
+use Rattle.std.specs.Prelude.{◌≡◌, true, false, List, [], ◌∷◌, ◌++◌, ℕ, ◌+◌, ◌*◌, ◌%◌, ◌^◌, ◌≤◌, ◌<◌, length, take, drop, get_or, ℤ, pos, negsuc, Some, None}
 use Rattle.std.proofs.Math.Option.{some, none}
 use Rattle.std.specs.Int.Signed.{mag}
 use Rattle.std.proofs.Math.Pow.{are_bytes}
+use Rattle.wire.specs.Answer.{maybe, value_of}
 use Rattle.wire.specs.Bytes.{at, put, placed, copied, be, be_bytes}
-use Rattle.wire.specs.Field.{field_at, u8_of, u16_of, u32_of, u64_of, i8_of, i16_of, i32_of, i64_of, value_of}
+use Rattle.wire.specs.Field.{field_at}
 use Rattle.wire.specs.Int.{half, is_negative, int, value, int_at, int_bytes}
-use Rattle.wire.specs.Find.{index_of, found_of}
-use Rattle.wire.specs.declared.find.Found.TheVariants.{At, Nothing}
-use Rattle.wire.specs.declared.field.U8Field.{U8Field}
-use Rattle.wire.specs.declared.field.U16Field.{U16Field}
-use Rattle.wire.specs.declared.field.U32Field.{U32Field}
-use Rattle.wire.specs.declared.field.U64Field.{U64Field}
-use Rattle.wire.specs.declared.field.I8Field.{I8Field}
-use Rattle.wire.specs.declared.field.I16Field.{I16Field}
-use Rattle.wire.specs.declared.field.I32Field.{I32Field}
-use Rattle.wire.specs.declared.field.I64Field.{I64Field}
+use Rattle.wire.specs.Find.{index_of}
 
 -- ---- bytes written over a buffer
 
@@ -90,23 +82,10 @@ pub record SearchLaws : Type 0 where
 -- ---- what each answer says
 
 pub record ValueLaws : Type 0 where
-  pub found : (i : ℕ) → found_of (At i) ≡ some i
-  pub not_found : found_of Nothing ≡ none
-  pub u8 : (v : ℕ) → u8_of (U8Field.Value v) ≡ some v
-  pub u8_cut : u8_of U8Field.Cut ≡ none
-  pub u16 : (v : ℕ) → u16_of (U16Field.Value v) ≡ some v
-  pub u16_cut : u16_of U16Field.Cut ≡ none
-  pub u32 : (v : ℕ) → u32_of (U32Field.Value v) ≡ some v
-  pub u32_cut : u32_of U32Field.Cut ≡ none
-  pub u64 : (v : ℕ) → u64_of (U64Field.Value v) ≡ some v
-  pub u64_cut : u64_of U64Field.Cut ≡ none
-  pub i8 : (v : ℤ) → i8_of (I8Field.Value v) ≡ some v
-  pub i8_cut : i8_of I8Field.Cut ≡ none
-  pub i16 : (v : ℤ) → i16_of (I16Field.Value v) ≡ some v
-  pub i16_cut : i16_of I16Field.Cut ≡ none
-  pub i32 : (v : ℤ) → i32_of (I32Field.Value v) ≡ some v
-  pub i32_cut : i32_of I32Field.Cut ≡ none
-  pub i64 : (v : ℤ) → i64_of (I64Field.Value v) ≡ some v
-  pub i64_cut : i64_of I64Field.Cut ≡ none
-  pub size : (v : ℕ) → value_of (U64Field.Value v) ≡ v
-  pub no_size : value_of U64Field.Cut ≡ 0
+  -- a place, and a field of any width, not signed and signed
+  pub found : (v : ℕ) → maybe (Some v) ≡ some v
+  pub not_found : maybe {A = ℕ} None ≡ none
+  pub signed : (v : ℤ) → maybe (Some v) ≡ some v
+  pub signed_cut : maybe {A = ℤ} None ≡ none
+  pub size : (v : ℕ) → value_of (Some v) ≡ v
+  pub no_size : value_of None ≡ 0

@@ -1,8 +1,9 @@
 // Big-endian integer fields, read from a slice at a place and written into one.
 ghost use Rattle.std.specs.Prelude.{◌≡◌, ◌+◌, ◌*◌, ◌<◌, ◌≤◌, ◌^◌, length};
 ghost use Rattle.std.specs.Int.Signed.{mag};
+ghost use Rattle.wire.specs.Answer.{maybe, value_of};
 ghost use Rattle.wire.specs.Bytes.{be, at, placed, be_bytes};
-ghost use Rattle.wire.specs.Field.{field_at, value_of, signed, unsigned, u8_of, u16_of, u32_of, u64_of, i8_of, i16_of, i32_of, i64_of};
+ghost use Rattle.wire.specs.Field.{field_at, signed, unsigned};
 ghost use Rattle.wire.specs.Int.{half, int, value, int_at, int_bytes};
 
 use crate::store;
@@ -21,116 +22,47 @@ pub const FIRST_NEGATIVE_16: u16 = HALF_16 as u16;
 
 pub const FIRST_NEGATIVE_32: u32 = HALF_32 as u32;
 
-#[derive(Clone, Copy)]
-pub enum U8Field {
-    Value(u8),
-    Cut,
-}
-
-#[derive(Clone, Copy)]
-pub enum U16Field {
-    Value(u16),
-    Cut,
-}
-
-#[derive(Clone, Copy)]
-pub enum U32Field {
-    Value(u32),
-    Cut,
-}
-
-#[derive(Clone, Copy)]
-pub enum U64Field {
-    Value(u64),
-    Cut,
-}
-
-#[derive(Clone, Copy)]
-pub enum I8Field {
-    Value(i8),
-    Cut,
-}
-
-#[derive(Clone, Copy)]
-pub enum I16Field {
-    Value(i16),
-    Cut,
-}
-
-#[derive(Clone, Copy)]
-pub enum I32Field {
-    Value(i32),
-    Cut,
-}
-
-#[derive(Clone, Copy)]
-pub enum I64Field {
-    Value(i64),
-    Cut,
-}
-
-fn wide(x: u8) -> u64
-    ensures { (result ≡ x) × (result < 256) }
-{
-    x as u64
-}
-
-fn load_be(s: &[u8], from: usize, n: usize) -> u64
-    requires { (n ≤ 8) × (from + n ≤ length s.now) }
-    ensures { (result ≡ be (at s.now from n)) × (result < 256 ^ n) }
+// The number that the bytes spell, the first byte the highest.
+fn load_be(bytes: &[u8]) -> u64
+    requires { length bytes.now ≤ 8 }
+    ensures { (result ≡ be bytes.now) × (result < 256 ^ length bytes.now) }
 {
     let mut acc: u64 = 0;
-    let mut i: usize = 0;
-    while i < n {
-        acc = acc * 256 + wide(s[from + i]);
-        i += 1;
+    for b in bytes {
+        acc = acc * 256 + u64::from(*b);
     }
     acc
 }
 
 // The number that n bytes from `from` spell. Every width is read by this function.
-fn read_be(s: &[u8], from: usize, n: usize) -> U64Field
+fn read_be(s: &[u8], from: usize, n: usize) -> Option<u64>
     requires { n ≤ 8 }
-    ensures { (u64_of result ≡ field_at n s.now from) × (value_of result < 256 ^ n) }
+    ensures { (maybe result ≡ field_at n s.now from) × (value_of result < 256 ^ n) }
 {
-    if s.len() < from {
-        return U64Field::Cut;
-    }
-    if s.len() - from < n {
-        return U64Field::Cut;
-    }
-    U64Field::Value(load_be(s, from, n))
+    let bytes = s.get(from..)?.get(..n)?;
+    Some(load_be(bytes))
 }
 
-pub fn read_u8(s: &[u8], from: usize) -> U8Field
-    ensures { u8_of result ≡ field_at 1 s.now from }
+pub fn read_u8(s: &[u8], from: usize) -> Option<u8>
+    ensures { maybe result ≡ field_at 1 s.now from }
 {
-    match read_be(s, from, 1) {
-        U64Field::Value(v) => U8Field::Value(v as u8),
-        U64Field::Cut => U8Field::Cut,
-    }
+    Some(read_be(s, from, 1)? as u8)
 }
 
-pub fn read_u16(s: &[u8], from: usize) -> U16Field
-    ensures { u16_of result ≡ field_at 2 s.now from }
+pub fn read_u16(s: &[u8], from: usize) -> Option<u16>
+    ensures { maybe result ≡ field_at 2 s.now from }
 {
-    match read_be(s, from, 2) {
-        U64Field::Value(v) => U16Field::Value(v as u16),
-        U64Field::Cut => U16Field::Cut,
-    }
+    Some(read_be(s, from, 2)? as u16)
 }
 
-pub fn read_u32(s: &[u8], from: usize) -> U32Field
-    ensures { u32_of result ≡ field_at 4 s.now from }
+pub fn read_u32(s: &[u8], from: usize) -> Option<u32>
+    ensures { maybe result ≡ field_at 4 s.now from }
 {
-    match read_be(s, from, 4) {
-        U64Field::Value(v) => U32Field::Value(v as u32),
-        U64Field::Cut => U32Field::Cut,
-    }
+    Some(read_be(s, from, 4)? as u32)
 }
 
-pub fn read_u64(s: &[u8], from: usize) -> U64Field
-    ensures { u64_of result ≡ field_at 8 s.now from }
+pub fn read_u64(s: &[u8], from: usize) -> Option<u64>
+    ensures { maybe result ≡ field_at 8 s.now from }
 {
     read_be(s, from, 8)
 }
@@ -171,40 +103,28 @@ pub fn of_i64(v: i64) -> u64
     of_signed(v, HALF_64)
 }
 
-pub fn read_i8(s: &[u8], from: usize) -> I8Field
-    ensures { i8_of result ≡ int_at 1 s.now from }
+pub fn read_i8(s: &[u8], from: usize) -> Option<i8>
+    ensures { maybe result ≡ int_at 1 s.now from }
 {
-    match read_be(s, from, 1) {
-        U64Field::Value(v) => I8Field::Value(to_signed(v, HALF_8) as i8),
-        U64Field::Cut => I8Field::Cut,
-    }
+    Some(to_signed(read_be(s, from, 1)?, HALF_8) as i8)
 }
 
-pub fn read_i16(s: &[u8], from: usize) -> I16Field
-    ensures { i16_of result ≡ int_at 2 s.now from }
+pub fn read_i16(s: &[u8], from: usize) -> Option<i16>
+    ensures { maybe result ≡ int_at 2 s.now from }
 {
-    match read_be(s, from, 2) {
-        U64Field::Value(v) => I16Field::Value(to_signed(v, HALF_16) as i16),
-        U64Field::Cut => I16Field::Cut,
-    }
+    Some(to_signed(read_be(s, from, 2)?, HALF_16) as i16)
 }
 
-pub fn read_i32(s: &[u8], from: usize) -> I32Field
-    ensures { i32_of result ≡ int_at 4 s.now from }
+pub fn read_i32(s: &[u8], from: usize) -> Option<i32>
+    ensures { maybe result ≡ int_at 4 s.now from }
 {
-    match read_be(s, from, 4) {
-        U64Field::Value(v) => I32Field::Value(to_signed(v, HALF_32) as i32),
-        U64Field::Cut => I32Field::Cut,
-    }
+    Some(to_signed(read_be(s, from, 4)?, HALF_32) as i32)
 }
 
-pub fn read_i64(s: &[u8], from: usize) -> I64Field
-    ensures { i64_of result ≡ int_at 8 s.now from }
+pub fn read_i64(s: &[u8], from: usize) -> Option<i64>
+    ensures { maybe result ≡ int_at 8 s.now from }
 {
-    match read_be(s, from, 8) {
-        U64Field::Value(v) => I64Field::Value(to_i64(v)),
-        U64Field::Cut => I64Field::Cut,
-    }
+    Some(to_i64(read_be(s, from, 8)?))
 }
 
 pub fn write_u8(dst: &mut [u8], to: usize, v: u8) -> usize

@@ -1,29 +1,24 @@
 // The search for a byte.
-ghost use Rattle.std.specs.Prelude.{◌≡◌};
-ghost use Rattle.wire.specs.Find.{index_of, found_of};
+ghost use Rattle.std.specs.Prelude.{◌≡◌, ◌==◌, position};
+ghost use Rattle.wire.specs.Answer.{maybe};
+ghost use Rattle.wire.specs.Find.{index_of};
 
-#[derive(Clone, Copy)]
-pub enum Found {
-    At(usize),
-    Nothing,
+// The first place at which b stands, in the library's words.
+fn place_of(s: &[u8], b: u8) -> Option<usize>
+    ensures { result ≡ position (λ x. x == b) s.now }
+{
+    s.iter().position(|x| *x == b)
 }
 
 // The first place at which b stands.
-pub fn find(s: &[u8], b: u8) -> Found
-    ensures { found_of result ≡ index_of b s.now }
+pub fn find(s: &[u8], b: u8) -> Option<usize>
+    ensures { maybe result ≡ index_of b s.now }
 {
-    let mut i: usize = 0;
-    while i < s.len() {
-        if s[i] == b {
-            return Found::At(i);
-        }
-        i += 1;
-    }
-    Found::Nothing
+    place_of(s, b)
 }
 
-pub fn find_zero(s: &[u8]) -> Found
-    ensures { found_of result ≡ index_of 0 s.now }
+pub fn find_zero(s: &[u8]) -> Option<usize>
+    ensures { maybe result ≡ index_of 0 s.now }
 {
     find(s, 0)
 }

@@ -5,30 +5,12 @@ ghost use Rattle.wire.specs.Bytes.{placed, copied, put, be_bytes};
 // What a function that places bytes answers where they do not fit. No slice is so long that this is a place in it.
 pub const NOWHERE: usize = 18446744073709551615;
 
-// The smaller of two counts: as much as is asked for, or as there is.
-pub fn least(a: usize, b: usize) -> usize
-    ensures { result ≡ min a b }
-{
-    if a < b { a } else { b }
-}
-
-fn copy_all(dst: &mut [u8], src: &[u8])
-    requires { length src.now ≤ length dst.old }
-    ensures { dst.new ≡ put dst.old 0 src.now }
-{
-    let mut i: usize = 0;
-    while i < src.len() {
-        dst[i] = src[i];
-        i += 1;
-    }
-}
-
 // As much of src as fits over the front of dst, and how much that is.
 pub fn copy(dst: &mut [u8], src: &[u8]) -> usize
     ensures { (result, dst.new) ≡ copied dst.old src.now }
 {
-    let n = least(src.len(), dst.len());
-    copy_all(dst, &src[..n]);
+    let n = src.len().min(dst.len());
+    dst[..n].copy_from_slice(&src[..n]);
     n
 }
 
@@ -42,7 +24,7 @@ pub fn place(dst: &mut [u8], to: usize, src: &[u8]) -> usize
     if dst.len() - to < src.len() {
         return NOWHERE;
     }
-    copy_all(&mut dst[to..], src);
+    dst[to..to + src.len()].copy_from_slice(src);
     to + src.len()
 }
 
@@ -51,11 +33,9 @@ fn store_be(dst: &mut [u8], to: usize, n: usize, v: u64)
     ensures { dst.new ≡ put dst.old to (be_bytes n v) }
 {
     let mut x = v;
-    let mut i = n;
-    while 0 < i {
-        i -= 1;
+    for i in (0..n).rev() {
         dst[to + i] = (x % 256) as u8;
-        x = x / 256;
+        x /= 256;
     }
 }
 

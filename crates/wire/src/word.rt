@@ -6,5 +6,5 @@ ghost use Rattle.wire.specs.Bytes.{flag_word};
 pub fn flag(b: bool) -> u64
     ensures { result ≡ flag_word b }
 {
-    if b { 1 } else { 0 }
+    u64::from(b)
 }

@@ -1,5 +1,7 @@
 -- Laws of the definitions in specs/: what the writers leave where the output has room.
 use Rattle.std.proofs.Common.{◌≡◌, ℕ, ◌≤◌, min, Bool, true, false, ltb, List, [], length, take, ℤ, sym, ap, ◌∙◌, arith, take_all, ltb-false, ltb-true, le-ltb}
+use Rattle.std.specs.Prelude.{Result, Err, IsErrAnd}
+use Rattle.std.proofs.lemmas.Result.{err_from_is_err_and}
 use lib.Seq.{take-length}
 use Rattle.wire.proofs.Laws.{by_test}
 use Rattle.wire.specs.Bytes.{pick, put}
@@ -7,6 +9,10 @@ use Rattle.error.specs.Writer.{writing}
 use Rattle.progress.specs.Progress.{cell_signal}
 use Rattle.frontend.specs.Frontend.{status_body, status_update, copy_done_message, copy_data}
 use Rattle.frontend.proofs.Laws.{length_framed, length_status}
+use Rattle.error.specs.Refusal.{number_of}
+use Rattle.error.specs.declared.Refusal.{Refusal}
+use Rattle.worker.specs.declared.DataEvent.{DataEvent}
+use Rattle.worker.specs.Events.{Given, refused, given_by}
 use Rattle.worker.specs.Step.{Outcome, Lent, having, interval_passed, is_readable, waiting_read, waiting_of}
 use Rattle.worker.specs.declared.Run.{Run}
 use Rattle.worker.specs.Run.{cell_in}
@@ -45,6 +51,10 @@ pub waiting_reads : (r : Run) (i : Input) (l : Lent) → i.stop ≡ false → pi
     → pick r.pending false (cell_signal (cell_in r)) ≡ false → is_readable i l ≡ true → waiting_of r i l ≡ waiting_read r i l
 unfolding waiting_of
 waiting_reads r i l p q s t = fourth _ _ _ _ _ _ _ _ _ p q s t
+
+-- a refusal that is handed on gives what it gave
+pub handed_on : {x : Given} (r : Result DataEvent Refusal) (e : Refusal) → IsErrAnd r (λ y. y ≡ e) → refused (number_of e) ≡ x → given_by r ≡ x
+handed_on r e h p = let q = err_from_is_err_and r h in ap given_by (q.1 ∙ ap Err q.2) ∙ p
 
 -- ---- parts of a payload
 

@@ -1,34 +1,26 @@
 -- What the answers of the code say: a refusal by its number, an enum by the values of its cases. SCOPE 1.4, 5.5.
-use Rattle.std.specs.Prelude.{ℕ, List}
+use Rattle.std.specs.Prelude.{ℕ, List, Result, Ok, Err}
 use Rattle.std.proofs.Math.Option.{Option, some, none}
+use Rattle.wire.specs.Answer.{maybe}
 use Rattle.wire.specs.Bytes.{pick}
 use Rattle.error.specs.Refusal.{number_of}
+use Rattle.error.specs.declared.Refusal.{Refusal}
 use Rattle.error.specs.Writer.{outcome}
 use Rattle.progress.specs.Files.{file_verdict}
 use Rattle.frames.specs.Tag.{is_error}
 use Rattle.worker.specs.declared.Run.{Run}
-use Rattle.worker.specs.declared.Verdict.{Verdict}
-use Rattle.worker.specs.declared.Verdict.TheVariants.{Accepted, Refused}
-use Rattle.worker.specs.declared.Waited.{Waited}
-use Rattle.worker.specs.declared.Waited.TheVariants.{Untold, Nanos}
 use Rattle.worker.specs.declared.Stepped.{Stepped}
 use Rattle.worker.specs.declared.Opened.{Opened}
 use Rattle.worker.specs.declared.AlreadyOpen.{AlreadyOpen}
 use Rattle.worker.specs.declared.Reporting.{Reporting}
-use Rattle.worker.specs.declared.ErrorPart.{ErrorPart}
-use Rattle.worker.specs.declared.ErrorPart.TheVariants.{Absent, Front}
 use Rattle.worker.specs.Events as E
 use Rattle.worker.specs.Session as O
 use Rattle.worker.specs.Step.{Outcome, Lent, is_ended}
 
 -- the refusal's number, 0 for none
-abbrev pub verdict_number : Verdict → ℕ
-verdict_number Accepted = 0
-verdict_number (Refused r) = number_of r
-
-abbrev pub waited_option : Waited → Option ℕ
-waited_option Untold = none
-waited_option (Nanos n) = some n
+abbrev pub verdict_number : Result (Unit {0}) Refusal → ℕ
+verdict_number (Ok tt) = 0
+verdict_number (Err r) = number_of r
 
 -- what a step is lent: unread bytes, payload buffer, output
 abbrev pub lent : List ℕ → List ℕ → List ℕ → Lent
@@ -43,7 +35,7 @@ outcome_by s p o =
       taken = s.taken;
       event = E.said_by s.event;
       written = s.written;
-      waited = waited_option s.waited;
+      waited = maybe s.waited;
       payload = p;
       out = o;
     }
@@ -58,11 +50,6 @@ already_open_by a = (verdict_number a.verdict, a.run)
 abbrev pub reporting_by : Reporting → ℕ × Run
 reporting_by a = (file_verdict a.verdict, a.run)
 
--- the length of the error's payload at the payload buffer's front, or none where no error ended the run
-abbrev pub error_part : ErrorPart → Option ℕ
-error_part Absent = none
-error_part (Front n) = some n
-
--- the ErrorResponse that ended a run with 19. SCOPE 5.8; 01, "Where each call turns back"
+-- the ErrorResponse that ended a run with 19: the length of its payload at the payload buffer's front. SCOPE 5.8; 01, "Where each call turns back"
 abbrev pub error_part_of : Run → Option ℕ
 error_part_of r = pick (is_ended r.state) (pick (is_error r.whole.tag) (some r.whole.len) none) none

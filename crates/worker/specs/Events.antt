@@ -1,10 +1,10 @@
 -- Events: kind and values of each, and what the data of an XLogData give. SCOPE 5.6; 01, "Events and confirmations".
-use Rattle.std.specs.Prelude.{ℕ, ◌+◌, Bool, ℤ}
+use Rattle.std.specs.Prelude.{ℕ, ◌+◌, Bool, ℤ, Result, Ok, Err}
 use Rattle.error.specs.Refusal.{number_of}
+use Rattle.error.specs.declared.Refusal.{Refusal}
 use Rattle.lsn.specs.declared.Lsn.{Lsn}
 use Rattle.pgoutput.specs.Boundary as B
 use Rattle.worker.specs.declared.DataEvent.{DataEvent}
-use Rattle.worker.specs.declared.DataEvent.TheVariants.{Offered, Refused}
 use Rattle.worker.specs.declared.Event.{Event}
 use Rattle.worker.specs.declared.Event.TheVariants.{Nothing, KeepAlive, Begin, Commit, Message, XLogData, StoppedAt}
 use Rattle.worker.specs.Run.{lsn}
@@ -38,9 +38,9 @@ pub data Given : Type 0 where
   refused : ℕ → Given
 
 -- what an answer of the code says
-abbrev pub given_by : DataEvent → Given
-given_by (Offered e reached) = given e reached
-given_by (Refused r) = refused (number_of r)
+abbrev pub given_by : Result DataEvent Refusal → Given
+given_by (Ok d) = given d.event d.reached
+given_by (Err r) = refused (number_of r)
 
 -- by the boundary in the data, with start, end and time of their XLogData, the place at which they begin in the payload buffer and their length:
 -- Begin reaches its final position, Commit its end, Message and other data the server's end. SCOPE 6.12; 01, "Stop position"

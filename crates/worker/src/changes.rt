@@ -1,4 +1,4 @@
-// Single changes of a run. A field that is or holds an enum, the state and the offer, is not stored to: the run is built anew.
+// Single changes of a run.
 ghost use Rattle.std.specs.Prelude.{◌≡◌};
 ghost use Rattle.worker.specs.Run.{cell_in, whole_of, offer, with_state, with_reader, with_progress, with_cell, with_drained, with_pending, with_whole, with_offer, with_metrics, with_server, accepted, wait_begun, stall_begun};
 
@@ -10,46 +10,18 @@ use moment::Moment;
 use progress::ProgressCell;
 use progress::files::Progress;
 
-// The run with this state and this offer.
-fn rebuilt(state: State, offer: Offer, run: Run) -> Run
-    ensures { result ≡ with_state state (with_offer offer run) }
-{
-    let settings = run.settings;
-    let reader = run.reader;
-    let clock = run.clock;
-    let progress = run.progress;
-    let status = run.status;
-    let whole = run.whole;
-    let metrics = run.metrics;
-    let server = run.server;
-    Run {
-        settings,
-        state,
-        reader,
-        clock,
-        progress,
-        status,
-        drained: run.drained,
-        pending: run.pending,
-        whole,
-        offer,
-        metrics,
-        server,
-    }
-}
-
-pub(crate) fn with_state(state: State, run: Run) -> Run
+pub(crate) fn with_state(state: State, mut run: Run) -> Run
     ensures { result ≡ with_state state run }
 {
-    let offer = run.offer;
-    rebuilt(state, offer, run)
+    run.state = state;
+    run
 }
 
-pub(crate) fn with_offer(offer: Offer, run: Run) -> Run
+pub(crate) fn with_offer(offer: Offer, mut run: Run) -> Run
     ensures { result ≡ with_offer offer run }
 {
-    let state = run.state;
-    rebuilt(state, offer, run)
+    run.offer = offer;
+    run
 }
 
 pub(crate) fn with_reader(reader: MessageReader, mut run: Run) -> Run
@@ -124,29 +96,21 @@ pub(crate) fn with_whole(tag: u8, len: usize, in_wait: bool, mut run: Run) -> Ru
 pub(crate) fn accepted(moment: Moment, mut run: Run) -> Run
     ensures { result ≡ accepted moment run }
 {
-    let mut clock = run.clock;
-    clock.last = moment;
-    run.clock = clock;
+    run.clock.last = moment;
     run
 }
 
 pub(crate) fn wait_begun(mut run: Run) -> Run
     ensures { result ≡ wait_begun run }
 {
-    let mut clock = run.clock;
-    let last = clock.last;
-    clock.wait_began = last;
-    run.clock = clock;
+    run.clock.wait_began = run.clock.last;
     run
 }
 
 pub(crate) fn stall_begun(mut run: Run) -> Run
     ensures { result ≡ stall_begun run }
 {
-    let mut clock = run.clock;
-    let last = clock.last;
-    clock.stall_began = last;
-    run.clock = clock;
+    run.clock.stall_began = run.clock.last;
     run
 }
 

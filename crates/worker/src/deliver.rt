@@ -1,11 +1,12 @@
 // Offering: an event is handed on, dropped, or stalls; and where the run goes when none is left.
 ghost use Rattle.std.specs.Prelude.{◌≡◌, ℕ, ◌≤◌, List, length};
 ghost use Rattle.worker.specs.Answer.{lent, outcome_by};
-ghost use Rattle.worker.specs.Step.{Lent, back, offers, reaches, offers_at, is_stopped_at, after_event, next_event, hands_on, stall_ended, stalls, stalled_by, stalled_of, offering_of};
+ghost use Rattle.worker.specs.Step.{Lent, back, offers, offers_at, is_stopped_at, after_event, next_event, hands_on, stall_ended, stalls, stalled_by, stalled_of, offering_of};
 ghost use Rattle.worker.specs.declared.Queue.{Queue};
 
 use crate::changes::{offer, stall_begun, with_metrics, with_offer, with_server, with_state};
 use crate::ends::{done, handing, moved};
+use crate::session::reaches;
 use crate::status::{interval_passed, send_feedback};
 use crate::{Event, Input, Queue, Run, State, Stepped};
 use lsn::Lsn;
@@ -30,15 +31,6 @@ pub(crate) fn offers(event: Event, stops: bool, reached: Lsn, run: Run) -> Run
     with_state(State::Offering, with_server(told, with_offer(first, run)))
 }
 
-fn reaches(run: Run, position: Lsn) -> bool
-    ensures { result ≡ reaches run position }
-{
-    if run.settings.has_stop {
-        return !position.is_below(run.settings.stop_at_lsn);
-    }
-    false
-}
-
 // An event that reaches a position.
 pub(crate) fn offers_at(event: Event, position: Lsn, run: Run) -> Stepped
     ensures { (l : Lent) → outcome_by result l.payload l.out ≡ offers_at event position run l }
@@ -49,15 +41,7 @@ pub(crate) fn offers_at(event: Event, position: Lsn, run: Run) -> Stepped
 fn is_stopped_at(event: Event) -> bool
     ensures { result ≡ is_stopped_at event }
 {
-    match event {
-        Event::Nothing => false,
-        Event::KeepAlive { .. } => false,
-        Event::Begin { .. } => false,
-        Event::Commit { .. } => false,
-        Event::Message { .. } => false,
-        Event::XLogData { .. } => false,
-        Event::StoppedAt { .. } => true,
-    }
+    matches!(event, Event::StoppedAt { .. })
 }
 
 // After an event that reached the stop position StoppedAt is offered; after any other the run goes back.

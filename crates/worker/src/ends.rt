@@ -5,7 +5,7 @@ ghost use Rattle.worker.specs.Answer.{lent, outcome_by};
 ghost use Rattle.worker.specs.Step.{Lent, handing, moved, refused_with, ended_with, done_with, having};
 
 use crate::changes::with_state;
-use crate::{Event, Run, State, Stepped, Verdict, Waited};
+use crate::{Event, Run, State, Stepped};
 use error::Refusal;
 
 // An event is handed on; besides it only the run changes.
@@ -14,11 +14,11 @@ pub(crate) fn handing(event: Event, run: Run) -> Stepped
 {
     Stepped {
         run,
-        verdict: Verdict::Accepted,
+        verdict: Ok(()),
         taken: 0,
         event,
         written: 0,
-        waited: Waited::Untold,
+        waited: None,
     }
 }
 
@@ -33,11 +33,11 @@ pub(crate) fn refused(refusal: Refusal, run: Run) -> Stepped
 {
     Stepped {
         run,
-        verdict: Verdict::Refused(refusal),
+        verdict: Err(refusal),
         taken: 0,
         event: Event::Nothing,
         written: 0,
-        waited: Waited::Untold,
+        waited: None,
     }
 }
 
@@ -52,15 +52,16 @@ pub(crate) fn done(event: Event, run: Run, out: &mut [u8]) -> Stepped
     requires { 39 ≤ length out.old }
     ensures { (u p : List ℕ) → outcome_by result p out.new ≡ done_with event run (lent u p out.old) }
 {
-    frontend::write_copy_done(out);
+    // It fits, since the output has at least 39 bytes.
+    let _ = frontend::write_copy_done(out);
     let ended = with_state(State::Ended, run);
     Stepped {
         run: ended,
-        verdict: Verdict::Accepted,
+        verdict: Ok(()),
         taken: 0,
         event,
         written: 5,
-        waited: Waited::Untold,
+        waited: None,
     }
 }
 

@@ -1,5 +1,5 @@
 // Handling: the run offers the event that a whole message gives.
-ghost use Rattle.std.specs.Prelude.{◌≡◌, ℕ, ◌≤◌, List, length, take};
+ghost use Rattle.std.specs.Prelude.{◌≡◌, ℕ, ◌≤◌, List, length, take, Ok};
 ghost use Rattle.pgoutput.specs.Boundary.{boundary_of};
 ghost use Rattle.pgoutput.specs.Boundary as B;
 ghost use Rattle.replication.specs.CopyData.{copy_data_of, said_by};
@@ -22,7 +22,6 @@ use framing::tag::{is_copy_data, is_error};
 use lsn::Lsn;
 use pgoutput::Boundary;
 use replication::CopyData;
-use wire::store::least;
 
 fn with_wal_end(wal_end: Lsn, run: Run) -> Run
     ensures { result ≡ with_metrics (with_end run.metrics wal_end) run }
@@ -66,43 +65,49 @@ fn keep_alive(
 }
 
 // The boundary in the first `len` of these bytes, or in all of them where there are fewer.
-fn boundary_in(rest: &[u8], len: usize) -> Boundary
+fn boundary_in(rest: &[u8], len: usize) -> Result<Option<Boundary>, Refusal>
     ensures { B.said_by result ≡ boundary_of (take len rest.now) }
 {
-    let n = least(len, rest.len());
+    let n = len.min(rest.len());
     pgoutput::parse_pgoutput_boundary(&rest[..n])
 }
 
 // The boundary in the data that begin at a place of the payload.
-fn boundary_at(payload: &[u8], from: usize, len: usize) -> Boundary
+fn boundary_at(payload: &[u8], from: usize, len: usize) -> Result<Option<Boundary>, Refusal>
     ensures { B.said_by result ≡ boundary_of (at payload.now from len) }
 {
     if payload.len() < from {
-        return Boundary::NotBoundary;
+        return Ok(None);
     }
     boundary_in(&payload[from..], len)
 }
 
 fn begin(final_lsn: Lsn, commit_time: i64, xid: u32) -> DataEvent
-    ensures { given_by result ≡ given (Event.Begin final_lsn commit_time xid) final_lsn }
+    ensures { given_by (Ok result) ≡ given (Event.Begin final_lsn commit_time xid) final_lsn }
 {
     let event = Event::Begin {
         final_lsn,
         commit_time,
         xid,
     };
-    DataEvent::Offered(event, final_lsn)
+    DataEvent {
+        event,
+        reached: final_lsn,
+    }
 }
 
 fn commit(lsn: Lsn, end_lsn: Lsn, commit_time: i64) -> DataEvent
-    ensures { given_by result ≡ given (Event.Commit lsn end_lsn commit_time) end_lsn }
+    ensures { given_by (Ok result) ≡ given (Event.Commit lsn end_lsn commit_time) end_lsn }
 {
     let event = Event::Commit {
         lsn,
         end_lsn,
         commit_time,
     };
-    DataEvent::Offered(event, end_lsn)
+    DataEvent {
+        event,
+        reached: end_lsn,
+    }
 }
 
 fn message(
@@ -114,7 +119,7 @@ fn message(
     content_len: usize,
     end: Lsn,
 ) -> DataEvent
-    ensures { given_by result ≡ given (Event.Message transactional lsn prefix prefix_len content content_len) end }
+    ensures { given_by (Ok result) ≡ given (Event.Message transactional lsn prefix prefix_len content content_len) end }
 {
     let event = Event::Message {
         transactional,
@@ -124,11 +129,14 @@ fn message(
         content_from: content,
         content_len,
     };
-    DataEvent::Offered(event, end)
+    DataEvent {
+        event,
+        reached: end,
+    }
 }
 
 fn other(start: Lsn, end: Lsn, server_time: i64, from: usize, len: usize) -> DataEvent
-    ensures { given_by result ≡ given (Event.XLogData start end server_time from len) end }
+    ensures { given_by (Ok result) ≡ given (Event.XLogData start end server_time from len) end }
 {
     let event = Event::XLogData {
         wal_start: start,
@@ -137,7 +145,10 @@ fn other(start: Lsn, end: Lsn, server_time: i64, from: usize, len: usize) -> Dat
         from,
         len,
     };
-    DataEvent::Offered(event, end)
+    DataEvent {
+        event,
+        reached: end,
+    }
 }
 
 // The event of an XLogData whose data begin at a place of the payload, with the position that it reaches; or why the data are refused.
@@ -149,20 +160,23 @@ pub fn event_at(
     start: Lsn,
     end: Lsn,
     server_time: i64,
-) -> DataEvent
+) -> Result<DataEvent, Refusal>
     ensures { given_by result ≡ data_gives (boundary_of (at payload.now from len)) start.0 end.0 server_time from len }
 {
-    match boundary_at(payload, from, len) {
+    let Some(boundary) = boundary_at(payload, from, len)? else {
+        return Ok(other(start, end, server_time, from, len));
+    };
+    match boundary {
         Boundary::Begin {
             final_lsn,
             commit_time,
             xid,
-        } => begin(final_lsn, commit_time, xid),
+        } => Ok(begin(final_lsn, commit_time, xid)),
         Boundary::Commit {
             lsn,
             end_lsn,
             commit_time,
-        } => commit(lsn, end_lsn, commit_time),
+        } => Ok(commit(lsn, end_lsn, commit_time)),
         Boundary::Message {
             transactional,
             lsn,
@@ -173,7 +187,7 @@ pub fn event_at(
         } => {
             let prefix = from + prefix_from;
             let content = from + content_from;
-            message(
+            Ok(message(
                 transactional,
                 lsn,
                 prefix,
@@ -181,10 +195,8 @@ pub fn event_at(
                 content,
                 content_len,
                 end,
-            )
+            ))
         }
-        Boundary::NotBoundary => other(start, end, server_time, from, len),
-        Boundary::Refused(refusal) => DataEvent::Refused(refusal),
     }
 }
 
@@ -202,44 +214,54 @@ fn xlog_data(
         (lent u payload.now o) }
 {
     match event_at(payload, from, len, start, end, server_time) {
-        DataEvent::Offered(event, reached) => offers_at(event, reached, run),
-        DataEvent::Refused(refusal) => ended(refusal, run),
+        Ok(data) => offers_at(data.event, data.reached, run),
+        Err(refusal) => ended(refusal, run),
     }
 }
 
 // What the first `len` bytes of the payload say, or all of them where there are fewer.
-fn copy_data_in(payload: &[u8], len: usize) -> CopyData
+fn copy_data_in(payload: &[u8], len: usize) -> Result<CopyData, Refusal>
     ensures { said_by result ≡ copy_data_of (take len payload.now) }
 {
-    let n = least(len, payload.len());
+    let n = len.min(payload.len());
     replication::parse_copy_data(&payload[..n])
 }
 
-fn copy_data(said: CopyData, run: Run, input: Input, payload: &[u8], out: &mut [u8]) -> Stepped
+fn copy_data(
+    said: Result<CopyData, Refusal>,
+    run: Run,
+    input: Input,
+    payload: &[u8],
+    out: &mut [u8],
+) -> Stepped
     requires { 39 ≤ length out.old }
     ensures { (u : List ℕ) → outcome_by result payload.now out.new
         ≡ copy_data_by (said_by said) run input (lent u payload.now out.old) }
 {
     match said {
-        CopyData::KeepAlive {
-            wal_end,
-            server_time,
-            reply,
-        } => {
+        Ok(
+            CopyData::KeepAlive {
+                wal_end,
+                server_time,
+                reply,
+            },
+        ) => {
             let next = with_wal_end(wal_end, run);
             keep_alive(wal_end, server_time, reply, next, input, out)
         }
-        CopyData::XLogData {
-            wal_start,
-            wal_end,
-            server_time,
-            from,
-            len,
-        } => {
+        Ok(
+            CopyData::XLogData {
+                wal_start,
+                wal_end,
+                server_time,
+                from,
+                len,
+            },
+        ) => {
             let next = with_wal_end(wal_end, run);
             xlog_data(wal_start, wal_end, server_time, from, len, next, payload)
         }
-        CopyData::Refused(refusal) => ended(refusal, run),
+        Err(refusal) => ended(refusal, run),
     }
 }
 

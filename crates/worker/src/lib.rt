@@ -11,12 +11,12 @@ mod status;
 pub mod steps;
 mod wait;
 
-use error::{Refusal, Written};
+use error::Refusal;
 use framing::MessageReader;
 use lsn::Lsn;
 use metrics::Metrics;
 use moment::Moment;
-use progress::files::{FileVerdict, Progress};
+use progress::files::{FileRefusal, Progress};
 
 // The settings of a run; intervals in nanoseconds.
 #[derive(Clone, Copy)]
@@ -89,11 +89,11 @@ pub enum Event {
     },
 }
 
-// What the data of an XLogData give: an event and the position that it reaches, or why they are refused.
+// What the data of an XLogData give: an event, and the position that it reaches.
 #[derive(Clone, Copy)]
-pub enum DataEvent {
-    Offered(Event, Lsn),
-    Refused(Refusal),
+pub struct DataEvent {
+    pub event: Event,
+    pub reached: Lsn,
 }
 
 // What a step is given beside the lent bytes.
@@ -156,54 +156,34 @@ pub struct Run {
     pub server: Lsn,
 }
 
-// Whether a call was accepted, or why it was not.
-#[derive(Clone, Copy)]
-pub enum Verdict {
-    Accepted,
-    Refused(Refusal),
-}
-
-// How long a confirmed position had waited, in nanoseconds, where that is told.
-#[derive(Clone, Copy)]
-pub enum Waited {
-    Untold,
-    Nanos(u64),
-}
-
 // What a step answers.
 #[derive(Clone, Copy)]
 pub struct Stepped {
     pub run: Run,
-    pub verdict: Verdict,
+    pub verdict: Result<(), Refusal>,
     pub taken: usize,
     pub event: Event,
     pub written: usize,
-    pub waited: Waited,
+    // How long a confirmed position had waited, in nanoseconds, where that is told.
+    pub waited: Option<u64>,
 }
 
 // What opening answers; the run counts only where the query was written.
 #[derive(Clone, Copy)]
 pub struct Opened {
     pub run: Run,
-    pub written: Written,
+    pub written: Result<usize, Refusal>,
 }
 
 #[derive(Clone, Copy)]
 pub struct AlreadyOpen {
     pub run: Run,
-    pub verdict: Verdict,
+    pub verdict: Result<(), Refusal>,
 }
 
 // What a report answers; a refused one leaves the run as it was.
 #[derive(Clone, Copy)]
 pub struct Reporting {
     pub run: Run,
-    pub verdict: FileVerdict,
-}
-
-// The ErrorResponse that ended a run with 19: its payload's length at the payload buffer's front.
-#[derive(Clone, Copy)]
-pub enum ErrorPart {
-    Absent,
-    Front(usize),
+    pub verdict: Result<(), FileRefusal>,
 }

@@ -10,7 +10,7 @@ use crate::changes::{with_drained, with_reader, with_state, with_whole};
 use crate::ends::{ended, having, moved};
 use crate::{Input, Run, State, Stepped};
 use error::Refusal;
-use framing::Answer;
+use framing::Whole;
 use framing::tag::{is_copy_both_response, is_error};
 
 // `W` begins the stream, `E` ends the run with its message kept for `error_part`, all else is skipped.
@@ -26,13 +26,13 @@ fn opening_whole(tag: u8, n: usize, run: Run) -> Stepped
     moved(run)
 }
 
-fn opening_by(answer: Answer, run: Run) -> Stepped
+fn opening_by(answer: Result<Option<Whole>, Refusal>, run: Run) -> Stepped
     ensures { (l : Lent) → outcome_by result l.payload l.out ≡ opening_by (said_by answer) run l }
 {
     match answer {
-        Answer::More => moved(run),
-        Answer::Whole(tag, n) => opening_whole(tag, n, run),
-        Answer::Refused(refusal) => ended(refusal, run),
+        Ok(None) => moved(run),
+        Ok(Some(whole)) => opening_whole(whole.tag, whole.len, run),
+        Err(refusal) => ended(refusal, run),
     }
 }
 
@@ -62,13 +62,13 @@ pub(crate) fn to_handle(tag: u8, n: usize, in_wait: bool, run: Run) -> Stepped
     moved(with_state(State::Handling, with_whole(tag, n, in_wait, run)))
 }
 
-fn reading_by(answer: Answer, run: Run) -> Stepped
+fn reading_by(answer: Result<Option<Whole>, Refusal>, run: Run) -> Stepped
     ensures { (l : Lent) → outcome_by result l.payload l.out ≡ reading_by (said_by answer) run l }
 {
     match answer {
-        Answer::More => moved(run),
-        Answer::Whole(tag, n) => to_handle(tag, n, false, drained(run)),
-        Answer::Refused(refusal) => ended(refusal, run),
+        Ok(None) => moved(run),
+        Ok(Some(whole)) => to_handle(whole.tag, whole.len, false, drained(run)),
+        Err(refusal) => ended(refusal, run),
     }
 }
 

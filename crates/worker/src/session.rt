@@ -1,17 +1,18 @@
 // Opening a run, a run that is already open, reports of files between steps, and views.
 ghost use Rattle.std.specs.Prelude.{◌≡◌};
+ghost use Rattle.wire.specs.Answer.{maybe};
 ghost use Rattle.progress.specs.Progress.{cell_position};
-ghost use Rattle.worker.specs.Answer.{opened_by, already_open_by, reporting_by, error_part, error_part_of};
+ghost use Rattle.worker.specs.Answer.{opened_by, already_open_by, reporting_by, error_part_of};
 ghost use Rattle.worker.specs.Session.{bad_interval, open_of, already_open_of, report_of};
 ghost use Rattle.worker.specs.Run.{cell_in, fresh_run};
+ghost use Rattle.worker.specs.Step.{reaches};
 
 use crate::changes::{offer, with_progress};
 use crate::steps::is_ended;
 use crate::{
-    AlreadyOpen, Clock, ErrorPart, Event, LastStatus, Opened, Reporting, Run, Settings, State,
-    Verdict, Whole,
+    AlreadyOpen, Clock, Event, LastStatus, Opened, Reporting, Run, Settings, State, Whole,
 };
-use error::{Refusal, Written};
+use error::Refusal;
 use framing::MessageReader;
 use framing::tag::is_error;
 use lsn::Lsn;
@@ -87,7 +88,7 @@ pub fn open(
     if bad_interval(settings) {
         return Opened {
             run,
-            written: Written::Refused(Refusal::IntervalTooLong),
+            written: Err(Refusal::IntervalTooLong),
         };
     }
     let written = start_replication(settings.binary, slot, publications, position, out);
@@ -102,12 +103,12 @@ pub fn already_open(settings: Settings, start: Lsn) -> AlreadyOpen
     if bad_interval(settings) {
         return AlreadyOpen {
             run,
-            verdict: Verdict::Refused(Refusal::IntervalTooLong),
+            verdict: Err(Refusal::IntervalTooLong),
         };
     }
     AlreadyOpen {
         run,
-        verdict: Verdict::Accepted,
+        verdict: Ok(()),
     }
 }
 
@@ -121,6 +122,16 @@ pub fn report(run: Run, file: u64, position: Lsn, moment: Moment) -> Reporting
     let verdict = filed.verdict;
     let next = with_progress(after, run);
     Reporting { run: next, verdict }
+}
+
+// Whether a position is at or above the stop position.
+pub fn reaches(run: Run, position: Lsn) -> bool
+    ensures { result ≡ reaches run position }
+{
+    if run.settings.has_stop {
+        return !position.is_below(run.settings.stop_at_lsn);
+    }
+    false
 }
 
 pub fn state(run: Run) -> State
@@ -149,16 +160,16 @@ pub fn last_sent(run: Run) -> LastStatus
     run.status
 }
 
-// The error message that ended the run, where one did.
-pub fn error_part(run: Run) -> ErrorPart
-    ensures { error_part result ≡ error_part_of run }
+// The ErrorResponse that ended the run with 19, where one did: its payload's length at the payload buffer's front.
+pub fn error_part(run: Run) -> Option<usize>
+    ensures { maybe result ≡ error_part_of run }
 {
     let state = run.state;
     if is_ended(state) {
         if is_error(run.whole.tag) {
-            return ErrorPart::Front(run.whole.len);
+            return Some(run.whole.len);
         }
-        return ErrorPart::Absent;
+        return None;
     }
-    ErrorPart::Absent
+    None
 }

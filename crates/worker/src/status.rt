@@ -1,14 +1,15 @@
 // When a status is due, and what sending one does to the run.
 ghost use Rattle.std.specs.Prelude.{◌≡◌, ℕ, ◌≤◌, true, List, length};
+ghost use Rattle.wire.specs.Answer.{maybe};
 ghost use Rattle.wire.specs.Bytes.{pick};
 ghost use Rattle.progress.specs.Progress.{cell_position, reported_of};
-ghost use Rattle.worker.specs.Answer.{lent, outcome_by, waited_option};
+ghost use Rattle.worker.specs.Answer.{lent, outcome_by};
 ghost use Rattle.worker.specs.Run.{cell_in, last_status, with_last_status};
 ghost use Rattle.worker.specs.Step.{interval_passed, is_above, takes_pending, waited_by, confirmed, feedback_of, status_due};
 
 use crate::changes::{cell_in, with_cell, with_metrics, with_state};
 use crate::session::position;
-use crate::{Event, Input, LastStatus, Run, State, Stepped, Verdict, Waited};
+use crate::{Event, Input, LastStatus, Run, State, Stepped};
 use progress::ProgressCell;
 
 pub(crate) fn interval_passed(run: Run) -> bool
@@ -51,18 +52,18 @@ fn takes_pending(run: Run) -> bool
 }
 
 // How long the report has waited whose moment is pending.
-fn waited_by(run: Run) -> Waited
-    ensures { waited_option result ≡ waited_by run }
+fn waited_by(run: Run) -> Option<u64>
+    ensures { maybe result ≡ waited_by run }
 {
     if takes_pending(run) {
         let since = run.progress.pending_since;
         if since.0 == 0 {
-            return Waited::Untold;
+            return None;
         }
         let now = run.clock.last;
-        return Waited::Nanos(now.since(since));
+        return Some(now.since(since));
     }
-    Waited::Untold
+    None
 }
 
 // The cell after a status.
@@ -115,12 +116,13 @@ pub(crate) fn send_feedback(
     ensures { (u p : List ℕ) → outcome_by result p out.new ≡ feedback_of reply to run input (lent u p out.old) }
 {
     let applied = position(run);
-    frontend::write_status_update(applied, input.client_time, reply, out);
+    // It fits, since the output has at least 39 bytes.
+    let _ = frontend::write_status_update(applied, input.client_time, reply, out);
     let next = with_state(to, confirmed(run));
     let waited = waited_by(run);
     Stepped {
         run: next,
-        verdict: Verdict::Accepted,
+        verdict: Ok(()),
         taken: 0,
         event: Event::Nothing,
         written: 39,

@@ -17,16 +17,7 @@ use moment::Moment;
 pub(crate) fn is_ended(state: State) -> bool
     ensures { result ≡ is_ended state }
 {
-    match state {
-        State::Opening => false,
-        State::Turn => false,
-        State::Drain => false,
-        State::Reading => false,
-        State::Waiting => false,
-        State::Handling => false,
-        State::Offering => false,
-        State::Ended => true,
-    }
+    matches!(state, State::Ended)
 }
 
 fn bad_moment(run: Run, m: Moment) -> bool

@@ -14,7 +14,8 @@ use crate::ends::{done, ended, having, moved};
 use crate::receive::to_handle;
 use crate::status::{interval_passed, send_feedback};
 use crate::{Event, Input, Run, State, Stepped};
-use framing::Answer;
+use error::Refusal;
+use framing::Whole;
 
 fn pending_due(run: Run) -> bool
     ensures { result ≡ both run.pending (interval_passed run) }
@@ -61,14 +62,19 @@ fn idle(run: Run, input: Input, out: &mut [u8]) -> Stepped
     moved(run)
 }
 
-fn waiting_by(answer: Answer, run: Run, input: Input, out: &mut [u8]) -> Stepped
+fn waiting_by(
+    answer: Result<Option<Whole>, Refusal>,
+    run: Run,
+    input: Input,
+    out: &mut [u8],
+) -> Stepped
     requires { 39 ≤ length out.old }
     ensures { (u p : List ℕ) → outcome_by result p out.new ≡ waiting_by (said_by answer) run input (lent u p out.old) }
 {
     match answer {
-        Answer::More => idle(run, input, out),
-        Answer::Whole(tag, n) => to_handle(tag, n, true, run),
-        Answer::Refused(refusal) => ended(refusal, run),
+        Ok(None) => idle(run, input, out),
+        Ok(Some(whole)) => to_handle(whole.tag, whole.len, true, run),
+        Err(refusal) => ended(refusal, run),
     }
 }
 

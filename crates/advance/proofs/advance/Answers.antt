@@ -14,6 +14,3 @@ returns-then-applies c =
     c.hands_on.ensures _ _
     ∙ at_once_lem a.run a.input a.unread.now a.payload.now a.out.now c.at_hand-message.ensures.0 c.applies.ensures c.if-applies.true
     c.copy.ensures
-
-pub returns : goal.returns
-returns c = c.four_steps.ensures

@@ -14,8 +14,5 @@ returns-in_default c =
 
 pub fill-requires : goal.fill-requires
 fill-requires c =
-    let f = counted_fits _ _ _ c.count.ensures c.in-Fits.is in
+    let f = counted_fits _ _ _ c.count.ensures c.in-Some.is in
     omega arith
-
-pub returns : goal.returns
-returns c = c.fill.ensures

@@ -5,14 +5,8 @@ use Prim.Native.Nat.{◌+◌, ◌≤◌}
 use mathlib.Core.Path.{refl, ap}
 use mathlib.Core.List.{[], ◌∷◌}
 use native.Mathlib.Omega.{arith}
-use lib.ListN.{length, length-set}
+use lib.ListN.{length}
 use Rattle.config.proofs.put_byte.Goals as goal
-
-pub bounds-out-at : goal.bounds-out-at
-bounds-out-at c = omega (arith, ap length (quote c.args.c c.if-c-eq39.true))
-
-pub bounds-out-at-then-c-eq39 : goal.bounds-out-at-then-c-eq39
-bounds-out-at-then-c-eq39 c = simp length-set (omega (arith, ap length (quote c.args.c c.if-c-eq39.true)))
 
 pub returns-then-c-eq39 : goal.returns-then-c-eq39
 returns-then-c-eq39 c =
@@ -20,9 +14,6 @@ returns-then-c-eq39 c =
     let q = quote a.c c.if-c-eq39.true in
     let h : a.at + 2 ≤ length a.out.now = omega (arith, ap length q) in
     rw q (placed_at a.out.now a.at 2 (a.c ∷ a.c ∷ []) _ refl h (put_two a.out.now a.at a.c a.c (omega arith)))
-
-pub bounds-out-at-2 : goal.bounds-out-at-2
-bounds-out-at-2 c = omega (arith, ap length (plain c.args.c c.if-c-eq39.false))
 
 pub returns : goal.returns
 returns c =

@@ -14,9 +14,6 @@ returns-then-i-eq0 c =
     let h : c.args.at + 0 ≤ length c.args.out.now = omega (arith, c.requires) in
     rw (comma_first c.args.i c.if-i-eq0.true) (filling_end h (filling_start refl))
 
-pub bounds-out-at : goal.bounds-out-at
-bounds-out-at c = omega (arith, ap length (comma_later c.args.i c.if-i-eq0.false))
-
 pub returns : goal.returns
 returns c =
     let a = c.args in

@@ -13,16 +13,16 @@ returns-in_default c = too_long _ _ _ (counted_over _ _ c.inputs_len.ensures c.i
 
 pub returns-in_default-count : goal.returns-in_default-count
 returns-in_default-count c =
-    let n : total c.args.names.now ≤ input_limit = let f = counted_fits _ _ _ c.inputs_len.ensures c.in-Fits.is in omega arith in
+    let n : total c.args.names.now ≤ input_limit = let f = counted_fits _ _ _ c.inputs_len.ensures c.in-Some.is in omega arith in
     no_room _ _ _ n (counted_over _ _ c.count.ensures c.in_default-count.is)
 
 pub fill-requires : goal.fill-requires
 fill-requires c =
-    let f = counted_fits _ _ _ c.count.ensures c.in-Fits-count.is in
+    let f = counted_fits _ _ _ c.count.ensures c.in-Some-count.is in
     omega arith
 
 pub returns : goal.returns
 returns c =
-    let n : total c.args.names.now ≤ input_limit = let f = counted_fits _ _ _ c.inputs_len.ensures c.in-Fits.is in omega arith in
-    let v : length (option_value c.args.names.now) ≤ length c.args.out.now = let f = counted_fits _ _ _ c.count.ensures c.in-Fits-count.is in omega arith in
+    let n : total c.args.names.now ≤ input_limit = let f = counted_fits _ _ _ c.inputs_len.ensures c.in-Some.is in omega arith in
+    let v : length (option_value c.args.names.now) ≤ length c.args.out.now = let f = counted_fits _ _ _ c.count.ensures c.in-Some-count.is in omega arith in
     wrote_to _ _ _ n v c.fill.ensures

@@ -4,23 +4,20 @@ use Rattle.error.proofs.Laws.{fits, over, total_next, total_end}
 use native.Mathlib.Omega.{arith}
 use Rattle.error.proofs.inputs_len.Goals as goal
 
-pub loop-i-init : goal.loop-i-init
-loop-i-init c = (omega arith, omega arith, omega arith)
-
 pub returns-then-room-sum : goal.returns-then-room-sum
 returns-then-room-sum c =
     let a = c.args in
-    let t = total_next a.names.now c.loop-i.i (omega arith) in
+    let t = total_next a.names.now c.loop-s.s-index c.loop-s-test.true in
     over a.room (total a.names.now) (omega arith)
 
-pub loop-i-preserved : goal.loop-i-preserved
-loop-i-preserved c =
+pub loop-s-preserved : goal.loop-s-preserved
+loop-s-preserved c =
     let a = c.args in
-    let t = total_next a.names.now c.loop-i.i (omega arith) in
-    (omega arith, omega arith, omega arith)
+    let t = total_next a.names.now c.loop-s.s-index c.loop-s-test.true in
+    (omega arith, omega arith)
 
 pub returns : goal.returns
 returns c =
     let a = c.args in
-    let t = total_end a.names.now c.loop-i.i (omega arith) in
-    fits a.room (total a.names.now) c.loop-i.sum (omega arith) (omega arith)
+    let t = total_end a.names.now c.loop-s.s-index (omega arith) in
+    fits a.room (total a.names.now) c.loop-s.sum (omega arith) (omega arith)

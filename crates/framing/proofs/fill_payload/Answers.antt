@@ -1,5 +1,4 @@
 -- What is lacking of the payload, as far as there are unread bytes.
-use native.Mathlib.Nat.{min-le_right}
 use Rattle.wire.proofs.Laws.{lent_tail}
 use Rattle.framing.proofs.Laws.{copied_all, tail_fits, payload_there, payload_more, payload_whole}
 use Prim.Native.Nat.{ℕ, ◌-◌, ◌<◌, min}
@@ -7,7 +6,7 @@ use mathlib.Core.Path.{◌≡◌}
 use mathlib.Core.List.{List, ◌++◌}
 use Rattle.wire.specs.Bytes.{put, copied}
 use native.Mathlib.Omega.{arith}
-use lib.ListN.{length, take, drop, length-take}
+use lib.ListN.{length, take, drop}
 use Rattle.framing.proofs.fill_payload.Goals as goal
 
 -- the bytes taken stand after the filled mark
@@ -21,21 +20,16 @@ stored u p d k n have len r ek en h ec =
 
 pub returns-then-n-have : goal.returns-then-n-have
 returns-then-n-have c =
-    payload_there _ _ _ _ _ _ _ c.least-n.ensures c.behind_header-have.ensures c.tag_of-tag.ensures _ c.new.ensures c.if-n-have.true
-
-pub slice_bounds-copy-end-2 : goal.slice_bounds-copy-end-2
-slice_bounds-copy-end-2 c =
-    let m = min-le_right (c.least-n.result - c.behind_header-have.result) (length c.args.unread.now) in
-    simp length-take (omega arith)
+    payload_there _ _ _ _ _ _ _ c.min-n.ensures c.behind_header-have.ensures c.tag-tag.ensures _ c.new.ensures c.if-n-have.true
 
 pub returns-then-have-k : goal.returns-then-have-k
 returns-then-have-k c =
-    let s = stored _ c.args.payload.now _ _ _ _ _ _ c.least-k.ensures c.least-n.ensures c.if-n-have.false c.copy.ensures in
-    payload_more _ _ _ _ _ _ _ c.least-n.ensures c.behind_header-have.ensures c.tag_of-tag.ensures _ _ c.least-k.ensures s c.if-n-have.false _ _
+    let s = stored _ c.args.payload.now _ _ _ _ _ _ c.min-k.ensures c.min-n.ensures c.if-n-have.false c.copy.ensures in
+    payload_more _ _ _ _ _ _ _ c.min-n.ensures c.behind_header-have.ensures c.tag-tag.ensures _ _ c.min-k.ensures s c.if-n-have.false _ _
     c.lacking.ensures c.at_byte.ensures c.if-have-k.true
 
 pub returns : goal.returns
 returns c =
-    let s = stored _ c.args.payload.now _ _ _ _ _ _ c.least-k.ensures c.least-n.ensures c.if-n-have.false c.copy.ensures in
-    payload_whole _ _ _ _ _ _ _ c.least-n.ensures c.behind_header-have.ensures c.tag_of-tag.ensures _ _ c.least-k.ensures s c.if-n-have.false _
+    let s = stored _ c.args.payload.now _ _ _ _ _ _ c.min-k.ensures c.min-n.ensures c.if-n-have.false c.copy.ensures in
+    payload_whole _ _ _ _ _ _ _ c.min-n.ensures c.behind_header-have.ensures c.tag-tag.ensures _ _ c.min-k.ensures s c.if-n-have.false _
     c.new-2.ensures c.if-have-k.false

@@ -1,12 +1,8 @@
 -- The texts written and those to come, each with its zero byte, are all texts.
 use Rattle.wire.proofs.Pieces.{Filling}
 use Rattle.frontend.specs.Code.{strings}
-use Prim.Native.Nat.{◌≤◌, ◌-◌}
-use lib.ListN.{length, drop}
+use lib.ListN.{drop}
 use Rattle.frontend.proofs.place_strings.Given as goal
 
-abbrev pub invariant-loop-i : goal.invariant-loop-i
-invariant-loop-i l = (l.i ≤ length l.texts) × Filling l.initial.out l.at (strings l.texts) l.out l.to (strings (drop l.i l.texts))
-
-abbrev pub decreases-loop-i : goal.decreases-loop-i
-decreases-loop-i l = length l.texts - l.i
+abbrev pub invariant-loop-text : goal.invariant-loop-text
+invariant-loop-text l = Filling l.initial.out l.at (strings l.texts) l.out l.to (strings (drop l.text-index l.texts))

@@ -16,29 +16,29 @@ returns-in_default c = too_long _ _ _ (counted_over _ _ c.inputs_len.ensures c.i
 
 pub overflow_add-n : goal.overflow_add-n
 overflow_add-n c =
-    let k = counted_fits _ _ _ c.inputs_len.ensures c.in-Fits.is in
+    let k = counted_fits _ _ _ c.inputs_len.ensures c.in-Some.is in
     omega (arith, k.1)
 
 pub overflow_add-n-2 : goal.overflow_add-n-2
 overflow_add-n-2 c =
-    let k = counted_fits _ _ _ c.inputs_len.ensures c.in-Fits.is in
+    let k = counted_fits _ _ _ c.inputs_len.ensures c.in-Some.is in
     omega (arith, k.1)
 
 pub overflow_add-n-3 : goal.overflow_add-n-3
 overflow_add-n-3 c =
-    let k = counted_fits _ _ _ c.inputs_len.ensures c.in-Fits.is in
+    let k = counted_fits _ _ _ c.inputs_len.ensures c.in-Some.is in
     omega (arith, k.1)
 
 pub returns-then-out-n : goal.returns-then-out-n
 returns-then-out-n c =
     let a = c.args in
-    let k = counted_fits _ _ _ c.inputs_len.ensures c.in-Fits.is in
+    let k = counted_fits _ _ _ c.inputs_len.ensures c.in-Some.is in
     no_room _ _ _ (omega arith) (omega (arith, length_startup a.version a.texts.now))
 
 pub place_strings-c-requires : goal.place_strings-c-requires
 place_strings-c-requires c =
     let a = c.args in
-    let k = counted_fits _ _ _ c.inputs_len.ensures c.in-Fits.is in
+    let k = counted_fits _ _ _ c.inputs_len.ensures c.in-Some.is in
     let room : 0 + length (startup a.version a.texts.now) ≤ length a.out.now = omega (arith, length_startup a.version a.texts.now) in
     let f = startup_front a.version a.texts.now a.out.now room (rw (← k.0) at c.write_be-a.ensures)
     (rw (to_z-of_z w32 a.version c.ranges.version) at c.write_i32-b.ensures) in
@@ -47,7 +47,7 @@ place_strings-c-requires c =
 pub returns : goal.returns
 returns c =
     let a = c.args in
-    let k = counted_fits _ _ _ c.inputs_len.ensures c.in-Fits.is in
+    let k = counted_fits _ _ _ c.inputs_len.ensures c.in-Some.is in
     let room : 0 + length (startup a.version a.texts.now) ≤ length a.out.now = omega (arith, length_startup a.version a.texts.now) in
     let f = startup_front a.version a.texts.now a.out.now room (rw (← k.0) at c.write_be-a.ensures)
     (rw (to_z-of_z w32 a.version c.ranges.version) at c.write_i32-b.ensures) in

@@ -7,7 +7,7 @@ use Rattle.hours.proofs.are_windows.Goals as goal
 
 pub loop-day-init : goal.loop-day-init
 unfolding are_windows
-loop-day-init c = (omega arith, refl)
+loop-day-init c = refl
 
 pub returns-then-closes-day : goal.returns-then-closes-day
 returns-then-closes-day c =
@@ -22,10 +22,10 @@ returns-then-closes-day-gt1440 c =
 pub loop-day-preserved : goal.loop-day-preserved
 loop-day-preserved c =
     let l = c.loop-day in
-    (omega arith, windows_next _ _ l.day l.invariant.1 (window_right _ _ c.if-closes-day.false c.if-closes-day-gt1440.false))
+    windows_next _ _ l.day l.invariant (window_right _ _ c.if-closes-day.false c.if-closes-day-gt1440.false)
 
 pub returns : goal.returns
 returns c =
     let l = c.loop-day in
     let e : l.day ≡ 7 = omega arith in
-    sym (rw e at l.invariant.1)
+    sym (rw e at l.invariant)

@@ -1,5 +1,5 @@
 -- What was measured and what is to come is the whole stream.
-use Prim.Native.Nat.{◌<◌}
+use Prim.Native.Nat.{◌+◌, ◌-◌, ◌<◌}
 use mathlib.Core.Path.{◌≡◌, ap}
 use native.Mathlib.Omega.{arith}
 use lib.ListN.{length}
@@ -9,27 +9,25 @@ use Rattle.load.specs.Load.{stream_of}
 use Rattle.load.proofs.Laws.{stream_left, stream_none}
 use Rattle.load.proofs.measure.Goals as goal
 
-pub loop-left-init : goal.loop-left-init
-loop-left-init c = (omega arith, omega arith)
-
 pub returns-then-room-used : goal.returns-then-room-used
 unfolding counted
 returns-then-room-used c =
-    let e = stream_left c.loop-left.left c.loop-left.state (omega arith) in
+    let e = stream_left (c.args.messages - c.loop.counter) c.loop.state (omega arith) in
     let n = rw c.message_from-m.ensures at c.message_len-n.ensures in
     let a = c.args in
-    let over : a.room < length (stream_of a.messages a.seed) = omega (arith, e, n, c.loop-left.invariant.0) in
+    let over : a.room < length (stream_of a.messages a.seed) = omega (arith, e, n, c.loop.invariant.0) in
     simp (lt-leb _ _ over)
 
-pub loop-left-preserved : goal.loop-left-preserved
-loop-left-preserved c =
-    let e = stream_left c.loop-left.left c.loop-left.state (omega arith) in
+pub loop-preserved : goal.loop-preserved
+loop-preserved c =
+    let e = stream_left (c.args.messages - c.loop.counter) c.loop.state (omega arith) in
     let n = rw c.message_from-m.ensures at c.message_len-n.ensures in
-    (rw c.message_from-m.ensures (omega (arith, e, n, c.loop-left.invariant.0)), omega arith)
+    let z : c.args.messages - (c.loop.counter + 1) ≡ c.args.messages - c.loop.counter - 1 = omega arith in
+    (rw (z, c.message_from-m.ensures) (omega (arith, e, n, c.loop.invariant.0)), omega arith)
 
 pub returns : goal.returns
 unfolding counted
 returns c =
-    let none = stream_none c.loop-left.left c.loop-left.state (omega arith) in
-    let all : c.loop-left.used ≡ length (stream_of c.args.messages c.args.seed) = omega (arith, ap length none, c.loop-left.invariant.0) in
-    rw (← all) (simp (le-leb _ _ c.loop-left.invariant.1))
+    let none = stream_none (c.args.messages - c.loop.counter) c.loop.state (omega arith) in
+    let all : c.loop.used ≡ length (stream_of c.args.messages c.args.seed) = omega (arith, ap length none, c.loop.invariant.0) in
+    rw (← all) (simp (le-leb _ _ c.loop.invariant.1))

@@ -16,11 +16,11 @@ returns-in_default c =
 
 pub fill-requires : goal.fill-requires
 fill-requires c =
-    let f = counted_fits _ _ _ c.measure.ensures c.in-Fits.is in
+    let f = counted_fits _ _ _ c.measure.ensures c.in-Some.is in
     omega arith
 
 pub returns : goal.returns
 unfolding loading
 returns c =
-    let f = counted_fits _ _ _ c.measure.ensures c.in-Fits.is in
+    let f = counted_fits _ _ _ c.measure.ensures c.in-Some.is in
     simp (ne_eqb _ _ c.if-seed-eq0.false) (wrote 0 _ _ _ _ (omega arith) f.0 f.1 c.fill.ensures)

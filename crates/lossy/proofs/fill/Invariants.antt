@@ -6,8 +6,8 @@ use lib.ListN.{length, drop}
 use Rattle.lossy.proofs.fill.Given as goal
 
 abbrev pub invariant-loop-i : goal.invariant-loop-i
-invariant-loop-i l =
+invariant-loop-i g l =
     (l.i ≤ length l.text) × Filling l.initial.out l.to (lossy_of l.text) l.out l.at (lossy_of (drop l.i l.text))
 
 abbrev pub decreases-loop-i : goal.decreases-loop-i
-decreases-loop-i l = length l.text - l.i
+decreases-loop-i g l = length l.text - l.i

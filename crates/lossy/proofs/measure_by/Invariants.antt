@@ -8,9 +8,9 @@ use lib.ListN.{length, drop}
 use Rattle.lossy.proofs.measure_by.Given as goal
 
 abbrev pub invariant-loop-i : goal.invariant-loop-i
-invariant-loop-i l =
+invariant-loop-i g l =
     (l.i ≤ length l.text) × (l.bytes + length (lossy_of (drop l.i l.text)) ≡ length (lossy_of l.text)) × (l.bytes ≤ l.room)
     × (l.marks + marks_of (drop l.i l.text) ≡ marks_of l.text) × (l.marks ≤ l.i)
 
 abbrev pub decreases-loop-i : goal.decreases-loop-i
-decreases-loop-i l = length l.text - l.i
+decreases-loop-i g l = length l.text - l.i

@@ -1,4 +1,5 @@
 -- The text is written where the length that was counted fits after the place.
+use Rattle.std.proofs.Common.{rules}
 use Rattle.wire.proofs.Laws.{unplaced, placed_at}
 use Rattle.error.proofs.Laws.{counted_fits, counted_over}
 use native.Mathlib.Omega.{arith}
@@ -13,13 +14,13 @@ returns-in_default c =
     unplaced _ _ _ (omega arith)
 
 pub fill-requires : goal.fill-requires
-fill-requires c = let h = counted_fits _ _ _ c.count.ensures c.in-Fits.is in omega arith
+fill-requires c = let h = counted_fits _ _ _ c.count.ensures c.in-Some.is in (omega arith, search rules)
 
 pub overflow_add-result : goal.overflow_add-result
 overflow_add-result c =
-    omega (arith, (counted_fits _ _ _ c.count.ensures c.in-Fits.is).1)
+    omega (arith, (counted_fits _ _ _ c.count.ensures c.in-Some.is).1)
 
 pub returns : goal.returns
 returns c =
-    let h = counted_fits _ _ _ c.count.ensures c.in-Fits.is in
+    let h = counted_fits _ _ _ c.count.ensures c.in-Some.is in
     placed_at _ _ _ _ _ h.0 (omega arith) c.fill.ensures

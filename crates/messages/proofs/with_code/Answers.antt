@@ -29,5 +29,5 @@ returns c =
     let a = c.args in
     let m = lossy_of a.text.now in
     let k = lossy_of a.code.now in
-    let h = measured_fits _ _ _ _ _ c.measure_coded.ensures c.in-Fits.is in
+    let h = measured_fits _ _ _ c.measure_coded.ensures c.in-Some.is in
     marked 0 _ _ _ (four_pieces _ m k h.0 h.1 c.place-a.ensures c.place-b.ensures c.place-c.ensures c.place.ensures) (sym h.2)

@@ -2,12 +2,10 @@
 use Rattle.text.specs.Ascii.{ascii}
 use Rattle.page.proofs.place_sent.Goals as goal
 
-pub returns-then-sent : goal.returns-then-sent
+pub returns-in-Some : goal.returns-in-Some
 unfolding ascii
-returns-then-sent c =
-    rw c.if-sent.true c.place_position.ensures
+returns-in-Some c = rw c.in-Some.is c.place_position.ensures
 
-pub returns : goal.returns
+pub returns-in-None : goal.returns-in-None
 unfolding ascii
-returns c =
-    rw c.if-sent.false c.place_line.ensures
+returns-in-None c = rw c.in-None.is c.place_line.ensures

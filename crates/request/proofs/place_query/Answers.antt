@@ -8,7 +8,7 @@ use Rattle.config.specs.OptionValue.{option_value}
 use Rattle.frontend.specs.Frontend.{query}
 use Rattle.lsn.specs.Position.{display_of}
 use Rattle.request.specs.Request.{start_replication, slot_part, position_part, names_part}
-use Rattle.request.proofs.Laws.{length_placed, length_request, pieces}
+use Rattle.request.proofs.Laws.{length_request, pieces}
 use Rattle.request.proofs.place_query.Goals as goal
 
 pub overflow_sub-n : goal.overflow_sub-n
@@ -31,6 +31,3 @@ returns c =
     let f₇ = filling_next h names_part f₆ c.place-g.ensures in
     let f₈ = filling_next h (option_value a.publications.now) f₇ c.place-h.ensures in
     filling_last h f₈ c.place_end.ensures
-
-pub shape_of-out : goal.shape_of-out
-shape_of-out c = length_placed _ _ _ (returns c)

@@ -25,7 +25,7 @@ pub returns-in_default-count : goal.returns-in_default-count
 returns-in_default-count c =
     let a = c.args in
     let i : length a.slot.now + total a.publications.now ≤ input_limit =
-    let t = counted_fits _ _ _ c.inputs_len.ensures c.in-Fits.is in omega (arith, c.if-slot-gt-INPUT_LIMIT.false)
+    let t = counted_fits _ _ _ c.inputs_len.ensures c.in-Some.is in omega (arith, c.if-slot-gt-INPUT_LIMIT.false)
     in
     let f = counted_over _ _ c.count.ensures c.in_default-count.is in
     let l = length_request a.binary a.slot.now a.publications.now a.position in
@@ -35,19 +35,19 @@ pub request_len-n-requires : goal.request_len-n-requires
 request_len-n-requires c =
     let a = c.args in
     let i : length a.slot.now + total a.publications.now ≤ input_limit =
-    let t = counted_fits _ _ _ c.inputs_len.ensures c.in-Fits.is in omega (arith, c.if-slot-gt-INPUT_LIMIT.false)
+    let t = counted_fits _ _ _ c.inputs_len.ensures c.in-Some.is in omega (arith, c.if-slot-gt-INPUT_LIMIT.false)
     in
-    let f = counted_fits _ _ _ c.count.ensures c.in-Fits-count.is in
+    let f = counted_fits _ _ _ c.count.ensures c.in-Some-count.is in
     omega (arith, length_position a.position.0, length_end a.binary, i, c.end_len.ensures, c.text_len.ensures, c.well_formed)
 
 pub returns-then-out-n : goal.returns-then-out-n
 returns-then-out-n c =
     let a = c.args in
     let i : length a.slot.now + total a.publications.now ≤ input_limit =
-    let t = counted_fits _ _ _ c.inputs_len.ensures c.in-Fits.is in omega (arith, c.if-slot-gt-INPUT_LIMIT.false)
+    let t = counted_fits _ _ _ c.inputs_len.ensures c.in-Some.is in omega (arith, c.if-slot-gt-INPUT_LIMIT.false)
     in
     let s : length (query (start_replication a.binary a.slot.now a.publications.now a.position)) ≡ c.request_len-n.result =
-    let f = counted_fits _ _ _ c.count.ensures c.in-Fits-count.is in
+    let f = counted_fits _ _ _ c.count.ensures c.in-Some-count.is in
     omega (
       arith,
       length_request a.binary a.slot.now a.publications.now a.position,
@@ -62,7 +62,7 @@ pub place_query-requires : goal.place_query-requires
 place_query-requires c =
     let a = c.args in
     let s : length (query (start_replication a.binary a.slot.now a.publications.now a.position)) ≡ c.request_len-n.result =
-    let f = counted_fits _ _ _ c.count.ensures c.in-Fits-count.is in
+    let f = counted_fits _ _ _ c.count.ensures c.in-Some-count.is in
     omega (
       arith,
       length_request a.binary a.slot.now a.publications.now a.position,
@@ -77,10 +77,10 @@ pub returns : goal.returns
 returns c =
     let a = c.args in
     let i : length a.slot.now + total a.publications.now ≤ input_limit =
-    let t = counted_fits _ _ _ c.inputs_len.ensures c.in-Fits.is in omega (arith, c.if-slot-gt-INPUT_LIMIT.false)
+    let t = counted_fits _ _ _ c.inputs_len.ensures c.in-Some.is in omega (arith, c.if-slot-gt-INPUT_LIMIT.false)
     in
     let s : length (query (start_replication a.binary a.slot.now a.publications.now a.position)) ≡ c.request_len-n.result =
-    let f = counted_fits _ _ _ c.count.ensures c.in-Fits-count.is in
+    let f = counted_fits _ _ _ c.count.ensures c.in-Some-count.is in
     omega (
       arith,
       length_request a.binary a.slot.now a.publications.now a.position,

@@ -9,4 +9,4 @@ returns-then-filled-lt5 c = simp (lt-ltb _ _ c.if-filled-lt5.true)
 
 pub returns : goal.returns
 unfolding is_whole
-returns c = rw c.least.ensures (simp (le-ltb _ _ c.if-filled-lt5.false))
+returns c = rw c.min.ensures (simp (le-ltb _ _ c.if-filled-lt5.false))

@@ -10,7 +10,7 @@ returns-then-reader c = simp c.if-reader.true
 pub returns-then-is_copy_both_response : goal.returns-then-is_copy_both_response
 unfolding opening_next
 returns-then-is_copy_both_response c =
-    rw (← c.tag_of-tag.ensures) (simp (
+    rw (← c.tag-tag.ensures) (simp (
       c.if-reader.false,
       sym c.is_whole.ensures ∙ c.if-is_whole.true,
       sym c.is_copy_both_response.ensures ∙ c.if-is_copy_both_response.true,
@@ -19,7 +19,7 @@ returns-then-is_copy_both_response c =
 pub returns-then-is_error : goal.returns-then-is_error
 unfolding opening_next
 returns-then-is_error c =
-    rw (← c.tag_of-tag.ensures) (simp (
+    rw (← c.tag-tag.ensures) (simp (
       c.if-reader.false,
       sym c.is_whole.ensures ∙ c.if-is_whole.true,
       sym c.is_copy_both_response.ensures ∙ c.if-is_copy_both_response.false,
@@ -29,7 +29,7 @@ returns-then-is_error c =
 pub returns-then-is_whole : goal.returns-then-is_whole
 unfolding opening_next
 returns-then-is_whole c =
-    rw (← c.tag_of-tag.ensures) (simp (
+    rw (← c.tag-tag.ensures) (simp (
       c.if-reader.false,
       sym c.is_whole.ensures ∙ c.if-is_whole.true,
       sym c.is_copy_both_response.ensures ∙ c.if-is_copy_both_response.false,

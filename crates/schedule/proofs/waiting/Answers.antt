@@ -5,7 +5,7 @@ use Rattle.schedule.proofs.waiting.Goals as goal
 pub returns-then-run : goal.returns-then-run
 unfolding waiting_next
 returns-then-run c =
-    rw (c.by_clock.ensures, c.sooner.ensures, c.due-status.ensures, c.due-idle.ensures) (simp c.if-run.true)
+    rw (c.by_clock.ensures, c.min.ensures, c.due-status.ensures, c.due-idle.ensures) (simp c.if-run.true)
 
 pub returns-then-run-2 : goal.returns-then-run-2
 unfolding waiting_next

@@ -5,4 +5,4 @@ pub returns-then-to-from : goal.returns-then-to-from
 returns-then-to-from c = rw (lt-ltb _ _ c.if-to-from.true)
 
 pub returns : goal.returns
-returns c = rw (c.least.ensures, le-ltb _ _ c.if-to-from.false)
+returns c = rw (c.min.ensures, le-ltb _ _ c.if-to-from.false)

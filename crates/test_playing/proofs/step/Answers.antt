@@ -4,5 +4,5 @@ use Rattle.test_playing.proofs.step.Goals as goal
 pub returns : goal.returns
 returns c =
     let p = c.args.p in
-    step_is p _ _ _ _ _ _ _ _ _ c.least-to.ensures c.least-from.ensures c.input.ensures c.step-s.ensures
-    c.least-taken.ensures (told_go c.step-s.result _ _ _ _ _ c.told-go.ensures)
+    step_is p _ _ _ _ _ _ _ _ _ c.min-to.ensures c.min-from.ensures c.input.ensures c.step-s.ensures
+    c.min-taken.ensures (told_go c.step-s.result _ _ _ _ _ c.told-go.ensures)

@@ -3,10 +3,9 @@ use Rattle.wire.proofs.Laws.{unplaced, placed_at}
 use Rattle.text.specs.Numeral.{decimal_text}
 use Rattle.text.proofs.Laws.{numeral_length, signed_digits}
 use Prim.Native.Nat.{◌+◌}
-use mathlib.Core.Path.{sym, ◌∙◌}
+use mathlib.Core.Path.{sym}
 use mathlib.Core.List.{◌∷◌}
 use native.Mathlib.Omega.{arith}
-use lib.ListN.{length-set}
 use Rattle.text.proofs.place_negative.Goals as goal
 
 pub returns-then-out-to : goal.returns-then-out-to
@@ -17,12 +16,6 @@ overflow_add-n c = omega (arith, numeral_length 10 20 c.args.m)
 
 pub returns-then-out-to-2 : goal.returns-then-out-to-2
 returns-then-out-to-2 c = unplaced _ _ _ (omega arith)
-
-pub spell-requires : goal.spell-requires
-spell-requires c = (omega arith, (omega arith, (omega arith, (c.places-n.ensures, simp length-set (omega arith)))))
-
-pub shape_of-out : goal.shape_of-out
-shape_of-out c = c.spell.auto.out ∙ simp length-set
 
 pub returns : goal.returns
 returns c =

@@ -1,18 +1,12 @@
 -- The digits counted and those that are left are those of v, and one.
-use Rattle.text.proofs.Laws.{falls, stays, numeral_one, numeral_longer, numeral_length}
-use mathlib.Core.Path.{refl, ap}
+use Rattle.text.proofs.Laws.{stays, numeral_one, numeral_longer, numeral_length}
+use mathlib.Core.Path.{ap}
 use native.Mathlib.Omega.{arith}
 use lib.ListN.{length}
 use Rattle.text.proofs.places.Goals as goal
 
-pub loop-x-init : goal.loop-x-init
-loop-x-init c = (c.requires.1, refl)
-
 pub overflow_add-n : goal.overflow_add-n
 overflow_add-n c = omega (arith, numeral_length c.args.base 20 c.args.v)
-
-pub loop-x-smaller : goal.loop-x-smaller
-loop-x-smaller c = falls c.args.base c.loop-x.x c.requires.0 c.loop-x-test.true
 
 pub loop-x-preserved : goal.loop-x-preserved
 loop-x-preserved c =

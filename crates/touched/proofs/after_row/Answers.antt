@@ -6,44 +6,23 @@ use native.Mathlib.Omega.{arith}
 use lib.ListN.{get_or}
 use Rattle.touched.proofs.after_row.Goals as goal
 
-pub returns-in-Insert : goal.returns-in-Insert
-returns-in-Insert c =
-    rw (← head_changes _ _ (rw c.in-Insert.is at c.read_row-row.ensures) refl) c.with_relation.ensures
-
-pub returns-in-Update : goal.returns-in-Update
-returns-in-Update c =
-    rw (← head_changes _ _ (rw c.in-Update.is at c.read_row-row.ensures) refl) c.with_relation-in-Update.ensures
-
-pub returns-in-UpdateFrom : goal.returns-in-UpdateFrom
-returns-in-UpdateFrom c =
-    rw (← head_changes _ _ (rw c.in-UpdateFrom.is at c.read_row-row.ensures) refl) c.with_relation-in-UpdateFrom.ensures
-
-pub returns-in-Delete : goal.returns-in-Delete
-returns-in-Delete c =
-    rw (← head_changes _ _ (rw c.in-Delete.is at c.read_row-row.ensures) refl) c.with_relation-in-Delete.ensures
-
-pub returns-in-Truncate : goal.returns-in-Truncate
-returns-in-Truncate c =
+pub returns-in-Ok-Some-Truncate : goal.returns-in-Ok-Some-Truncate
+returns-in-Ok-Some-Truncate c =
     let s = c.args.«data».now in
     let b : (i : ℕ) → get_or s i 0 < 256 = λ i. omega (arith, c.type_inv.«data» i) in
-    rw (← truncate_changes s b _ _ _ (rw c.in-Truncate.is at c.read_row-row.ensures)) c.with_relations.ensures
+    rw (← truncate_changes s b _ _ _ (rw (c.in-Ok-Some-Truncate.field-0-is, c.in-Ok-Some-Truncate.field-0-0-is) at c.in-Ok-Some-Truncate.ensures)) c.with_relations.ensures
 
-pub returns-in-Relation : goal.returns-in-Relation
-returns-in-Relation c =
-    rw (← head_changes _ _ (rw c.in-Relation.is at c.read_row-row.ensures) refl) (sym (with_none _ _))
+pub returns-in-Ok-Some-Relation : goal.returns-in-Ok-Some-Relation
+returns-in-Ok-Some-Relation c = rw (← head_changes _ _ (rw (c.in-Ok-Some-Relation.field-0-is, c.in-Ok-Some-Relation.field-0-0-is) at c.in-Ok-Some-Relation.ensures) refl) (sym (with_none _ _))
 
-pub returns-in-Type : goal.returns-in-Type
-returns-in-Type c =
-    rw (← head_changes _ _ (rw c.in-Type.is at c.read_row-row.ensures) refl) (sym (with_none _ _))
+pub returns-in-Ok-Some-Type : goal.returns-in-Ok-Some-Type
+returns-in-Ok-Some-Type c = rw (← head_changes _ _ (rw (c.in-Ok-Some-Type.field-0-is, c.in-Ok-Some-Type.field-0-0-is) at c.in-Ok-Some-Type.ensures) refl) (sym (with_none _ _))
 
-pub returns-in-Origin : goal.returns-in-Origin
-returns-in-Origin c =
-    rw (← head_changes _ _ (rw c.in-Origin.is at c.read_row-row.ensures) refl) (sym (with_none _ _))
+pub returns-in-Ok-Some-Origin : goal.returns-in-Ok-Some-Origin
+returns-in-Ok-Some-Origin c = rw (← head_changes _ _ (rw (c.in-Ok-Some-Origin.field-0-is, c.in-Ok-Some-Origin.field-0-0-is) at c.in-Ok-Some-Origin.ensures) refl) (sym (with_none _ _))
 
-pub returns-in-NoRow : goal.returns-in-NoRow
-returns-in-NoRow c =
-    rw (← head_changes _ _ (rw c.in-NoRow.is at c.read_row-row.ensures) refl) (sym (with_none _ _))
+pub returns-in-Ok-None : goal.returns-in-Ok-None
+returns-in-Ok-None c = rw (← head_changes _ _ (rw c.in-Ok-None.field-0-is at c.in-Ok-None.ensures) refl) (sym (with_none _ _))
 
-pub returns-in-Refused : goal.returns-in-Refused
-returns-in-Refused c =
-    rw (← head_changes _ _ (rw c.in-Refused.is at c.read_row-row.ensures) refl) (sym (with_none _ _))
+pub returns-in-Err : goal.returns-in-Err
+returns-in-Err c = rw (← head_changes _ _ c.in-Err.ensures refl) (sym (with_none _ _))

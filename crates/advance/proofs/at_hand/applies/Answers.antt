@@ -10,7 +10,7 @@ pub returns-then-has_room : goal.returns-then-has_room
 unfolding applies_of
 returns-then-has_room c =
     rw (
-      c.stops.ensures,
+      c.reaches.ensures,
       ne_eqb _ _ c.if-len-eq0.false,
       ← c.is_free.ensures,
       c.if-is_free.true,

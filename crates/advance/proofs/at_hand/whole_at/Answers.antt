@@ -21,8 +21,8 @@ pub returns-then-is_copy_data : goal.returns-then-is_copy_data
 unfolding whole_at
 returns-then-is_copy_data c =
     let u = c.args.unread.now in
-    let e : some c.in-Value.n ≡ some (be (at u 1 4)) = (rw c.in-Value.is at c.read_u32.ensures) ∙ field_whole 4 u 1 (omega arith) in
-    let v : c.in-Value.n ≡ be (at u 1 4) = cc e in (
+    let e : some c.in-Some.n ≡ some (be (at u 1 4)) = (rw c.in-Some.is at c.read_u32.ensures) ∙ field_whole 4 u 1 (omega arith) in
+    let v : c.in-Some.n ≡ be (at u 1 4) = cc e in (
       c.within.ensures.0 ∙ rw (
         v,
         le-ltb _ _ c.if-unread-lt30.false,

@@ -2,4 +2,4 @@ use mathlib.Core.Path.{◌∙◌}
 use Rattle.ffi_export.proofs.server.rufflesquash_data_row.Goals as goal
 
 pub returns : goal.returns
-returns c = c.data_row_reply-reply.ensures ∙ c.parse_data_row.ensures
+returns c = c.written_reply-reply.ensures ∙ c.parse_data_row.ensures

@@ -6,9 +6,9 @@ pub returns-in-Message : goal.returns-in-Message
 returns-in-Message c =
     rw (
       c.length_in-in-Message.ensures,
-      c.least-in-Message.ensures,
+      c.min-in-Message.ensures,
       c.length_in.ensures,
-      c.least.ensures,
+      c.min.ensures,
       c.in-Message.is,
     )
 
@@ -17,7 +17,7 @@ returns-in-XLogData c =
     let fits = c.in-XLogData.known_told-in-XLogData-1-own.given.1.1.0.1 in
     rw (
       c.length_in-in-XLogData.ensures,
-      c.least-in-XLogData.ensures,
+      c.min-in-XLogData.ensures,
       to_z-of_z w64 c.in-XLogData.server_time (record { sfits = fits }),
       c.in-XLogData.is,
     )

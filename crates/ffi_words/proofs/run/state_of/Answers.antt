@@ -1,45 +1,36 @@
--- A known word computes; the last state comes after all tests.
-use borrow.Author.Tests.{ne_eqb}
+use native.Mathlib.Omega.{arith}
+use Rattle.std.proofs.lemmas.Bool.Decides.{nat_tests}
 use Rattle.ffi_words.specs.Words.{state_of}
 use Rattle.ffi_words.proofs.run.state_of.Goals as goal
 
-pub returns-then-n-eq-STATE_OPENING : goal.returns-then-n-eq-STATE_OPENING
+pub returns-in-0 : goal.returns-in-0
 unfolding state_of
-returns-then-n-eq-STATE_OPENING c = rw c.if-n-eq-STATE_OPENING.true
+returns-in-0 c = rw c.in-0.is
 
-pub returns-then-n-eq-STATE_TURN : goal.returns-then-n-eq-STATE_TURN
+pub returns-in-1 : goal.returns-in-1
 unfolding state_of
-returns-then-n-eq-STATE_TURN c = rw c.if-n-eq-STATE_TURN.true
+returns-in-1 c = rw c.in-1.is
 
-pub returns-then-n-eq-STATE_DRAIN : goal.returns-then-n-eq-STATE_DRAIN
+pub returns-in-2 : goal.returns-in-2
 unfolding state_of
-returns-then-n-eq-STATE_DRAIN c = rw c.if-n-eq-STATE_DRAIN.true
+returns-in-2 c = rw c.in-2.is
 
-pub returns-then-n-eq-STATE_READING : goal.returns-then-n-eq-STATE_READING
+pub returns-in-3 : goal.returns-in-3
 unfolding state_of
-returns-then-n-eq-STATE_READING c = rw c.if-n-eq-STATE_READING.true
+returns-in-3 c = rw c.in-3.is
 
-pub returns-then-n-eq-STATE_WAITING : goal.returns-then-n-eq-STATE_WAITING
+pub returns-in-4 : goal.returns-in-4
 unfolding state_of
-returns-then-n-eq-STATE_WAITING c = rw c.if-n-eq-STATE_WAITING.true
+returns-in-4 c = rw c.in-4.is
 
-pub returns-then-n-eq-STATE_HANDLING : goal.returns-then-n-eq-STATE_HANDLING
+pub returns-in-5 : goal.returns-in-5
 unfolding state_of
-returns-then-n-eq-STATE_HANDLING c = rw c.if-n-eq-STATE_HANDLING.true
+returns-in-5 c = rw c.in-5.is
 
-pub returns-then-n-eq-STATE_OFFERING : goal.returns-then-n-eq-STATE_OFFERING
+pub returns-in-6 : goal.returns-in-6
 unfolding state_of
-returns-then-n-eq-STATE_OFFERING c = rw c.if-n-eq-STATE_OFFERING.true
+returns-in-6 c = rw c.in-6.is
 
-pub returns-else-n-eq-STATE_OFFERING : goal.returns-else-n-eq-STATE_OFFERING
+pub returns-in_default : goal.returns-in_default
 unfolding state_of
-returns-else-n-eq-STATE_OFFERING c =
-    simp (
-      ne_eqb _ _ c.if-n-eq-STATE_OPENING.false,
-      ne_eqb _ _ c.if-n-eq-STATE_TURN.false,
-      ne_eqb _ _ c.if-n-eq-STATE_DRAIN.false,
-      ne_eqb _ _ c.if-n-eq-STATE_READING.false,
-      ne_eqb _ _ c.if-n-eq-STATE_WAITING.false,
-      ne_eqb _ _ c.if-n-eq-STATE_HANDLING.false,
-      ne_eqb _ _ c.if-n-eq-STATE_OFFERING.false,
-    )
+returns-in_default c = grind (arith, nat_tests)

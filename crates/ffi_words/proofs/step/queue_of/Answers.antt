@@ -1,15 +1,16 @@
-use borrow.Author.Tests.{ne_eqb}
+use native.Mathlib.Omega.{arith}
+use Rattle.std.proofs.lemmas.Bool.Decides.{nat_tests}
 use Rattle.ffi_words.specs.Step.{queue_of}
 use Rattle.ffi_words.proofs.step.queue_of.Goals as goal
 
-pub returns-then-n-eq-QUEUE_FREE : goal.returns-then-n-eq-QUEUE_FREE
+pub returns-in-0 : goal.returns-in-0
 unfolding queue_of
-returns-then-n-eq-QUEUE_FREE c = rw c.if-n-eq-QUEUE_FREE.true
+returns-in-0 c = rw c.in-0.is
 
-pub returns-then-n-eq-QUEUE_FULL : goal.returns-then-n-eq-QUEUE_FULL
+pub returns-in-1 : goal.returns-in-1
 unfolding queue_of
-returns-then-n-eq-QUEUE_FULL c = rw c.if-n-eq-QUEUE_FULL.true
+returns-in-1 c = rw c.in-1.is
 
-pub returns-else-n-eq-QUEUE_FULL : goal.returns-else-n-eq-QUEUE_FULL
+pub returns-in_default : goal.returns-in_default
 unfolding queue_of
-returns-else-n-eq-QUEUE_FULL c = simp (ne_eqb _ _ c.if-n-eq-QUEUE_FREE.false, ne_eqb _ _ c.if-n-eq-QUEUE_FULL.false)
+returns-in_default c = grind (arith, nat_tests)

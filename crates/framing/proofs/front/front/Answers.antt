@@ -27,14 +27,14 @@ returns-in_default c =
 pub returns-then-n-ge-FIRST_NEGATIVE : goal.returns-then-n-ge-FIRST_NEGATIVE
 returns-then-n-ge-FIRST_NEGATIVE c =
     let u = c.args.unread.now in
-    let v : c.in-Value.n ≡ length_field u = cc ((rw c.in-Value.is at c.read_u32.ensures) ∙ field_whole 4 u 1 (omega arith)) in
+    let v : c.in-Some.n ≡ length_field u = cc ((rw c.in-Some.is at c.read_u32.ensures) ∙ field_whole 4 u 1 (omega arith)) in
     let a : half 4 ≤ length_field u = subst (λ (z : ℕ). half 4 ≤ z) v c.if-n-ge-FIRST_NEGATIVE.true in
     (front_is _ u bad_length (negative_front _ u c.if-unread-lt5.false a), omega arith)
 
 pub returns-then-n-lt4 : goal.returns-then-n-lt4
 returns-then-n-lt4 c =
     let u = c.args.unread.now in
-    let v : c.in-Value.n ≡ length_field u = cc ((rw c.in-Value.is at c.read_u32.ensures) ∙ field_whole 4 u 1 (omega arith)) in
+    let v : c.in-Some.n ≡ length_field u = cc ((rw c.in-Some.is at c.read_u32.ensures) ∙ field_whole 4 u 1 (omega arith)) in
     let a : length_field u < half 4 = subst (λ (z : ℕ). z < half 4) v c.if-n-ge-FIRST_NEGATIVE.false in
     let b : length_field u < 4 = subst (λ (z : ℕ). z < 4) v c.if-n-lt4.true in
     (front_is _ u bad_length (short_front _ u c.if-unread-lt5.false a b), omega arith)
@@ -42,7 +42,7 @@ returns-then-n-lt4 c =
 pub returns-then-limit_of-n : goal.returns-then-limit_of-n
 returns-then-limit_of-n c =
     let u = c.args.unread.now in
-    let v : c.in-Value.n ≡ length_field u = cc ((rw c.in-Value.is at c.read_u32.ensures) ∙ field_whole 4 u 1 (omega arith)) in
+    let v : c.in-Some.n ≡ length_field u = cc ((rw c.in-Some.is at c.read_u32.ensures) ∙ field_whole 4 u 1 (omega arith)) in
     let a : length_field u < half 4 = subst (λ (z : ℕ). z < half 4) v c.if-n-ge-FIRST_NEGATIVE.false in
     let b : 4 ≤ length_field u = subst (λ (z : ℕ). 4 ≤ z) v c.if-n-lt4.false in
     let w = c.args.max_message_size in
@@ -52,7 +52,7 @@ returns-then-limit_of-n c =
 pub returns-then-unread-n : goal.returns-then-unread-n
 returns-then-unread-n c =
     let u = c.args.unread.now in
-    let v : c.in-Value.n ≡ length_field u = cc ((rw c.in-Value.is at c.read_u32.ensures) ∙ field_whole 4 u 1 (omega arith)) in
+    let v : c.in-Some.n ≡ length_field u = cc ((rw c.in-Some.is at c.read_u32.ensures) ∙ field_whole 4 u 1 (omega arith)) in
     let a : length_field u < half 4 = subst (λ (z : ℕ). z < half 4) v c.if-n-ge-FIRST_NEGATIVE.false in
     let b : 4 ≤ length_field u = subst (λ (z : ℕ). 4 ≤ z) v c.if-n-lt4.false in
     let w = c.args.max_message_size in
@@ -63,12 +63,12 @@ returns-then-unread-n c =
 pub returns : goal.returns
 returns c =
     let u = c.args.unread.now in
-    let v : c.in-Value.n ≡ length_field u = cc ((rw c.in-Value.is at c.read_u32.ensures) ∙ field_whole 4 u 1 (omega arith)) in
+    let v : c.in-Some.n ≡ length_field u = cc ((rw c.in-Some.is at c.read_u32.ensures) ∙ field_whole 4 u 1 (omega arith)) in
     let a : length_field u < half 4 = subst (λ (z : ℕ). z < half 4) v c.if-n-ge-FIRST_NEGATIVE.false in
     let b : 4 ≤ length_field u = subst (λ (z : ℕ). 4 ≤ z) v c.if-n-lt4.false in
     let w = c.args.max_message_size in
     let d : length_field u - 4 ≤ limit_of w = rw (← c.limit_of.ensures, ← v) c.if-limit_of-n.false in
     let e : length_field u + 1 ≤ length u = subst (λ (z : ℕ). z + 1 ≤ length u) v c.if-unread-n.false in
     let f = front_is w u (whole (get_or u 0 0) (length_field u - 4)) (whole_front (limit_of w) u c.if-unread-lt5.false a b d e) in
-    let g : c.in-Value.n + 1 ≡ 5 + (length_field u - 4) = omega arith in
+    let g : c.in-Some.n + 1 ≡ 5 + (length_field u - 4) = omega arith in
     (g ∙ f, c.if-unread-n.false)

@@ -47,8 +47,8 @@ minutes_to_change-requires c =
     let s : c.since_monday-since.result ≡ since_monday h.offset c.args.moment = rw (o, t) at c.since_monday-since.ensures in
     (omega (arith, since_below h.offset c.args.moment, s), w)
 
-pub open_at-requires : goal.open_at-requires
-open_at-requires c =
+pub open_at-is_open-requires : goal.open_at-is_open-requires
+open_at-is_open-requires c =
     let h = c.args.self in
     let o : to_z w64 (of_z w64 h.offset) ≡ h.offset = search rules in
     let t : to_z w64 (of_z w64 c.args.moment) ≡ c.args.moment = to_z-of_z w64 c.args.moment c.ranges.moment in
@@ -76,5 +76,5 @@ returns c =
     let q : is_within_windows 4611686018427387904 c.args.moment ≡ true = sym (rw t at c.is_within-2.ensures) ∙ c.if-not-is_within-2.false in
     let s : c.since_monday-since.result ≡ since_monday h.offset c.args.moment = rw (o, t) at c.since_monday-since.ensures in
     let since = c.since_monday-since.result in
-    let e = rw (t, c.minutes_to_change.ensures.0) at c.change_after-next.ensures in
-    simp (w, p, q) (rw (state h c.args.moment since s c.open_at.result c.open_at.ensures, change h c.args.moment since s _ e))
+    let e = rw (t, c.minutes_to_change.ensures.0) at c.change_after-change.ensures in
+    simp (w, p, q) (rw (state h c.args.moment since s c.open_at-is_open.result c.open_at-is_open.ensures, change h c.args.moment since s _ e))

@@ -5,8 +5,8 @@ use Rattle.ledger.proofs.Ledger.fitted.Goals as goal
 
 pub returns-then-self-capacity : goal.returns-then-self-capacity
 unfolding fitted_of
-returns-then-self-capacity c = rw (c.with_ring.ensures, c.least-count.ensures) (simp (lt-ltb _ _ c.if-self-capacity.true))
+returns-then-self-capacity c = rw (c.with_ring.ensures, c.min-count.ensures) (simp (lt-ltb _ _ c.if-self-capacity.true))
 
 pub returns : goal.returns
 unfolding fitted_of
-returns c = rw (c.with_ring-2.ensures, c.least-count.ensures) (simp (le-ltb _ _ c.if-self-capacity.false))
+returns c = rw (c.with_ring-2.ensures, c.min-count.ensures) (simp (le-ltb _ _ c.if-self-capacity.false))

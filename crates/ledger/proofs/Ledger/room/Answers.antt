@@ -4,4 +4,4 @@ use Rattle.ledger.proofs.Ledger.room.Goals as goal
 
 pub returns : goal.returns
 unfolding room_of
-returns c = rw (c.least.ensures, c.capacity-n.ensures)
+returns c = rw (c.min.ensures, c.capacity-n.ensures)

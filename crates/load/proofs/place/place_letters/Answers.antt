@@ -2,16 +2,10 @@
 use Prim.Native.Nat.{ℕ, ◌+◌, ◌≤◌}
 use mathlib.Core.List.{◌∷◌}
 use native.Mathlib.Omega.{arith}
-use mathlib.Core.Path.{sym, ap, ◌∙◌}
-use lib.ListN.{length, replicate, length-replicate}
+use lib.ListN.{length, replicate}
 use Rattle.wire.proofs.Pieces.{filling_start, filling_next, filling_last}
 use Rattle.load.proofs.Laws.{letters_pieces, length_letters, take_letters}
 use Rattle.load.proofs.place.place_letters.Goals as goal
-
-pub slice_bounds-place-end : goal.slice_bounds-place-end
-slice_bounds-place-end c =
-    let a = c.args in
-    sym (ap length (take_letters 255 a.n (omega arith)) ∙ length-replicate {0} {A = ℕ} a.n 65)
 
 pub returns : goal.returns
 returns c =

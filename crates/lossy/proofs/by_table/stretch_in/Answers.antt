@@ -1,10 +1,13 @@
 -- A walk by the table to the end of the text.
 use Rattle.lossy.proofs.Turns.{walked_stretch}
+use Prim.Native.Nat.{◌+◌, ◌-◌, min}
+use mathlib.Core.Path.{◌≡◌}
 use native.Mathlib.Omega.{arith}
+use lib.ListN.{length}
 use Rattle.lossy.proofs.by_table.stretch_in.Goals as goal
 
-pub table_to-requires : goal.table_to-requires
-table_to-requires c = (omega arith, omega arith, c.requires.1)
-
 pub returns : goal.returns
-returns c = walked_stretch _ _ _ c.table_to.ensures
+returns c =
+    let n = length c.args.text.now in
+    let e : c.args.from + min (n - c.args.from) n ≡ n = omega arith in
+    walked_stretch _ _ _ (rw e at c.parts_from.ensures)

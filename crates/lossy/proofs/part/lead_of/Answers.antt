@@ -10,7 +10,7 @@ returns-then-b-lt128 c = rw c.due.ensures (row_at 0 table _ (omega arith) (omega
 
 pub returns-then-b-lt194 : goal.returns-then-b-lt194
 unfolding table
-returns-then-b-lt194 c = rw c.no_lead.ensures (row_none 1 table _ (omega arith) (omega arith), omega arith)
+returns-then-b-lt194 c = (row_none 1 table _ (omega arith) (omega arith), omega arith)
 
 pub returns-then-b-lt224 : goal.returns-then-b-lt224
 unfolding table
@@ -46,4 +46,4 @@ returns-then-b-lt245 c = rw c.due-then-b-lt245.ensures (row_at 8 table _ (omega 
 
 pub returns-else-b-lt245 : goal.returns-else-b-lt245
 unfolding table
-returns-else-b-lt245 c = rw c.no_lead-else-b-lt245.ensures (row_none 9 table _ (omega arith) (omega arith), omega arith)
+returns-else-b-lt245 c = (row_none 9 table _ (omega arith) (omega arith), omega arith)

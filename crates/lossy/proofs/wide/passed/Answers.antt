@@ -2,17 +2,11 @@
 use Rattle.lossy.specs.Wide.{unfits, windows_at}
 use Rattle.lossy.proofs.Windows.{windows_none, windows_more, windows_last, windows_passed_at}
 use Prim.Native.Nat.{ℕ, ◌+◌, ◌-◌}
-use mathlib.Core.Path.{◌≡◌, refl, sym, ◌∙◌}
+use mathlib.Core.Path.{◌≡◌, sym, ◌∙◌}
 use native.Mathlib.Omega.{arith}
 use mathlib.Core.List.{List}
 use lib.ListN.{length, get_or}
 use Rattle.lossy.proofs.wide.passed.Goals as goal
-
-pub returns-then-text-from-lt36 : goal.returns-then-text-from-lt36
-returns-then-text-from-lt36 c = record { from = omega arith; within = omega arith; is = refl }
-
-pub returns-then-unfit_first-ne0 : goal.returns-then-unfit_first-ne0
-returns-then-unfit_first-ne0 c = record { from = omega arith; within = omega arith; is = refl }
 
 pub loop-i-init : goal.loop-i-init
 loop-i-init c =

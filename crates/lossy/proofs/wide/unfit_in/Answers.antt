@@ -1,16 +1,13 @@
 -- Of the windows before the loop's place the sum is what was added up, at most six for each.
-use Rattle.lossy.specs.Wide.{windows_at, window_at}
+use Rattle.lossy.specs.Wide.{window_at}
 use Rattle.lossy.proofs.Windows.{windows_none, windows_next}
 use Prim.Native.Nat.{◌+◌}
-use mathlib.Core.Path.{◌≡◌, sym, ap, ◌∙◌}
+use mathlib.Core.Path.{◌≡◌, sym}
 use native.Mathlib.Omega.{arith}
 use Rattle.lossy.proofs.wide.unfit_in.Goals as goal
 
 pub loop-j-init : goal.loop-j-init
-loop-j-init c = (omega arith, sym (windows_none _ _), omega arith)
-
-pub overflow_add-n : goal.overflow_add-n
-overflow_add-n c = let f = c.unfit-n.ensures.1 in omega arith
+loop-j-init c = (sym (windows_none _ _), omega arith)
 
 pub loop-j-preserved : goal.loop-j-preserved
 loop-j-preserved c =
@@ -18,10 +15,4 @@ loop-j-preserved c =
     let u = windows_next a.text.now a.from c.loop-j.j in
     let e : c.unfit-n.result ≡ window_at a.text.now (a.from + c.loop-j.j) = c.unfit-n.ensures.0 in
     let f = c.unfit-n.ensures.1 in
-    (omega arith, omega arith, omega arith)
-
-pub returns : goal.returns
-returns c =
-    let a = c.args in
-    let j : c.loop-j.j ≡ 32 = omega arith in
-    c.loop-j.invariant.1 ∙ ap (windows_at a.text.now a.from) j
+    (omega arith, omega arith)

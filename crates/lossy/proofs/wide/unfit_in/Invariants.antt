@@ -1,11 +1,8 @@
 -- Of the windows before the loop's place the sum is what was added up, at most six for each.
 use Rattle.lossy.specs.Wide.{windows_at}
-use Prim.Native.Nat.{◌*◌, ◌-◌, ◌≤◌}
+use Prim.Native.Nat.{◌*◌, ◌≤◌}
 use mathlib.Core.Path.{◌≡◌}
 use Rattle.lossy.proofs.wide.unfit_in.Given as goal
 
 abbrev pub invariant-loop-j : goal.invariant-loop-j
-invariant-loop-j l = (l.j ≤ 32) × (l.n ≡ windows_at l.text l.from l.j) × (l.n ≤ 6 * l.j)
-
-abbrev pub decreases-loop-j : goal.decreases-loop-j
-decreases-loop-j l = 32 - l.j
+invariant-loop-j l = (l.n ≡ windows_at l.text l.from l.j) × (l.n ≤ 6 * l.j)

@@ -5,7 +5,8 @@ use Prim.Native.Nat.{ℕ, ◌<◌, ◌+◌, ◌-◌}
 use mathlib.Core.List.{List}
 use native.Mathlib.Omega.{arith}
 use lib.ListN.{length, take, drop, length-drop}
-use Rattle.wire.specs.Find.{index_of, found_of}
+use Rattle.wire.specs.Answer.{maybe}
+use Rattle.wire.specs.Find.{index_of}
 use Rattle.wire.proofs.FieldLaws.{told}
 use Rattle.wire.proofs.Laws.{tail_whole}
 use Rattle.wire.proofs.FindLaws.{found_below}
@@ -13,7 +14,7 @@ use Rattle.messages.proofs.Laws.{after_start, unread_zero, unread_cut, unread_en
 use Rattle.messages.proofs.ErrorFields.parse.Goals as goal
 
 pub loop-at-init : goal.loop-at-init
-loop-at-init c = (refl, rw c.absent-none.ensures (after_start c.args.payload.now))
+loop-at-init c = (refl, after_start c.args.payload.now)
 
 pub returns-then-letter-eq0 : goal.returns-then-letter-eq0
 returns-then-letter-eq0 c =
@@ -23,7 +24,7 @@ returns-then-letter-eq0 c =
 pub returns-in_default : goal.returns-in_default
 returns-in_default c =
     let s = c.args.payload.now in
-    let e : index_of 0 (drop (c.loop-at.at + 1) s) ≡ none = rw (tail_whole s (c.loop-at.at + 1)) at (told found_of c.find_zero.ensures c.in_default.is) in
+    let e : index_of 0 (drop (c.loop-at.at + 1) s) ≡ none = rw (tail_whole s (c.loop-at.at + 1)) at (told maybe c.find_zero.ensures c.in_default.is) in
     ended s c.loop-at.r.fields c.loop-at.at c.loop-at.invariant.0 (unread_cut s c.loop-at.at (omega arith) c.if-letter-eq0.false e) c.loop-at.invariant.1
 
 -- the zero byte that ends the value stands in the payload
@@ -36,19 +37,16 @@ zero_found s i len h t =
     (e, omega arith)
 
 pub overflow_add-at : goal.overflow_add-at
-overflow_add-at c = let z = zero_found c.args.payload.now c.loop-at.at c.in-At.len (omega arith) (told found_of c.find_zero.ensures c.in-At.is) in omega (arith, z.1)
+overflow_add-at c = let z = zero_found c.args.payload.now c.loop-at.at c.in-Some.len (omega arith) (told maybe c.find_zero.ensures c.in-Some.is) in omega (arith, z.1)
 
 pub overflow_add-at-in-loop-at : goal.overflow_add-at-in-loop-at
-overflow_add-at-in-loop-at c = let z = zero_found c.args.payload.now c.loop-at.at c.in-At.len (omega arith) (told found_of c.find_zero.ensures c.in-At.is) in omega (arith, z.1)
-
-pub loop-at-smaller : goal.loop-at-smaller
-loop-at-smaller c = let z = zero_found c.args.payload.now c.loop-at.at c.in-At.len (omega arith) (told found_of c.find_zero.ensures c.in-At.is) in omega (arith, z.1)
+overflow_add-at-in-loop-at c = let z = zero_found c.args.payload.now c.loop-at.at c.in-Some.len (omega arith) (told maybe c.find_zero.ensures c.in-Some.is) in omega (arith, z.1)
 
 pub loop-at-preserved : goal.loop-at-preserved
 loop-at-preserved c =
     let s = c.args.payload.now in
-    let z = zero_found c.args.payload.now c.loop-at.at c.in-At.len (omega arith) (told found_of c.find_zero.ensures c.in-At.is) in
-    turn s c.loop-at.r.fields c.with-r.result.fields c.loop-at.at c.in-At.len (omega arith) c.if-letter-eq0.false z.0 c.loop-at.invariant.0 c.loop-at.invariant.1 c.with-r.ensures
+    let z = zero_found c.args.payload.now c.loop-at.at c.in-Some.len (omega arith) (told maybe c.find_zero.ensures c.in-Some.is) in
+    turn s c.loop-at.r.fields c.with-r.result.fields c.loop-at.at c.in-Some.len (omega arith) c.if-letter-eq0.false z.0 c.loop-at.invariant.0 c.loop-at.invariant.1 c.with-r.ensures
 
 pub returns : goal.returns
 returns c =

@@ -1,29 +1,20 @@
 -- The lengths passed, and those to go.
 use mathlib.Core.Path.{◌≡◌, ◌∙◌}
-use Prim.Native.Nat.{◌+◌, ◌-◌}
 use native.Mathlib.Omega.{arith}
 use Rattle.packed_relations.specs.Packed.{len_of}
 use Rattle.packed_relations.proofs.Leaves.{lens_turn, lens_done}
 use Rattle.packed_relations.proofs.names.lens_from.Goals as goal
 
-pub loop-k-init : goal.loop-k-init
-loop-k-init c =
-    let a = c.args in
-    let z : a.n - 0 ≡ a.n = omega arith in
-    let y : a.first + 0 ≡ a.first = omega arith in
-    (omega arith, rw (z, y) (omega arith), omega arith)
-
 pub loop-k-preserved : goal.loop-k-preserved
 loop-k-preserved c =
     let a = c.args in
-    let e : c.len_of-sum.result ≡ len_of c.word_at-word.result = c.len_of-sum.ensures in (
-      omega arith,
-      lens_turn a.words.now a.first c.loop-k.k a.n c.loop-k.sum _ _ (omega arith) c.loop-k.invariant.1 (c.len_of-sum.ensures ∙ rw c.word_at-word.ensures),
-      omega (arith, c.loop-k.invariant.2, e),
+    let e : c.len_of-sum.result ≡ len_of c.element-word.result = c.len_of-sum.ensures in (
+      lens_turn a.words.now a.first c.loop-k.k a.n c.loop-k.sum _ _ (omega arith) c.loop-k.invariant.0 (c.len_of-sum.ensures ∙ rw c.element-word.ensures),
+      omega (arith, c.loop-k.invariant.1, e),
     )
 
 pub returns : goal.returns
 returns c =
     let a = c.args in
     let z = lens_done a.words.now a.first c.loop-k.k a.n (omega arith) in
-    (omega (arith, c.loop-k.invariant.1, z), omega (arith, c.loop-k.invariant.2))
+    (omega (arith, c.loop-k.invariant.0, z), omega (arith, c.loop-k.invariant.1))

@@ -9,9 +9,3 @@ pub returns-then-from-to : goal.returns-then-from-to
 returns-then-from-to c =
     let a = c.args in
     stay a.names.now a.from a.n c.requires.0 ∙ ap (λ (i : ℕ). put a.names.now i (at a.names.now a.from a.n)) c.if-from-to.true
-
-pub returns-then-to-from : goal.returns-then-to-from
-returns-then-to-from c = c.move_down.ensures
-
-pub returns : goal.returns
-returns c = c.move_up.ensures

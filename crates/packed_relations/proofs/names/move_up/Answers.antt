@@ -2,7 +2,7 @@
 use mathlib.Core.Path.{refl}
 use native.Mathlib.Omega.{arith}
 use lib.ListN.{length-set}
-use Rattle.packed_relations.proofs.Moved.{up_start, up_done, up_step}
+use Rattle.packed_relations.proofs.Moved.{up_start, up_step}
 use Rattle.packed_relations.proofs.names.move_up.Goals as goal
 
 pub loop-k-init : goal.loop-k-init
@@ -17,11 +17,3 @@ loop-k-preserved c =
       up_step a.names.now a.from a.to c.loop-k.k a.n (omega arith) c.loop-k.invariant.0 c.requires.0 c.requires.1 c.loop-k.invariant.1,
       simp length-set c.loop-k.invariant.2,
     )
-
-pub shape_of-names : goal.shape_of-names
-shape_of-names c = c.loop-k.invariant.2
-
-pub returns : goal.returns
-returns c =
-    let a = c.args in
-    up_done a.names.now a.from a.to c.loop-k.k a.n (omega arith) c.loop-k.invariant.1

@@ -7,10 +7,7 @@ use Rattle.relations.specs.Memory.{described_from}
 use Rattle.packed_relations.specs.Packed.{new_lens}
 use Rattle.packed_relations.proofs.names.new_lens.Given as goal
 
-abbrev pub invariant-loop-k : goal.invariant-loop-k
-invariant-loop-k l =
-    (l.k ≤ l.n) × (names_fit (described_from l.bytes (l.n - l.k) l.at) ≡ true) × (new_lens (described_from l.bytes l.n l.from) ≡ l.sum + new_lens (described_from l.bytes (l.n - l.k) l.at))
-    × (l.sum ≤ 63 * l.k)
-
-abbrev pub decreases-loop-k : goal.decreases-loop-k
-decreases-loop-k l = l.n - l.k
+abbrev pub invariant-loop : goal.invariant-loop
+invariant-loop l =
+    (names_fit (described_from l.bytes (l.n - l.counter) l.at) ≡ true) × (new_lens (described_from l.bytes l.n l.from) ≡ l.sum + new_lens (described_from l.bytes (l.n - l.counter) l.at))
+    × (l.sum ≤ 63 * l.counter)

@@ -1,24 +1,11 @@
 -- What is left to place, from the slot reached, gives what placing all gives.
-use mathlib.Core.Path.{◌≡◌, refl, sym, ap, ◌∙◌}
-use Prim.Native.Nat.{ℕ, ◌+◌, ◌*◌, ◌-◌}
+use mathlib.Core.Path.{sym, ap, ◌∙◌}
+use Prim.Native.Nat.{ℕ, ◌+◌, ◌*◌}
 use native.Mathlib.Omega.{arith}
 use Rattle.packed_relations.specs.Packed.{lens_from, place_words}
 use Rattle.packed_relations.proofs.Leaves.{place_turn, place_done}
 use borrow.Author.Rules.{rules}
 use Rattle.packed_relations.proofs.names.place_slots.Goals as goal
-
-pub loop-k-init : goal.loop-k-init
-loop-k-init c =
-    let a = c.args in
-    let z : a.n - 0 ≡ a.n = omega arith in
-    let y : a.first + 0 ≡ a.first = omega arith in
-    (omega arith, rw (z, y), omega arith, refl)
-
-pub place_words-at-requires : goal.place_words-at-requires
-place_words-at-requires c = (
-  omega (arith, c.count_at-count.ensures, c.requires.0, c.loop-k.invariant.0),
-  omega (arith, c.count_at-count.ensures, c.requires.1, c.loop-k.invariant.0, c.loop-k.invariant.2),
-)
 
 pub loop-k-preserved : goal.loop-k-preserved
 loop-k-preserved c =
@@ -26,13 +13,12 @@ loop-k-preserved c =
     let slot : ℕ = a.first + c.loop-k.k in
     let es = c.place_words-at.ensures.0 ∙ ap (λ (y : ℕ). place_words (32 * slot) y c.loop-k.at c.loop-k.words) c.count_at-count.ensures in
     let ep = c.place_words-at.ensures.1 ∙ ap (λ (y : ℕ). c.loop-k.at + lens_from c.loop-k.words (32 * slot) y) c.count_at-count.ensures in (
-      omega arith,
-      place_turn a.counts.now a.first c.loop-k.k a.n c.loop-k.at _ _ c.loop-k.words _ (omega arith) c.loop-k.invariant.1 es ep,
-      omega (arith, c.loop-k.invariant.2, c.place_words-at.ensures.2, c.count_at-count.ensures),
+      place_turn a.counts.now a.first c.loop-k.k a.n c.loop-k.at _ _ c.loop-k.words _ (omega arith) c.loop-k.invariant.0 es ep,
+      omega (arith, c.loop-k.invariant.1, c.place_words-at.ensures.2, c.count_at-count.ensures),
       search rules,
     )
 
 pub returns : goal.returns
 returns c =
     let a = c.args in
-    sym (c.loop-k.invariant.1 ∙ place_done a.counts.now a.first c.loop-k.k a.n c.loop-k.at c.loop-k.words (omega arith))
+    sym (c.loop-k.invariant.0 ∙ place_done a.counts.now a.first c.loop-k.k a.n c.loop-k.at c.loop-k.words (omega arith))

@@ -7,8 +7,5 @@ use Rattle.packed_relations.proofs.names.place_slots.Given as goal
 
 abbrev pub invariant-loop-k : goal.invariant-loop-k
 invariant-loop-k l =
-    (l.k ≤ l.n) × (place_slots l.counts l.first l.n l.place l.initial.words ≡ place_slots l.counts (l.first + l.k) (l.n - l.k) l.at l.words)
+    (place_slots l.counts l.first l.n l.place l.initial.words ≡ place_slots l.counts (l.first + l.k) (l.n - l.k) l.at l.words)
     × (l.at ≤ l.place + 2016 * l.k) × (length l.words ≡ length l.initial.words)
-
-abbrev pub decreases-loop-k : goal.decreases-loop-k
-decreases-loop-k l = l.n - l.k

@@ -7,8 +7,5 @@ use Rattle.packed_relations.proofs.names.place_words.Given as goal
 
 abbrev pub invariant-loop-k : goal.invariant-loop-k
 invariant-loop-k l =
-    (l.k ≤ l.n) × (place_words l.first l.n l.place l.initial.words ≡ place_words (l.first + l.k) (l.n - l.k) l.at l.words)
+    (place_words l.first l.n l.place l.initial.words ≡ place_words (l.first + l.k) (l.n - l.k) l.at l.words)
     × (l.place + lens_from l.initial.words l.first l.n ≡ l.at + lens_from l.words (l.first + l.k) (l.n - l.k)) × (l.at ≤ l.place + 63 * l.k) × (length l.words ≡ length l.initial.words)
-
-abbrev pub decreases-loop-k : goal.decreases-loop-k
-decreases-loop-k l = l.n - l.k

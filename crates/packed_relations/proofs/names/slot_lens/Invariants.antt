@@ -6,7 +6,4 @@ use Rattle.packed_relations.proofs.names.slot_lens.Given as goal
 
 abbrev pub invariant-loop-k : goal.invariant-loop-k
 invariant-loop-k l =
-    (l.k ≤ l.n) × (slot_lens l.counts l.words l.first l.n ≡ l.sum + slot_lens l.counts l.words (l.first + l.k) (l.n - l.k)) × (l.sum ≤ 2016 * l.k)
-
-abbrev pub decreases-loop-k : goal.decreases-loop-k
-decreases-loop-k l = l.n - l.k
+    (slot_lens l.counts l.words l.first l.n ≡ l.sum + slot_lens l.counts l.words (l.first + l.k) (l.n - l.k)) × (l.sum ≤ 2016 * l.k)

@@ -1,5 +1,4 @@
 -- Refused for want of a slot, for its columns or for want of room, or stored in its slot.
-use borrow.Author.Tests.{not-true, not-false}
 use native.Mathlib.Omega.{arith}
 use mathlib.Core.Path.{sym, ap, ◌∙◌}
 use mathlib.Core.List.{[]}
@@ -30,8 +29,8 @@ new_lens-new-requires c =
     let w = fits_few _ (sym c.if-not-fit.false ∙ c.fit.ensures) in
     (omega (arith, w.0, c.requires), w.1)
 
-pub make_room-room-requires : goal.make_room-room-requires
-make_room-room-requires c =
+pub make_room-requires : goal.make_room-requires
+make_room-requires c =
     let a = c.args in
     let w = fits_few _ (sym c.if-not-fit.false ∙ c.fit.ensures) in
     let most = place_most a.id (take a.held.now a.ids.now) in (
@@ -40,43 +39,37 @@ make_room-room-requires c =
       omega (arith, c.new_lens-new.ensures.1, w.0, c.requires),
     )
 
-pub returns-then-not-room : goal.returns-then-not-room
-returns-then-not-room c =
+pub returns-in_default : goal.returns-in_default
+returns-in_default c =
     let a = c.args in
     let cols = words_of a.words.now a.names.now in
     let m =
-    c.make_room-room.ensures.0
+    (rw c.in_default.is at c.make_room.ensures.0)
     ∙ ap (λ (y : ℕ). made_room (packed a.held.now [] a.counts.now cols) c.slot_of-slot.result y) c.new_lens-new.ensures.0
     ∙ same_room a.held.now c.slot_of-slot.result _ a.ids.now a.counts.now cols in
     kept_crowded (packed a.held.now a.ids.now a.counts.now (words_of a.words.now a.names.now)) a.id
     (described_from a.bytes.now a.n a.from) c.slot_of-slot.result c.slot_of-slot.ensures (omega (arith, c.if-slot-ge-RELATIONS.false))
-    (sym c.if-not-fit.false ∙ c.fit.ensures) m (not-true _ c.if-not-room.true)
+    (sym c.if-not-fit.false ∙ c.fit.ensures) m
 
 pub store_words-requires : goal.store_words-requires
 store_words-requires c =
     let w = fits_few _ (sym c.if-not-fit.false ∙ c.fit.ensures) in
-    (omega (arith, w.0, c.requires, c.if-slot-ge-RELATIONS.false), omega (arith, w.0, c.requires, c.make_room-room.ensures.1), w.1)
-
-pub overflow_mul-slot : goal.overflow_mul-slot
-overflow_mul-slot c = omega (arith, c.if-slot-ge-RELATIONS.false)
+    (omega (arith, w.0, c.requires, c.if-slot-ge-RELATIONS.false), omega (arith, w.0, c.requires, rw c.in-Some.is at c.make_room.ensures.1), w.1)
 
 pub overflow_cast-n : goal.overflow_cast-n
 overflow_cast-n c =
     let w = fits_few _ (sym c.if-not-fit.false ∙ c.fit.ensures) in
     omega (arith, w.0, c.requires)
 
-pub overflow_add-slot : goal.overflow_add-slot
-overflow_add-slot c = omega (arith, c.if-slot-ge-RELATIONS.false)
-
 pub returns : goal.returns
 returns c =
     let a = c.args in
     let cols = words_of a.words.now a.names.now in
     let m =
-    c.make_room-room.ensures.0
+    (rw c.in-Some.is at c.make_room.ensures.0)
     ∙ ap (λ (y : ℕ). made_room (packed a.held.now [] a.counts.now cols) c.slot_of-slot.result y) c.new_lens-new.ensures.0
     ∙ same_room a.held.now c.slot_of-slot.result _ a.ids.now a.counts.now cols in
     kept_stored (packed a.held.now a.ids.now a.counts.now (words_of a.words.now a.names.now)) a.id
     (described_from a.bytes.now a.n a.from) c.slot_of-slot.result c.slot_of-slot.ensures (omega (arith, c.if-slot-ge-RELATIONS.false))
-    (sym c.if-not-fit.false ∙ c.fit.ensures) m (not-false _ c.if-not-room.false)
-    a.n c.requires c.most.ensures c.set_word.ensures c.set_byte.ensures c.store_words.ensures
+    (sym c.if-not-fit.false ∙ c.fit.ensures) m
+    a.n c.requires c.max.ensures c.set.ensures c.set-2.ensures c.store_words.ensures

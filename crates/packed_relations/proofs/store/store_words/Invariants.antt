@@ -10,10 +10,7 @@ use Rattle.packed_relations.proofs.store.store_words.Given as goal
 
 abbrev pub invariant-loop-k : goal.invariant-loop-k
 invariant-loop-k l =
-    (l.k ≤ l.n) × (names_fit (described_from l.bytes (l.n - l.k) l.at) ≡ true)
+    (names_fit (described_from l.bytes (l.n - l.k) l.at) ≡ true)
     × (store_words l.first l.place (described_from l.bytes l.n l.from) (words_of l.initial.words l.initial.names)
     ≡ store_words (l.first + l.k) l.to (described_from l.bytes (l.n - l.k) l.at) (words_of l.words l.names))
     × (l.to ≤ l.place + 63 * l.k) × (length l.words ≡ length l.initial.words) × (length l.names ≡ length l.initial.names)
-
-abbrev pub decreases-loop-k : goal.decreases-loop-k
-decreases-loop-k l = l.n - l.k

@@ -4,12 +4,12 @@ use Rattle.test_lines.proofs.Laws.{pieces_one}
 use Rattle.positions.proofs.Laws.{shown_accepted, shown_refused}
 use Rattle.positions.proofs.stored.shown.Goals as goal
 
-pub returns-in-Position : goal.returns-in-Position
-returns-in-Position c =
-    let said = sym c.parse.ensures ∙ ap parse_outcome c.in-Position.is in
+pub returns-in-Ok : goal.returns-in-Ok
+returns-in-Ok c =
+    let said = sym c.parse.ensures ∙ ap parse_outcome c.in-Ok.is in
     rw (shown_accepted _ _ said) (pieces_one _ _ _ c.place.ensures)
 
-pub returns-in-Refused : goal.returns-in-Refused
-returns-in-Refused c =
-    let said = sym c.parse.ensures ∙ ap parse_outcome c.in-Refused.is in
-    rw (shown_refused _ c.in-Refused.r said) (rw c.number.ensures at c.refused.ensures)
+pub returns-in-Err : goal.returns-in-Err
+returns-in-Err c =
+    let said = sym c.parse.ensures ∙ ap parse_outcome c.in-Err.is in
+    rw (shown_refused _ c.in-Err.r said) (rw c.number.ensures at c.refused.ensures)

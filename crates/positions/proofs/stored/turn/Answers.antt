@@ -7,20 +7,20 @@ pub returns-then-b-eq10 : goal.returns-then-b-eq10
 unfolding turn_texts turn_held turn_line
 returns-then-b-eq10 c =
     let t = eq-eqb _ _ c.if-b-eq10.true in
-    (simp t, simp t, simp t c.ended-a.ensures)
+    (simp t, simp t, simp t c.ended-at.ensures)
 
-pub returns-then-h : goal.returns-then-h
+pub returns-in_default : goal.returns-in_default
 unfolding turn_texts turn_held turn_line
-returns-then-h c =
+returns-in_default c =
     let t = ne_eqb _ _ c.if-b-eq10.false in
-    let u = c.if-h.true in
-    (simp (t, u), simp (t, u), simp (t, u) (pieces_one _ _ _ c.place-a.ensures))
+    let u = c.in_default.is in
+    (simp (t, u), simp (t, u), simp (t, u) (pieces_one _ _ _ c.place-at.ensures))
 
 pub returns-then-n-line : goal.returns-then-n-line
 unfolding turn_texts turn_held turn_line
 returns-then-n-line c =
     let t = ne_eqb _ _ c.if-b-eq10.false in
-    let u = c.if-h.false in
+    let u = c.in-Some.is in
     let v = lt-ltb _ _ c.if-n-line.true in
     (simp (t, u, v), simp (t, u, v), simp (t, u, v) (pieces_none _ _))
 
@@ -28,6 +28,6 @@ pub returns : goal.returns
 unfolding turn_texts turn_held turn_line
 returns c =
     let t = ne_eqb _ _ c.if-b-eq10.false in
-    let u = c.if-h.false in
+    let u = c.in-Some.is in
     let v = le-ltb _ _ c.if-n-line.false in
-    (simp (t, u, v), simp (t, u, v), simp (t, u, v) c.passed-a.ensures)
+    (simp (t, u, v), simp (t, u, v), simp (t, u, v) c.passed-at.ensures)

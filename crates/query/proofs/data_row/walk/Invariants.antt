@@ -2,12 +2,9 @@
 use Rattle.query.specs.DataRow.{columns_from}
 use Rattle.query.specs.Code.{picked_of}
 use Rattle.query.proofs.Laws.{walked}
-use Prim.Native.Nat.{◌≤◌, ◌-◌}
+use Prim.Native.Nat.{◌-◌}
 use mathlib.Core.Path.{◌≡◌}
 use Rattle.query.proofs.data_row.walk.Given as goal
 
 abbrev pub invariant-loop-k : goal.invariant-loop-k
-invariant-loop-k l = (l.k ≤ l.n) × (walked l.k l.i l.c (columns_from (l.n - l.k) l.payload l.at) ≡ picked_of (columns_from l.n l.payload 2) l.i)
-
-abbrev pub decreases-loop-k : goal.decreases-loop-k
-decreases-loop-k l = l.n - l.k
+invariant-loop-k l = (walked l.k l.i l.c (columns_from (l.n - l.k) l.payload l.at) ≡ picked_of (columns_from l.n l.payload 2) l.i)

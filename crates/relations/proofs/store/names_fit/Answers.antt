@@ -1,45 +1,37 @@
 -- The names passed are short enough.
-use mathlib.Core.Path.{◌≡◌, sym, ap, ◌∙◌}
-use Prim.Native.Nat.{ℕ, ◌≤◌, ◌-◌, ◌<◌}
+use mathlib.Core.Path.{sym, ap, ◌∙◌}
+use Prim.Native.Nat.{ℕ, ◌≤◌, ◌<◌}
 use native.Mathlib.Omega.{arith}
 use lib.ListN.{length}
 use Rattle.relations.specs.Cache.{names_fit}
 use Rattle.relations.proofs.Leaves.{given, described_next, described_stop, described_end, names_one, name_long, names_none}
 use Rattle.relations.proofs.store.names_fit.Goals as goal
 
-pub loop-k-init : goal.loop-k-init
-loop-k-init c =
-    let a = c.args in
-    let z : a.n - 0 ≡ a.n = omega arith in
-    (omega arith, rw z)
-
 pub returns-in_default : goal.returns-in_default
 returns-in_default c =
     let a = c.args in
-    let e = rw c.in_default.is at c.description_at-d.ensures in
-    sym (c.loop-k.invariant.1 ∙ ap names_fit (described_stop a.bytes.now a.n c.loop-k.k c.loop-k.at (omega arith) _ e) ∙ names_none)
+    sym (c.loop.invariant ∙ ap names_fit (described_stop a.bytes.now a.n c.loop.counter c.loop.at (omega arith) _ c.in_default.ensures)
+    ∙ names_none)
 
-pub returns-then-name-gt-NAME : goal.returns-then-name-gt-NAME
-returns-then-name-gt-NAME c =
+pub returns-then-description-gt-NAME : goal.returns-then-description-gt-NAME
+returns-then-description-gt-NAME c =
     let a = c.args in
-    let g = given a.bytes.now a.n c.loop-k.k c.loop-k.at _ _ _ _ _ (rw c.in-Of.is at c.description_at-d.ensures) in
+    let g = given a.bytes.now a.n c.loop.counter c.loop.at _ _ _ _ _ c.in-Ok.ensures in
     let long : 63 < length g.name = omega (arith, ap (λ (x : ℕ × ℕ). x.1) g.stands) in
-    sym (c.loop-k.invariant.1
-    ∙ ap names_fit (described_next a.bytes.now a.n c.loop-k.k c.loop-k.at (omega arith) _ _ g.read)
+    sym (c.loop.invariant
+    ∙ ap names_fit (described_next a.bytes.now a.n c.loop.counter c.loop.at (omega arith) _ _ g.read)
     ∙ name_long _ g.name _ _ _ long)
 
-pub loop-k-preserved : goal.loop-k-preserved
-loop-k-preserved c =
+pub loop-preserved : goal.loop-preserved
+loop-preserved c =
     let a = c.args in
-    let g = given a.bytes.now a.n c.loop-k.k c.loop-k.at _ _ _ _ _ (rw c.in-Of.is at c.description_at-d.ensures) in
-    let short : length g.name ≤ 63 = omega (arith, ap (λ (x : ℕ × ℕ). x.1) g.stands) in (
-      omega arith,
-      c.loop-k.invariant.1
-          ∙ ap names_fit (described_next a.bytes.now a.n c.loop-k.k c.loop-k.at (omega arith) _ _ g.read)
-          ∙ names_one _ g.name _ _ _ short,
-    )
+    let g = given a.bytes.now a.n c.loop.counter c.loop.at _ _ _ _ _ c.in-Ok.ensures in
+    let short : length g.name ≤ 63 = omega (arith, ap (λ (x : ℕ × ℕ). x.1) g.stands) in
+    c.loop.invariant
+    ∙ ap names_fit (described_next a.bytes.now a.n c.loop.counter c.loop.at (omega arith) _ _ g.read)
+    ∙ names_one _ g.name _ _ _ short
 
 pub returns : goal.returns
 returns c =
     let a = c.args in
-    sym (c.loop-k.invariant.1 ∙ ap names_fit (described_end a.bytes.now a.n c.loop-k.k c.loop-k.at (omega arith)) ∙ names_none)
+    sym (c.loop.invariant ∙ ap names_fit (described_end a.bytes.now a.n c.loop.counter c.loop.at (omega arith)) ∙ names_none)

@@ -1,6 +1,6 @@
 -- A length that is not negative, and so many bytes.
 use mathlib.Core.Path.{sym}
-use Rattle.wire.specs.Field.{u32_of}
+use Rattle.wire.specs.Answer.{maybe}
 use Rattle.wire.proofs.FieldLaws.{told as said, field_within}
 use Rattle.rows.proofs.Steps.{value_cut, value_over, value_fits}
 use native.Mathlib.Omega.{arith}
@@ -9,23 +9,23 @@ use Rattle.rows.proofs.items.bytes_at.Goals as goal
 pub returns-in_default : goal.returns-in_default
 returns-in_default c =
     let a = c.args in
-    sym (value_cut a.bytes.now a.at (said u32_of c.read_u32.ensures c.in_default.is))
+    sym (value_cut a.bytes.now a.at (said maybe c.read_u32.ensures c.in_default.is))
 
 pub overflow_add-from : goal.overflow_add-from
-overflow_add-from c = omega (arith, field_within 4 _ _ _ (said u32_of c.read_u32.ensures c.in-Value.is))
+overflow_add-from c = omega (arith, field_within 4 _ _ _ (said maybe c.read_u32.ensures c.in-Some.is))
 
 pub overflow_sub-bytes : goal.overflow_sub-bytes
-overflow_sub-bytes c = omega (arith, field_within 4 _ _ _ (said u32_of c.read_u32.ensures c.in-Value.is))
+overflow_sub-bytes c = omega (arith, field_within 4 _ _ _ (said maybe c.read_u32.ensures c.in-Some.is))
 
-pub returns-then-least-n : goal.returns-then-least-n
-returns-then-least-n c =
+pub returns-then-min-n : goal.returns-then-min-n
+returns-then-min-n c =
     let a = c.args in
-    sym (value_over a.bytes.now a.at c.in-Value.len _ (said u32_of c.read_u32.ensures c.in-Value.is) c.least.ensures c.if-least-n.true)
+    sym (value_over a.bytes.now a.at c.in-Some.len _ (said maybe c.read_u32.ensures c.in-Some.is) c.min.ensures c.if-min-n.true)
 
 pub overflow_add-result : goal.overflow_add-result
-overflow_add-result c = omega (arith, field_within 4 _ _ _ (said u32_of c.read_u32.ensures c.in-Value.is), c.least.ensures, c.if-least-n.false)
+overflow_add-result c = omega (arith, field_within 4 _ _ _ (said maybe c.read_u32.ensures c.in-Some.is), c.min.ensures, c.if-min-n.false)
 
 pub returns : goal.returns
 returns c =
     let a = c.args in
-    sym (value_fits a.bytes.now a.at c.in-Value.len _ (said u32_of c.read_u32.ensures c.in-Value.is) c.least.ensures c.if-least-n.false)
+    sym (value_fits a.bytes.now a.at c.in-Some.len _ (said maybe c.read_u32.ensures c.in-Some.is) c.min.ensures c.if-min-n.false)

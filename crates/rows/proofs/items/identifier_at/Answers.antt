@@ -1,5 +1,5 @@
 -- A field of 32 bits, or none.
-use Rattle.wire.specs.Field.{u32_of}
+use Rattle.wire.specs.Answer.{maybe}
 use Rattle.wire.proofs.FieldLaws.{told as said, field_within}
 use Rattle.rows.proofs.Steps.{number_got, number_cut}
 use mathlib.Core.Path.{sym}
@@ -9,13 +9,13 @@ use Rattle.rows.proofs.items.identifier_at.Goals as goal
 pub returns-in_default : goal.returns-in_default
 returns-in_default c =
     let a = c.args in
-    sym (number_cut a.bytes.now a.at 4 (said u32_of c.read_u32.ensures c.in_default.is))
+    sym (number_cut a.bytes.now a.at 4 (said maybe c.read_u32.ensures c.in_default.is))
 
 pub overflow_add-result : goal.overflow_add-result
-overflow_add-result c = omega (arith, field_within 4 _ _ _ (said u32_of c.read_u32.ensures c.in-Value.is))
+overflow_add-result c = omega (arith, field_within 4 _ _ _ (said maybe c.read_u32.ensures c.in-Some.is))
 
 pub returns : goal.returns
 returns c =
     let a = c.args in
-    sym (number_got a.bytes.now a.at 4 c.in-Value.id
-    (said u32_of c.read_u32.ensures c.in-Value.is))
+    sym (number_got a.bytes.now a.at 4 c.in-Some.id
+    (said maybe c.read_u32.ensures c.in-Some.is))

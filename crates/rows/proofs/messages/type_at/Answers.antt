@@ -1,32 +1,28 @@
 -- The identifier and two names.
+use Rattle.wire.specs.Answer.{maybe}
 use Rattle.wire.proofs.FieldLaws.{told as said}
-use Rattle.wire.specs.Field.{u32_of}
 use Rattle.rows.specs.Layout.{name, both}
 use Rattle.rows.specs.Rows.{type_of}
 use Rattle.rows.specs.Head.{head_of}
 use Rattle.rows.proofs.Heads.{first_cut, name_missing, type_missing, type_whole}
+use Rattle.rows.proofs.HandedOn.{handed_on}
 use Rattle.rows.proofs.messages.type_at.Goals as goal
 
 pub returns-in_default : goal.returns-in_default
 returns-in_default c =
     let a = c.args in
-    first_cut a.bytes.now 4 (both name name) (λ v. head_of (type_of v)) (said u32_of c.read_u32.ensures c.in_default.is)
+    first_cut a.bytes.now 4 (both name name) (λ v. head_of (type_of v)) (said maybe c.read_u32.ensures c.in_default.is)
 
-pub returns-in_default-name_at : goal.returns-in_default-name_at
-returns-in_default-name_at c =
+pub returns-in_err-namespace : goal.returns-in_err-namespace
+returns-in_err-namespace c =
     let a = c.args in
-    name_missing a.bytes.now 4 _ (said u32_of c.read_u32.ensures c.in-Value.is) name (λ v. head_of (type_of v)) (rw c.in_default-name_at.is at c.name_at.ensures)
+    rw (handed_on _ c.from_residual.ensures)
+    (name_missing a.bytes.now 4 _ (said maybe c.read_u32.ensures c.in-Some.is) name (λ v. head_of (type_of v)) c.in_err-namespace.ensures)
 
-pub returns-in_default-name_at-2 : goal.returns-in_default-name_at-2
-returns-in_default-name_at-2 c =
-    let a = c.args in
-    type_missing a.bytes.now _ (said u32_of c.read_u32.ensures c.in-Value.is) (rw c.in-At.is at
-    c.name_at.ensures)
-    (rw c.in_default-name_at-2.is at c.name_at-2.ensures)
+pub returns-in_err-name : goal.returns-in_err-name
+returns-in_err-name c =
+    rw (handed_on _ c.from_residual-in_err-name.ensures)
+    (type_missing c.args.bytes.now _ (said maybe c.read_u32.ensures c.in-Some.is) c.in_ok-namespace.ensures c.in_err-name.ensures)
 
 pub returns : goal.returns
-returns c =
-    let a = c.args in
-    type_whole a.bytes.now _ (said u32_of c.read_u32.ensures c.in-Value.is) (rw c.in-At.is at
-    c.name_at.ensures)
-    (rw c.in-At-name_at.is at c.name_at-2.ensures)
+returns c = type_whole c.args.bytes.now _ (said maybe c.read_u32.ensures c.in-Some.is) c.in_ok-namespace.ensures c.in_ok-name.ensures

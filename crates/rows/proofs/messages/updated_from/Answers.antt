@@ -1,14 +1,20 @@
 -- The old tuple, then the new one after it.
 use Rattle.rows.proofs.Heads.{old_refused, from_whole}
+use mathlib.Core.Path.{refl}
+use Rattle.rows.proofs.HandedOn.{handed_on}
 use Rattle.rows.proofs.messages.updated_from.Goals as goal
 
-pub returns-in-Of : goal.returns-in-Of
-returns-in-Of c =
+pub returns-in_err-old : goal.returns-in_err-old
+returns-in_err-old c =
     let a = c.args in
-    from_whole a.bytes.now a.relation a.which (rw c.in-Of.is at
-    c.counted_at.ensures) c.new_at.ensures c.updated_to.ensures
+    rw (handed_on _ c.from_residual.ensures) (old_refused a.bytes.now a.relation a.which _ c.in_err-old.ensures)
 
-pub returns-in-Refused : goal.returns-in-Refused
-returns-in-Refused c =
+pub returns-in_err-new : goal.returns-in_err-new
+returns-in_err-new c =
     let a = c.args in
-    old_refused a.bytes.now a.relation a.which _ (rw c.in-Refused.is at c.counted_at.ensures)
+    rw (handed_on _ c.from_residual-in_err-new.ensures) (from_whole a.bytes.now a.relation a.which c.in_ok-old.ensures c.in_err-new.ensures refl)
+
+pub returns : goal.returns
+returns c =
+    let a = c.args in
+    from_whole a.bytes.now a.relation a.which c.in_ok-old.ensures c.in_ok-new.ensures refl

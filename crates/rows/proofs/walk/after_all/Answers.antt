@@ -1,35 +1,24 @@
 -- What is left to pass, from the place reached, ends where the whole walk does.
 use Rattle.rows.specs.Layout.{read_at}
-use Rattle.rows.specs.Head.{layout_of}
 use Rattle.rows.proofs.Steps.{walk_next, walk_stop, walk_end}
-use Prim.Native.Nat.{◌-◌}
-use mathlib.Core.Path.{◌≡◌, sym, ◌∙◌}
+use mathlib.Core.Path.{sym, ◌∙◌}
 use native.Mathlib.Omega.{arith}
+use Rattle.rows.proofs.HandedOn.{handed_on}
 use Rattle.rows.proofs.walk.after_all.Goals as goal
 
-pub loop-k-init : goal.loop-k-init
-loop-k-init c =
+pub returns-in_err-at : goal.returns-in_err-at
+returns-in_err-at g c =
     let a = c.args in
-    let z : a.n - 0 ≡ a.n = omega arith in
-    (omega arith, rw z)
+    rw (handed_on _ c.from_residual.ensures)
+    (sym (c.loop.invariant ∙ walk_stop (λ q. read_at g.R.Repeated.layout a.bytes.now q) a.n c.loop.counter c.loop.at _ (omega arith) c.in_err-at.ensures))
 
-pub returns-in_default : goal.returns-in_default
-returns-in_default c =
+pub loop-preserved : goal.loop-preserved
+loop-preserved g c =
     let a = c.args in
-    let e = rw c.in_default.is at c.after_one-e.ensures in
-    rw c.in_default.is
-    (sym (c.loop-k.invariant.1 ∙ walk_stop (λ q. read_at (layout_of a.kind) a.bytes.now q) a.n c.loop-k.k c.loop-k.at _ (omega arith) e))
-
-pub loop-k-preserved : goal.loop-k-preserved
-loop-k-preserved c =
-    let a = c.args in
-    let e = rw c.in-At.is at c.after_one-e.ensures in (
-      omega arith,
-      c.loop-k.invariant.1 ∙ walk_next (λ q. read_at (layout_of a.kind) a.bytes.now q) a.n c.loop-k.k c.loop-k.at _ (omega arith)
-          e,
-    )
+    c.loop.invariant
+    ∙ walk_next (λ q. read_at g.R.Repeated.layout a.bytes.now q) a.n c.loop.counter c.loop.at _ (omega arith) c.in_ok-at.ensures
 
 pub returns : goal.returns
-returns c =
+returns g c =
     let a = c.args in
-    sym (c.loop-k.invariant.1 ∙ walk_end (λ q. read_at (layout_of a.kind) a.bytes.now q) a.n c.loop-k.k c.loop-k.at (omega arith))
+    sym (c.loop.invariant ∙ walk_end (λ q. read_at g.R.Repeated.layout a.bytes.now q) a.n c.loop.counter c.loop.at (omega arith))

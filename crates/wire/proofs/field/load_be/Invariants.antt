@@ -1,11 +1,9 @@
--- After i turns acc is the number of the first i bytes, and below 256 ^ i.
+-- After some bytes acc is the number that they spell.
 use mathlib.Core.Path.{◌≡◌}
-use Prim.Native.Nat.{◌≤◌, ◌<◌, ◌-◌, ◌^◌}
-use Rattle.wire.specs.Bytes.{be, at}
+use Prim.Native.Nat.{◌<◌, ◌^◌}
+use lib.ListN.{take}
+use Rattle.wire.specs.Bytes.{be}
 use Rattle.wire.proofs.field.load_be.Given as goal
 
-abbrev pub invariant-loop-i : goal.invariant-loop-i
-invariant-loop-i l = (l.i ≤ l.n) × (l.acc ≡ be (at l.s l.from l.i)) × (l.acc < 256 ^ l.i)
-
-abbrev pub decreases-loop-i : goal.decreases-loop-i
-decreases-loop-i l = l.n - l.i
+abbrev pub invariant-loop-b : goal.invariant-loop-b
+invariant-loop-b l = (l.acc ≡ be (take l.b-index l.bytes)) × (l.acc < 256 ^ l.b-index)

@@ -1,9 +1,5 @@
 use Rattle.worker.specs.Answer.{lent}
 use Rattle.worker.proofs.deliver.stays.Goals as goal
 
-pub returns-then-interval_passed : goal.returns-then-interval_passed
-returns-then-interval_passed c = λ u p.
-    rw (← c.interval_passed.ensures, c.if-interval_passed.true) (c.send_feedback.ensures u p)
-
 pub returns : goal.returns
 returns c = λ u p. rw (← c.interval_passed.ensures, c.if-interval_passed.false) (c.moved.ensures (lent u p _))

@@ -1,6 +1,5 @@
-use Rattle.std.proofs.Common.{◌≤◌, length, ◌∙◌, arith, drop_of_length-le}
+use Rattle.std.proofs.Common.{◌≤◌, length, arith, drop_of_length-le}
 use lib.Seq.{take-nil}
-use Rattle.wire.proofs.Laws.{tail_whole}
 use Rattle.pgoutput.specs.Boundary.{boundary_of}
 use Rattle.worker.proofs.handle.boundary_at.Goals as goal
 
@@ -9,7 +8,3 @@ unfolding boundary_of
 returns-then-payload-from c =
     let h : length c.args.payload.now ≤ c.args.from = omega arith in
     rw (drop_of_length-le c.args.payload.now h, take-nil c.args.len)
-
-pub returns : goal.returns
-returns c =
-    c.boundary_in.ensures ∙ rw (tail_whole c.args.payload.now c.args.from)

@@ -1,11 +1,11 @@
 use Rattle.std.proofs.Common.{◌∙◌}
 use Rattle.worker.proofs.receive.reading_by.Goals as goal
 
-pub returns-in-More : goal.returns-in-More
-returns-in-More c = λ l. rw c.in-More.is (c.moved.ensures l)
+pub returns-in-Ok-None : goal.returns-in-Ok-None
+returns-in-Ok-None c = λ l. rw (c.in-Ok-None.is, rw c.in-Ok-None.is at c.in-Ok-None.field-0-is) (c.moved.ensures l)
 
-pub returns-in-Whole : goal.returns-in-Whole
-returns-in-Whole c = λ l. rw c.in-Whole.is (c.to_handle.ensures l ∙ rw c.drained.ensures)
+pub returns-in-Ok-Some : goal.returns-in-Ok-Some
+returns-in-Ok-Some c = λ l. rw (c.in-Ok-Some.is, rw c.in-Ok-Some.is at c.in-Ok-Some.field-0-is) (c.to_handle.ensures l ∙ rw c.drained.ensures)
 
-pub returns-in-Refused : goal.returns-in-Refused
-returns-in-Refused c = λ l. rw c.in-Refused.is (c.ended.ensures l)
+pub returns-in-Err : goal.returns-in-Err
+returns-in-Err c = λ l. rw c.in-Err.is (c.ended.ensures l)

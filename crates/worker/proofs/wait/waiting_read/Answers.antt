@@ -7,6 +7,3 @@ returns c =
     let a = c.args in
     rw (← c.read-x.ensures, ← c.with_reader.ensures)
     (c.having.ensures _ a.payload.now _ ∙ having_same _ _ (c.waiting_by-stepped.ensures a.unread.now a.payload.now))
-
-pub shape_of-payload : goal.shape_of-payload
-shape_of-payload c = c.read-x.auto.payload

@@ -1,4 +1,0 @@
-use Rattle.ffi_words.proofs.cell.cell_of.Goals as goal
-
-pub returns : goal.returns
-returns c = rw (c.flag_of-2.ensures, c.flag_of.ensures)

@@ -1,8 +1,0 @@
--- The place after the last one, or the refusal.
-use Rattle.rows.proofs.walk.counted_to.Goals as goal
-
-pub returns-in-At : goal.returns-in-At
-returns-in-At c = rw c.in-At.is
-
-pub returns-in-Refused : goal.returns-in-Refused
-returns-in-Refused c = rw c.in-Refused.is

@@ -1,8 +1,0 @@
--- Each turn leaves the buffers' lengths, and the records are counted down.
-use Rattle.test_lines.proofs.Laws.{left_less}
-use native.Mathlib.Omega.{arith}
-use Rattle.test_changes.proofs.run.Goals as goal
-
-pub loop-records-smaller : goal.loop-records-smaller
-loop-records-smaller c =
-    left_less c.loop-records.records c.one_record-go.result c.left-records.ensures (omega arith)
