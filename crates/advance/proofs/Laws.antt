@@ -1,5 +1,5 @@
 -- A payload by its letter, and an XLogData by its fields.
-use Rattle.std.proofs.Common.{◌≡◌, ℕ, ◌+◌, ◌-◌, ◌<◌, ◌≤◌, eqb, ltb, List, [], ◌∷◌, length, get_or, drop, ℤ, sym, refl, arith, length-drop, drop-drop, ltb-false, ltb-true, le-ltb, lt-ltb, eq-eqb, ne_eqb}
+use Rattle.std.proofs.Common.{◌≡◌, ℕ, ◌+◌, ◌-◌, ◌<◌, ◌≤◌, eqb, ltb, List, [], ◌∷◌, length, get_or, drop, ℤ, sym, refl, arith, length-drop, drop-drop, ltb-false, ltb-true, le-ltb, lt-ltb, eq-eqb, ne_eqb, eqb-true}
 use mathlib.Core.Option.{some, none}
 use Rattle.wire.specs.Bytes.{at, be}
 use Rattle.wire.specs.Field.{field_at}
@@ -8,7 +8,11 @@ use Rattle.wire.proofs.Laws.{by_test, impossible}
 use Rattle.wire.proofs.FieldLaws.{field_whole, int_whole, int_within}
 use Rattle.replication.specs.CopyData.{xlog_of, keep_alive_of, copy_data_of}
 use Rattle.replication.specs.CopyData as C
-use Rattle.advance.specs.AtHand.{nothing, by_copy_data, copy_data_at_hand}
+use Rattle.framing.specs.WholeFront.{there}
+use Rattle.std.specs.Prelude.{Option as Answer, Some, None}
+use borrow.Author.Tests.{eqb-false}
+use Rattle.advance.specs.declared.at_hand.AtHand.{AtHand}
+use Rattle.advance.specs.AtHand.{nothing, by_copy_data, copy_data_at_hand, HasLength, Holds}
 
 -- a field that is cut, and one that is not
 pub field_short : (n : ℕ) (s : List ℕ) (i : ℕ) → none ≡ field_at n s i → length s < i + n
@@ -57,3 +61,20 @@ is_other (b ∷ t) n e =
     by_test (eqb b 107)
     (λ h. by_test (ltb (length t) 17) (λ k. rw (ne_eqb b 119 e, h, k)) (λ k. rw (ne_eqb b 119 e, h, k)))
     (λ h. rw (ne_eqb b 119 e, h))
+
+-- ---- by the length of a message at hand
+
+pub no_length : (n : ℕ) → none ≡ there n → n ≡ 0
+no_length n e = by_test (eqb n 0) (λ t. eqb-true _ _ t) (λ t. impossible (cc (rw t at e)))
+
+pub some_length : (n k : ℕ) → some k ≡ there n → (k ≡ n) × (0 < n)
+some_length n k e =
+    by_test (eqb n 0) (λ t. impossible (cc (rw t at e)))
+    (λ t.
+    let z : some k ≡ some n = rw t at e in
+    let h : (n ≡ 0) → ⊥ = eqb-false n 0 t in
+    (cc z, omega arith))
+
+pub held : (a : Answer AtHand) (n k : ℕ) → 0 < n → n ≤ k → HasLength a n → Holds a k
+held (Some a) n k h l e = (omega arith, omega arith)
+held None n k h l e = tt

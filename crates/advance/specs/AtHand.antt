@@ -1,5 +1,6 @@
 -- A message that lies whole at the front of the unread bytes, and what four steps make of it, found before any byte is taken. SCOPE 5.10.
-use Rattle.std.specs.Prelude.{◌≡◌, ℕ, ◌+◌, ◌-◌, Bool, true, false, not, ltb, List, [], ◌∷◌, length, ◌==◌, nat_lt, slice_index}
+use Rattle.std.specs.Prelude.{◌≡◌, ℕ, ◌+◌, ◌-◌, Bool, true, false, not, ltb, List, [], ◌∷◌, length, ◌==◌, nat_lt, slice_index, ◌<◌, ◌≤◌}
+use Rattle.std.specs.Prelude.{Option as Answer, Some, None}
 use Rattle.std.proofs.Math.Option.{none}
 use Rattle.wire.specs.Bytes.{pick, at, be, put}
 use Rattle.wire.specs.Int.{is_negative}
@@ -34,6 +35,21 @@ at_hand len end reached event = record { len = len; wal_end = end; reached = rea
 
 abbrev pub nothing : AtHand
 nothing = at_hand 0 (lsn 0) (lsn 0) Nothing
+
+-- an answer of the code: the message, or that none is at hand
+abbrev pub hand_by : Answer AtHand → AtHand
+hand_by (Some a) = a
+hand_by None = nothing
+
+-- the payload's length of a message that is answered
+abbrev pub HasLength : Answer AtHand → ℕ → Type 0
+HasLength (Some a) n = a.len ≡ n
+HasLength None n = Unit {0}
+
+-- a message that is answered has a payload, of at most so many bytes
+abbrev pub Holds : Answer AtHand → ℕ → Type 0
+Holds (Some a) n = (0 < a.len) × (a.len ≤ n)
+Holds None n = Unit {0}
 
 -- the payload's length by a message's length field n, of a message that is whole in this many unread bytes and long enough for an XLogData; else 0
 unfoldable pub within : ℕ → ℕ → ℕ

@@ -1,10 +1,13 @@
 // A message that lies whole at the front of the unread bytes: what four steps make of it, found before any byte is taken.
-ghost use Rattle.std.specs.Prelude.{◌≡◌, ℕ, ◌+◌, ◌-◌, ◌≤◌, List, [], length, drop};
+ghost use Rattle.std.specs.Prelude.{◌≡◌, ℕ, ◌+◌, ◌-◌, ◌≤◌, List, [], length, drop, ◌==◌};
+ghost use Rattle.wire.specs.Answer.{maybe, value_of};
+ghost use Rattle.framing.specs.WholeFront.{there};
 ghost use Rattle.replication.specs.CopyData.{xlog_of};
 ghost use Rattle.worker.specs.Answer.{lent, outcome_by};
 ghost use Rattle.worker.specs.Events.{given_by};
 ghost use Rattle.worker.specs.Step.{having, handing};
-ghost use Rattle.advance.specs.AtHand.{nothing, within, whole_at, by_given, by_copy_data, copy_data_at_hand, at_hand_of, is_drain, is_free, is_between, has_room_for, applies_of, handed_run};
+ghost use Rattle.worker.specs.Tests.{unless};
+ghost use Rattle.advance.specs.AtHand.{hand_by, HasLength, Holds, within, whole_at, by_given, by_copy_data, copy_data_at_hand, at_hand_of, is_drain, is_free, is_between, has_room_for, applies_of, handed_run};
 
 use error::Refusal;
 use framing::MessageReader;
@@ -18,7 +21,7 @@ use worker::{DataEvent, Event, Offer, Queue, Run, State, Stepped, Whole};
 // A length from here on stands for a negative number.
 const FIRST_NEGATIVE: usize = FIRST_NEGATIVE_32 as usize;
 
-// The payload's length, 0 where no message is at hand; the server's end; the position that it reaches; its event.
+// A message at hand: its payload's length; the server's end; the position that it reaches; its event.
 #[derive(Clone, Copy)]
 pub struct AtHand {
     pub len: usize,
@@ -27,103 +30,81 @@ pub struct AtHand {
     pub event: Event,
 }
 
-fn none() -> AtHand
-    ensures { result ≡ nothing }
-{
-    AtHand {
-        len: 0,
-        wal_end: Lsn(0),
-        reached: Lsn(0),
-        event: Event::Nothing,
-    }
-}
-
-// The payload's length of a CopyData message that is whole, and long enough for an XLogData; 0 where there is none.
-fn whole_at(unread: &[u8]) -> usize
-    ensures { (result ≡ whole_at unread.now) × (result ≤ length unread.now - 5) }
+// The payload's length of a CopyData message that is whole, and long enough for an XLogData.
+fn whole_at(unread: &[u8]) -> Option<usize>
+    ensures { (maybe result ≡ there (whole_at unread.now)) × (value_of result ≤ length unread.now - 5) }
 {
     if unread.len() < 30 {
-        return 0;
+        return None;
     }
     let tag = unread[0];
     if framing::tag::is_copy_data(tag) {
-        let Some(n) = wire::field::read_u32(unread, 1) else {
-            return 0;
-        };
+        let n = wire::field::read_u32(unread, 1)?;
         return within(n as usize, unread.len());
     }
-    0
+    None
 }
 
 // By a message's length field, and how many bytes there are.
-fn within(n: usize, unread: usize) -> usize
-    ensures { (result ≡ within n unread) × (result ≤ unread - 5) }
+fn within(n: usize, unread: usize) -> Option<usize>
+    ensures { (maybe result ≡ there (within n unread)) × (value_of result ≤ unread - 5) }
 {
     if n < 29 {
-        return 0;
+        return None;
     }
     if FIRST_NEGATIVE <= n {
-        return 0;
+        return None;
     }
     if unread < n + 1 {
-        return 0;
+        return None;
     }
-    n - 4
+    Some(n - 4)
 }
 
 // By what the data give, with the payload's length and the server's end.
-fn by_event(len: usize, end: Lsn, given: Result<DataEvent, Refusal>) -> AtHand
-    ensures { (result ≡ by_given len end (given_by given)) × (result.len ≤ len) }
+fn by_event(len: usize, end: Lsn, given: Result<DataEvent, Refusal>) -> Option<AtHand>
+    ensures { (hand_by result ≡ by_given len end (given_by given)) × HasLength result len }
 {
     match given {
-        Ok(data) => AtHand {
+        Ok(data) => Some(AtHand {
             len,
             wal_end: end,
             reached: data.reached,
             event: data.event,
-        },
-        Err(_) => none(),
+        }),
+        Err(_) => None,
     }
 }
 
 // An XLogData. Its fields are read here: through the answer of `replication` they would go through memory.
-fn xlog_data(payload: &[u8]) -> AtHand
-    ensures { (result ≡ by_copy_data payload.now (xlog_of (drop 1 payload.now))) × (result.len ≤ length payload.now) }
+fn xlog_data(payload: &[u8]) -> Option<AtHand>
+    ensures { (hand_by result ≡ by_copy_data payload.now (xlog_of (drop 1 payload.now))) × HasLength result (length payload.now) }
 {
-    let Some(start) = wire::field::read_u64(payload, 1) else {
-        return none();
-    };
-    let Some(end) = wire::field::read_u64(payload, 9) else {
-        return none();
-    };
-    let Some(server_time) = wire::field::read_i64(payload, 17) else {
-        return none();
-    };
+    let start = wire::field::read_u64(payload, 1)?;
+    let end = wire::field::read_u64(payload, 9)?;
+    let server_time = wire::field::read_i64(payload, 17)?;
     let n = payload.len();
     let given = event_at(payload, 25, n - 25, Lsn(start), Lsn(end), server_time);
     by_event(n, Lsn(end), given)
 }
 
 // Of the payload of a CopyData message.
-fn message(payload: &[u8]) -> AtHand
-    ensures { (result ≡ copy_data_at_hand payload.now) × (result.len ≤ length payload.now) }
+fn message(payload: &[u8]) -> Option<AtHand>
+    ensures { (hand_by result ≡ copy_data_at_hand payload.now) × HasLength result (length payload.now) }
 {
     if payload.len() == 0 {
-        return none();
+        return None;
     }
     if payload[0] == b'w' {
         return xlog_data(payload);
     }
-    none()
+    None
 }
 
-pub(crate) fn at_hand(unread: &[u8]) -> AtHand
-    ensures { (result ≡ at_hand_of unread.now) × (result.len ≤ length unread.now - 5) }
+pub(crate) fn at_hand(unread: &[u8]) -> Option<AtHand>
+    ensures { (hand_by result ≡ at_hand_of unread.now) × Holds result (length unread.now - 5) }
 {
-    let n = whole_at(unread);
-    if n == 0 {
-        return none();
-    }
+    let n = whole_at(unread)?;
     message(&unread[5..5 + n])
 }
 
@@ -177,7 +158,7 @@ fn has_room(run: Run, moment: Moment, payload_len: usize, out_len: usize, len: u
     false
 }
 
-// Whether four steps hand the message on.
+// Whether four steps hand the message on, where it has a payload.
 pub(crate) fn applies(
     run: Run,
     moment: Moment,
@@ -186,13 +167,10 @@ pub(crate) fn applies(
     out_len: usize,
     message: AtHand,
 ) -> bool
-    ensures { result ≡ applies_of run moment queue payload_len out_len message }
+    ensures { unless (message.len == 0) result ≡ applies_of run moment queue payload_len out_len message }
 {
     let len = message.len;
     let reached = message.reached;
-    if len == 0 {
-        return false;
-    }
     if is_free(queue) {
         if is_between(run) {
             if has_room(run, moment, payload_len, out_len, len) {

@@ -70,13 +70,14 @@ pub fn advance(run: Run, input: Input, unread: &[u8], payload: &mut [u8], out: &
     ensures { outcome_by result payload.new out.new
         ≡ advance_of run input (lent unread.now payload.old out.old) }
 {
-    let message = at_hand(unread);
     let moment = input.moment;
     let queue = input.queue;
-    if applies(run, moment, queue, payload.len(), out.len(), message) {
-        let taken = 5 + message.len;
-        wire::store::copy(payload, &unread[5..taken]);
-        return hands_on(run, moment, message, taken);
+    if let Some(message) = at_hand(unread) {
+        if applies(run, moment, queue, payload.len(), out.len(), message) {
+            let taken = 5 + message.len;
+            wire::store::copy(payload, &unread[5..taken]);
+            return hands_on(run, moment, message, taken);
+        }
     }
     four_steps(run, input, unread, payload, out)
 }

@@ -4,3 +4,4 @@ pub mod WholeFront
 pub mod Cases
 pub mod LimitLaws
 pub mod Said
+pub mod Length

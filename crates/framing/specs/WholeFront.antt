@@ -1,6 +1,7 @@
 -- How many of the unread bytes are one whole message within the limit, without a read. SCOPE 3.14; 01, "Messages".
-use Rattle.std.specs.Prelude.{◌≡◌, Bool, List, ℕ, ◌+◌, ◌≤◌, ◌<◌, length, take}
-use Rattle.wire.specs.Bytes.{at, put}
+use Rattle.std.specs.Prelude.{◌≡◌, Bool, List, ℕ, ◌+◌, ◌≤◌, ◌<◌, length, take, eqb}
+use Rattle.std.proofs.Math.Option.{Option, some, none}
+use Rattle.wire.specs.Bytes.{pick, at, put}
 use Rattle.frames.specs.Message.{Front, in_header, in_payload, bad_length, too_large, front_of}
 use Rattle.frames.specs.Message.{whole as whole_at}
 use Rattle.framing.specs.Read.{whole, limit_of, fresh, read_of}
@@ -16,6 +17,10 @@ whole_bytes (whole_at tag n) = 5 + n
 -- of unread bytes, with a setting of the limit
 unfoldable pub front_bytes : ℕ → List ℕ → ℕ
 front_bytes setting u = whole_bytes (front_of (limit_of setting) u)
+
+-- a number of bytes, or that there is no such message
+abbrev pub there : ℕ → Option ℕ
+there n = pick (eqb n 0) none (some n)
 
 -- by what a read with an empty reader does, for every buffer as long as the limit
 pub record FrontLaws : Type 0 where

@@ -1,34 +1,23 @@
 // How many of the unread bytes are one whole message, without a read: nothing is copied.
 ghost use Rattle.std.specs.Prelude.{◌≡◌, ◌≤◌, length};
-ghost use Rattle.framing.specs.WholeFront.{front_bytes};
+ghost use Rattle.wire.specs.Answer.{maybe, value_of};
+ghost use Rattle.framing.specs.WholeFront.{front_bytes, there};
 
-use crate::limit_of;
-use wire::field::FIRST_NEGATIVE_32;
+use crate::{limit_of, payload_len};
 
-const FIRST_NEGATIVE: usize = FIRST_NEGATIVE_32 as usize;
-
-// The bytes of the message at the front, header and payload, where it is whole and within the limit; else 0.
-pub fn front(max_message_size: usize, unread: &[u8]) -> usize
-    ensures { (result ≡ front_bytes max_message_size unread.now) × (result ≤ length unread.now) }
+// The bytes of the message at the front, header and payload, where it is whole and within the limit.
+pub fn front(max_message_size: usize, unread: &[u8]) -> Option<usize>
+    ensures { (maybe result ≡ there (front_bytes max_message_size unread.now)) × (value_of result ≤ length unread.now) }
 {
     if unread.len() < 5 {
-        return 0;
+        return None;
     }
-    let Some(n) = wire::field::read_u32(unread, 1) else {
-        return 0;
-    };
-    let n = n as usize;
-    if FIRST_NEGATIVE <= n {
-        return 0;
+    let len = payload_len(wire::field::read_u32(unread, 1)?)?;
+    if limit_of(max_message_size) < len {
+        return None;
     }
-    if n < 4 {
-        return 0;
+    if unread.len() - 5 < len {
+        return None;
     }
-    if limit_of(max_message_size) < n - 4 {
-        return 0;
-    }
-    if unread.len() < n + 1 {
-        return 0;
-    }
-    n + 1
+    Some(5 + len)
 }

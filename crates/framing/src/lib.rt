@@ -7,6 +7,8 @@ ghost use Rattle.std.specs.Prelude.{◌≡◌, ◌+◌, ◌-◌, ◌<◌, ◌≤
 ghost use Rattle.wire.specs.Bytes.{put};
 ghost use Rattle.frames.specs.Message.{length_field};
 ghost use Rattle.error.specs.Refusal.{number_of};
+ghost use Rattle.wire.specs.Answer.{maybe};
+ghost use Rattle.framing.specs.Length.{payload_length};
 ghost use Rattle.framing.specs.Read.{said_by, limit_of, fresh, shut, at_byte, unfinished, payload_of, judged_of, header_of, read_of};
 
 use error::Refusal;
@@ -112,6 +114,20 @@ fn length_of(header: &[u8; 5]) -> u32
     }
 }
 
+// The payload's length by a length field, None where that is negative or below 4.
+fn payload_len(field: u32) -> Option<usize>
+    ensures { maybe result ≡ payload_length field }
+{
+    let n = field as usize;
+    if FIRST_NEGATIVE <= n {
+        return None;
+    }
+    if n < 4 {
+        return None;
+    }
+    Some(n - 4)
+}
+
 // The header with the bytes written over it from `from` on.
 fn head_with(header: [u8; 5], from: usize, src: &[u8]) -> [u8; 5]
     requires { from + length src.now ≤ 5 }
@@ -167,29 +183,21 @@ fn judge(limit: usize, header: [u8; 5], unread: &[u8], payload: &mut [u8]) -> Re
     ensures { (said_by result.answer, result.reader, result.taken, payload.new)
         ≡ judged_of limit header unread.now payload.old }
 {
-    let n = length_of(&header) as usize;
-    if FIRST_NEGATIVE <= n {
+    let Some(len) = payload_len(length_of(&header)) else {
         return ReadStep {
             answer: Err(Refusal::InvalidLength),
             reader: MessageReader::new(),
             taken: 0,
         };
-    }
-    if n < 4 {
-        return ReadStep {
-            answer: Err(Refusal::InvalidLength),
-            reader: MessageReader::new(),
-            taken: 0,
-        };
-    }
-    if limit < n - 4 {
+    };
+    if limit < len {
         return ReadStep {
             answer: Err(Refusal::MessageTooLarge),
             reader: stopped(),
             taken: 0,
         };
     }
-    fill_payload(at_byte(header, 5, n - 4), unread, false, payload)
+    fill_payload(at_byte(header, 5, len), unread, false, payload)
 }
 
 // Takes the header bytes that the message lacks.

@@ -141,9 +141,9 @@ lie_fits room before own later new h =
     (λ f. let z : true ≡ false = h ∙ rw f in let y : ◌≡◌ {A = ℕ} 0 1 = cc in impossible y)
 
 -- room for the names of slot r, by its parts
-module _ (held r new : ℕ) (counts words names : List ℕ) (slots next place own later room : ℕ) (es : slots ≡ min held 64) (en : next ≡ min (r + 1) slots) (ep : place ≡ slot_lens counts words 0 r) (eo : own ≡ slot_lens counts words r (next - r)) (el : later ≡ slot_lens counts words next (slots - next)) (er : room ≡ min (length names) 129024) where
+module _ (held r new : ℕ) (ids counts words names : List ℕ) (slots next place own later room : ℕ) (es : slots ≡ min held 64) (en : next ≡ min (r + 1) slots) (ep : place ≡ slot_lens counts words 0 r) (eo : own ≡ slot_lens counts words r (next - r)) (el : later ≡ slot_lens counts words next (slots - next)) (er : room ≡ min (length names) 129024) where
   abbrev q : Packed
-  q = packed held [] counts (words_of words names)
+  q = packed held ids counts (words_of words names)
 
   next_is : next_slot q r ≡ next
   next_is = omega (arith, es, en)
@@ -175,10 +175,6 @@ module _ (held r new : ℕ) (counts words names : List ℕ) (slots next place ow
       let x : ◌≡◌ {A = Option ℕ × Words} (some place, words_of w n) (some place, moved q r new) =
       rw (gn, gw) (ap (λ (y : Words). (some place, y)) (sym moved_is)) in
       x ∙ rw (h, ep)
-
-pub same_room : (held r new : ℕ) (ids counts : List ℕ) (c : Words) → made_room (packed held [] counts c) r new ≡ made_room (packed held ids counts c) r new
-unfolding made_room
-same_room held r new ids counts c = refl
 
 -- ---- a column that is told
 
@@ -286,13 +282,13 @@ other_left p said e =
     both (ap (λ (x : Answer × Memory). x.0) (other_answered (common p) said e) ∙ ap answer_of (sym (same_answered p said e))) (left_alone p said e)
 
 -- the same of what the code reads, by the number that the cache gives
-pub read_left : (p : Packed) (said : Said) {x : Answer} → x ≡ answer_of said → none ≡ related_of x → {w : ℕ} → w ≡ head_judged (count_in (common p)) x
-    → (answer_as w x, p) ≡ message_of p said
-read_left p said e n g = rw (g, e) (other_left p said (rw e at n))
+pub read_left : (p : Packed) (said : Said) {h : ℕ} {i k : List ℕ} → h ≡ p.held → i ≡ p.ids → k ≡ p.counts → {x : Answer} → x ≡ answer_of said
+    → none ≡ related_of x → {w : ℕ} → w ≡ head_judged (count_held h i k) x → (answer_as w x, p) ≡ message_of p said
+read_left p said eh ei ek e n g = rw (g, eh, ei, ek, e) (other_left p said (rw e at n))
 
 -- data that are refused
 pub refused_left : (p : Packed) (said : Said) {n : ℕ} → refusal n ≡ answer_of said → (refusal n, p) ≡ message_of p said
-refused_left p said e = read_left p said e refl refl
+refused_left p said e = read_left p said refl refl refl e refl refl
 
 -- what a Relation is answered, by what is kept of it
 kept_answered : (p : Packed) (id : ℕ) (space v : List ℕ) (identity : ℕ) (cs : List Described)

@@ -1,4 +1,5 @@
 pub mod Laws
+pub mod Lent
 pub mod Packed
 pub mod PackedCases
 pub mod Seen

@@ -15,9 +15,11 @@ ghost use Rattle.relations.specs.Answers.{answer_by, column_by};
 ghost use Rattle.relations.specs.Memory.{count_held};
 ghost use Rattle.packed_relations.specs.Packed.{packed, words_of, emptied, message_of, column_told};
 
-use relations::find::count_of;
-use relations::{Column, Refused, relation_of, row_verdict};
+use find::Held;
+use relations::find::Slots;
+use relations::{Column, Refused};
 use rows::Row;
+use store::Cache;
 
 // No more bytes of the names are read or written.
 pub const NAMES: usize = 129024;
@@ -32,37 +34,27 @@ pub fn clear(held: &mut u64, ids: &mut [u32; 64], counts: &mut [u8; 64], words: 
     *words = [0; 2048];
 }
 
-// One message over slices.
-fn message_in(
-    held: &mut u64,
-    ids: &mut [u32],
-    counts: &mut [u8],
-    words: &mut [u64],
-    names: &mut [u8],
+// One message. The struct has one lifetime for all that is lent, which `message` cannot name: its parameters have one each.
+fn message_in<'a>(
+    held: &'a mut u64,
+    ids: &'a mut [u32],
+    counts: &'a mut [u8],
+    words: &'a mut [u64],
+    names: &'a mut [u8],
     bytes: &[u8],
 ) -> Result<Option<Row>, Refused>
     ensures { (answer_by result, packed held.new ids.new counts.new (words_of words.new names.new))
         ≡ message_of (packed held.old ids.old counts.old (words_of words.old names.old))
         (row_said bytes.now) }
 {
-    let row = rows::read_row(bytes)?;
-    let Some(relation) = relation_of(row) else {
-        let before = *held;
-        row_verdict(before, ids, counts, row)?;
-        return Ok(row);
-    };
-    store::keep(
+    let mut cache = Cache {
         held,
         ids,
         counts,
         words,
         names,
-        bytes,
-        relation.id,
-        relation.columns,
-        relation.from,
-    )?;
-    Ok(row)
+    };
+    cache.message(bytes)
 }
 
 // One message: its answer is what its data say, or a refusal. A Relation that is not refused is held from then on in place of the one with its
@@ -86,7 +78,7 @@ pub fn message(
 pub fn columns_held(held: u64, ids: &[u32; 64], counts: &[u8; 64], id: u32) -> Option<usize>
     ensures { maybe result ≡ count_held held ids.now counts.now id }
 {
-    count_of(held, ids, counts, id)
+    Slots { held, ids, counts }.count_of(id)
 }
 
 // Column `index` of a relation, if it is held and has so many. Of the names the length alone is read.
@@ -102,5 +94,11 @@ pub fn held_column(
     ensures { column_by result
         ≡ column_told (packed held ids.now counts.now (words_of words.now names.now)) id index }
 {
-    find::column_of(held, ids, counts, words, names, id, index)
+    let slots = Slots { held, ids, counts };
+    Held {
+        slots,
+        words,
+        names,
+    }
+    .column_of(id, index)
 }

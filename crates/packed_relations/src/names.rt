@@ -3,11 +3,11 @@ ghost use Rattle.std.specs.Prelude.{◌≡◌, true, ◌+◌, ◌*◌, ◌≤◌
 ghost use Rattle.wire.specs.Bytes.{at, put};
 ghost use Rattle.relations.specs.Cache.{names_fit};
 ghost use Rattle.relations.specs.Memory.{described_from};
-ghost use Rattle.packed_relations.specs.Packed.{len_of, lens_from, slot_lens, new_lens, word_at, place_words, place_slots};
+ghost use Rattle.packed_relations.specs.Packed.{len_of, lens_from, new_lens, lie_in, word_at, place_words};
 
-use relations::find::{count_at, element};
+use relations::NAME;
+use relations::find::element;
 use relations::store::set;
-use relations::{COLUMNS, NAME};
 use rows::items::description_at;
 
 // How long the name of a word is, 63 at most.
@@ -19,7 +19,7 @@ fn len_of(word: u64) -> usize
 }
 
 // The lengths of the names of n columns from column `first` on.
-fn lens_from(words: &[u64], first: usize, n: usize) -> usize
+pub(crate) fn lens_from(words: &[u64], first: usize, n: usize) -> usize
     requires { first + n ≤ 2048 }
     ensures { (result ≡ lens_from words.now first n) × (result ≤ 63 * n) }
 {
@@ -31,18 +31,25 @@ fn lens_from(words: &[u64], first: usize, n: usize) -> usize
     sum
 }
 
-// Those of the columns in n slots from slot `first` on.
-pub(crate) fn slot_lens(counts: &[u8], words: &[u64], first: usize, n: usize) -> usize
-    requires { first + n ≤ 64 }
-    ensures { (result ≡ slot_lens counts.now words.now first n) × (result ≤ 2016 * n) }
-{
-    let mut sum: usize = 0;
-    for k in 0..n {
-        let slot = first + k;
-        let count = count_at(counts, slot);
-        sum += lens_from(words, COLUMNS * slot, count);
+// How long names are together: those in slots before one, its own, and those in later slots.
+#[derive(Clone, Copy)]
+pub(crate) struct Lens {
+    pub(crate) before: usize,
+    pub(crate) own: usize,
+    pub(crate) later: usize,
+}
+
+impl Lens {
+    // Whether the names lie in so many bytes, and the same with a new length of the slot's own.
+    pub(crate) fn lie_in(self, room: usize, new: usize) -> bool
+        requires { (self.before + self.own + self.later ≤ 129024) × (new ≤ 2016) }
+        ensures { result ≡ lie_in room self.before self.own self.later new }
+    {
+        if room < self.before + self.own + self.later {
+            return false;
+        }
+        self.before + new + self.later <= room
     }
-    sum
 }
 
 // The lengths of the names of the n descriptions from a place on.
@@ -77,7 +84,7 @@ fn placed_word(word: u64, place: usize) -> u64
 }
 
 // The names of n columns from column `first` on stand from a place on, one after the other. The place behind them.
-fn place_words(words: &mut [u64], first: usize, n: usize, place: usize) -> usize
+pub(crate) fn place_words(words: &mut [u64], first: usize, n: usize, place: usize) -> usize
     requires { (first + n ≤ 2048) × (place + 63 * n ≤ 16777216) }
     ensures { (words.new ≡ place_words first n place words.old)
         × (result ≡ place + lens_from words.old first n) × (result ≤ place + 63 * n) }
@@ -90,19 +97,6 @@ fn place_words(words: &mut [u64], first: usize, n: usize, place: usize) -> usize
         at += len_of(word);
     }
     at
-}
-
-// Those of the columns in n slots from slot `first` on.
-pub(crate) fn place_slots(counts: &[u8], words: &mut [u64], first: usize, n: usize, place: usize)
-    requires { (first + n ≤ 64) × (place + 2016 * n ≤ 16777216) }
-    ensures { words.new ≡ place_slots counts.now first n place words.old }
-{
-    let mut at = place;
-    for k in 0..n {
-        let slot = first + k;
-        let count = count_at(counts, slot);
-        at = place_words(words, COLUMNS * slot, count, at);
-    }
 }
 
 // n bytes are moved down, the first one first.

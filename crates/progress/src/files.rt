@@ -10,7 +10,7 @@ use error::Kind;
 use lsn::Lsn;
 use moment::Moment;
 
-// The files are numbered from 0 to 3.
+// The files are numbered from 0 to 3. They are fields, no array: `FileCalls` names each, and so do the theorems over lists of calls.
 #[derive(Clone, Copy)]
 pub struct Files {
     pub zero: Lsn,

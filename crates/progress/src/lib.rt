@@ -9,7 +9,7 @@ ghost use Rattle.progress.specs.Progress.{cell, no_moment, cell_position, cell_p
 use lsn::Lsn;
 use moment::Moment;
 
-// A pending moment of 0 stands for none.
+// A pending moment of 0 stands for none, and is no `Option`: thm_any_calls `pending_since` has the moment itself.
 #[derive(Clone, Copy)]
 pub struct ProgressCell {
     pub applied: Lsn,

@@ -103,7 +103,7 @@ impl<'a> Reader<'a> {
     }
 }
 
-// ---- a reader at a place, moved by n bytes: who walks data has no reader of its own
+// ---- a reader at a place, moved by n bytes. Who walks data has the data and a place alone, and calls on a reader made anew at each field would be no plainer
 
 pub fn u8_after(bytes: &[u8], at: usize, n: usize) -> Option<u8>
     ensures { maybe result ≡ field_at 1 bytes.now (skipped bytes.now at n) }

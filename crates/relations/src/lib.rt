@@ -7,12 +7,9 @@ pub mod find;
 pub mod store;
 
 ghost use Rattle.std.specs.Prelude.{◌≡◌, Ok};
-ghost use Rattle.wire.specs.Answer.{maybe};
 ghost use Rattle.error.specs.Refusal.{kind_number};
 ghost use Rattle.relations.specs.declared.Refused.TheVariants.{Data, Cache};
-ghost use Rattle.relations.specs.Answers.{number_of, kind_of, refused_number, verdict_by, related_by, related_of, head_judged};
-ghost use Rattle.relations.specs.Memory.{count_held};
-ghost use Rattle.relations.specs.Cache.{matches, first_of};
+ghost use Rattle.relations.specs.Answers.{number_of, kind_of, refused_number, related_by, related_of};
 ghost use Rattle.rows.specs.Head.{answer_by as row_by};
 
 use error::Kind;
@@ -103,14 +100,6 @@ impl Refusal {
     }
 }
 
-// Both tuples of an Update are matched.
-fn both_matched(count: Option<usize>, old: usize, new: usize) -> Result<(), Refusal>
-    ensures { verdict_by result ≡ first_of (matches (maybe count) old) (matches (maybe count) new) }
-{
-    find::matched(count, old)?;
-    find::matched(count, new)
-}
-
 // A Relation's, of the rows.
 pub fn relation_of(row: Option<Row>) -> Option<Related>
     ensures { related_by result ≡ related_of (row_by (Ok row)) }
@@ -125,36 +114,5 @@ pub fn relation_of(row: Option<Row>) -> Option<Related>
             },
         ) => Some(Related { id, columns, from }),
         _ => None,
-    }
-}
-
-// The tuples of a row are matched with its relation.
-pub fn row_verdict(held: u64, ids: &[u32], counts: &[u8], row: Option<Row>) -> Result<(), Refusal>
-    ensures { verdict_by result ≡ head_judged (λ id. count_held held ids.now counts.now id) (row_by (Ok row)) }
-{
-    match row {
-        Some(Row::Insert { relation, new }) => {
-            find::matched(find::count_of(held, ids, counts, relation), new.columns)
-        }
-        Some(Row::Update { relation, new }) => {
-            find::matched(find::count_of(held, ids, counts, relation), new.columns)
-        }
-        Some(
-            Row::UpdateFrom {
-                relation,
-                old,
-                new,
-                ..
-            },
-        ) => both_matched(
-            find::count_of(held, ids, counts, relation),
-            old.columns,
-            new.columns,
-        ),
-        Some(Row::Delete { relation, old, .. }) => find::matched(
-            find::count_of(held, ids, counts, relation),
-            old.columns,
-        ),
-        _ => Ok(()),
     }
 }

@@ -43,6 +43,7 @@ fn read_be(s: &[u8], from: usize, n: usize) -> Option<u64>
     Some(load_be(bytes))
 }
 
+// A function for each width, each a line over the one above: an impl of a trait for a width, with its laws, would be no plainer.
 pub fn read_u8(s: &[u8], from: usize) -> Option<u8>
     ensures { maybe result ≡ field_at 1 s.now from }
 {
@@ -127,6 +128,7 @@ pub fn read_i64(s: &[u8], from: usize) -> Option<i64>
     Some(to_i64(read_be(s, from, 8)?))
 }
 
+// A function for each width here too, for the same reason.
 pub fn write_u8(dst: &mut [u8], to: usize, v: u8) -> usize
     ensures { (result, dst.new) ≡ placed dst.old to (be_bytes 1 v) }
 {

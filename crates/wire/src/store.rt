@@ -2,7 +2,8 @@
 ghost use Rattle.std.specs.Prelude.{◌≡◌, ◌+◌, ◌≤◌, min, length};
 ghost use Rattle.wire.specs.Bytes.{placed, copied, put, be_bytes};
 
-// What a function that places bytes answers where they do not fit. No slice is so long that this is a place in it.
+// What a function that places bytes answers where they do not fit. No slice is so long that this is a place in it. An `Option` would be no plainer:
+// a writer measures its text first and then places one piece after the other, and would have to match a `None` that cannot be.
 pub const NOWHERE: usize = 18446744073709551615;
 
 // As much of src as fits over the front of dst, and how much that is.

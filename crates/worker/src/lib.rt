@@ -24,6 +24,7 @@ pub struct Settings {
     pub status_interval: u64,
     pub idle_wakeup_interval: u64,
     pub max_message_size: usize,
+    // A flag beside the position, no `Option`: thm_any_calls `bounds_of` reads both fields.
     pub has_stop: bool,
     pub stop_at_lsn: Lsn,
     pub timing: bool,
@@ -53,6 +54,7 @@ pub enum Queue {
 // Parts begin at a place of the payload buffer.
 #[derive(Clone, Copy)]
 pub enum Event {
+    // No event is a case here, no `Option` around: the definitions under thm_any_calls name it.
     Nothing,
     KeepAlive {
         wal_end: Lsn,
@@ -117,6 +119,7 @@ pub struct Clock {
 // The last status: whether there was one, the position it confirmed, its moment.
 #[derive(Clone, Copy)]
 pub struct LastStatus {
+    // A flag beside the position, no `Option`: thm_any_calls `Seen` says both fields of every run.
     pub sent: bool,
     pub position: Lsn,
     pub at: Moment,

@@ -1,17 +1,21 @@
--- The length is judged in this order: negative, below 4, over the limit.
-use Rattle.framing.proofs.Laws.{length_negative, length_short, length_over, length_good}
+-- The length is judged first, and then held to the limit.
+use Rattle.wire.specs.Answer.{maybe}
+use Rattle.wire.proofs.FieldLaws.{told}
+use Rattle.framing.proofs.Laws.{length_over, length_good}
+use Rattle.framing.proofs.Length.{judged_bad}
+use Rattle.framing.proofs.Length as L
 use Rattle.framing.proofs.judge.Goals as goal
 
-pub returns-then-n-ge-FIRST_NEGATIVE : goal.returns-then-n-ge-FIRST_NEGATIVE
-returns-then-n-ge-FIRST_NEGATIVE c = length_negative _ _ _ _ _ c.length_of-n.ensures _ c.new.ensures c.if-n-ge-FIRST_NEGATIVE.true
+pub returns-in_default : goal.returns-in_default
+returns-in_default c = judged_bad _ _ _ _ _ c.length_of.ensures _ c.new.ensures (told maybe c.payload_len.ensures c.in_default.is)
 
-pub returns-then-n-lt4 : goal.returns-then-n-lt4
-returns-then-n-lt4 c = length_short _ _ _ _ _ c.length_of-n.ensures c.if-n-ge-FIRST_NEGATIVE.false _ c.new-then-n-lt4.ensures c.if-n-lt4.true
-
-pub returns-then-limit-n : goal.returns-then-limit-n
-returns-then-limit-n c =
-    length_over _ _ _ _ _ c.length_of-n.ensures c.if-n-ge-FIRST_NEGATIVE.false c.if-n-lt4.false _ c.stopped.ensures c.if-limit-n.true
+pub returns-then-limit-len : goal.returns-then-limit-len
+returns-then-limit-len c =
+    let g = L.length_good _ _ (told maybe c.payload_len.ensures c.in-Some.is) in
+    length_over _ _ _ _ _ c.length_of.ensures g.small g.least _ c.stopped.ensures (rw g.is at c.if-limit-len.true)
 
 pub returns : goal.returns
 returns c =
-    length_good _ _ _ _ _ c.length_of-n.ensures c.if-n-ge-FIRST_NEGATIVE.false c.if-n-lt4.false _ _ c.at_byte.ensures c.if-limit-n.false c.fill_payload.ensures
+    let g = L.length_good _ _ (told maybe c.payload_len.ensures c.in-Some.is) in
+    length_good _ _ _ _ _ c.length_of.ensures g.small g.least _ _ (rw g.is at c.at_byte.ensures) (rw g.is at c.if-limit-len.false)
+    c.fill_payload.ensures

@@ -1,7 +1,8 @@
-use mathlib.Core.Option.{Option, some, none}
-use Rattle.std.proofs.Common.{◌≡◌, ℕ, ◌∙◌, arith, le-ltb, lt-ltb}
+use Rattle.std.proofs.Common.{◌≡◌, ◌∙◌, arith, le-ltb, lt-ltb}
+use Rattle.wire.specs.Answer.{maybe}
 use Rattle.wire.specs.Bytes.{at, be}
-use Rattle.wire.proofs.FieldLaws.{field_whole}
+use Rattle.wire.proofs.FieldLaws.{told, field_whole}
+use Rattle.wire.proofs.Laws.{impossible}
 use Rattle.advance.specs.AtHand.{whole_at}
 use Rattle.advance.proofs.at_hand.whole_at.Goals as goal
 
@@ -9,20 +10,16 @@ pub returns-then-unread-lt30 : goal.returns-then-unread-lt30
 unfolding whole_at
 returns-then-unread-lt30 c = (rw (lt-ltb _ _ c.if-unread-lt30.true), omega arith)
 
-pub returns-in_default : goal.returns-in_default
-unfolding whole_at
-returns-in_default c =
+pub returns-in_err-n : goal.returns-in_err-n
+returns-in_err-n c =
     let u = c.args.unread.now in
-    let e : ◌≡◌ {A = Option ℕ} none (some (be (at u 1 4))) = (rw c.in_default.is at c.read_u32.ensures) ∙ field_whole 4 u 1 (omega arith) in
-    let z : ◌≡◌ {A = ℕ} 0 1 = cc e in
-    absurd (omega arith)
+    impossible (cc (told maybe c.read_u32.ensures c.in_err-n.was, field_whole 4 u 1 (omega arith)))
 
 pub returns-then-is_copy_data : goal.returns-then-is_copy_data
 unfolding whole_at
 returns-then-is_copy_data c =
     let u = c.args.unread.now in
-    let e : some c.in-Some.n ≡ some (be (at u 1 4)) = (rw c.in-Some.is at c.read_u32.ensures) ∙ field_whole 4 u 1 (omega arith) in
-    let v : c.in-Some.n ≡ be (at u 1 4) = cc e in (
+    let v : c.in_ok-n.n ≡ be (at u 1 4) = cc (told maybe c.read_u32.ensures c.in_ok-n.was, field_whole 4 u 1 (omega arith)) in (
       c.within.ensures.0 ∙ rw (
         v,
         le-ltb _ _ c.if-unread-lt30.false,

@@ -1,4 +1,4 @@
-use Rattle.std.proofs.Common.{arith, le-ltb, lt-ltb, le-leb}
+use Rattle.std.proofs.Common.{◌≡◌, ◌-◌, arith, le-ltb, lt-ltb, le-leb, ne_eqb}
 use borrow.Author.Tests.{lt-leb}
 use Rattle.advance.specs.AtHand.{within}
 use Rattle.advance.proofs.at_hand.within.Goals as goal
@@ -17,4 +17,6 @@ returns-then-unread-n c = (rw (le-ltb _ _ c.if-n-lt29.false, lt-leb _ _ c.if-n-g
 
 pub returns : goal.returns
 unfolding within
-returns c = (rw (le-ltb _ _ c.if-n-lt29.false, lt-leb _ _ c.if-n-ge-FIRST_NEGATIVE.false, le-ltb _ _ c.if-unread-n.false), omega arith)
+returns c =
+    let z : (c.args.n - 4 ≡ 0) → ⊥ = λ q. omega arith in
+    (rw (le-ltb _ _ c.if-n-lt29.false, lt-leb _ _ c.if-n-ge-FIRST_NEGATIVE.false, le-ltb _ _ c.if-unread-n.false, ne_eqb _ _ z), omega arith)
