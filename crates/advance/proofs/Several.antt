@@ -88,6 +88,12 @@ four r i l =
     (λ t. ap (one_more i u) (more_told i u o t) ∙ (more_told i u o t ∙ sym (twice_told (twice step_of) r i l t)))
     (λ t. ap (one_more i u) (more_quiet i u o b t) ∙ (part i l o b ∙ sym (twice_quiet (twice step_of) r i l t)))
 
+-- a first step that tells something is the last
+pub first_told : (r : Run) (i : Input) (l : Lent) → tells (step_of r i l) ≡ true → step_of r i l ≡ advance_of r i l
+first_told r i l t =
+    let e : twice step_of r i l ≡ step_of r i l = twice_told step_of r i l t in
+    sym (twice_told (twice step_of) r i l (ap tells e ∙ t) ∙ e)
+
 -- ---- a message at hand
 
 module _ (r : Run) (i : Input) (u p o : List ℕ) {a : AtHand} {b : Bool} (is : a ≡ at_hand_of u)

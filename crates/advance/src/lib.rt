@@ -60,6 +60,10 @@ fn four_steps(run: Run, input: Input, unread: &[u8], payload: &mut [u8], out: &m
         ≡ advance_of run input (lent unread.now payload.old out.old) }
 {
     let first = step(run, input, unread, payload, out);
+    // `one_more` would hand it on three times, and each time copy it.
+    if tells(first) {
+        return first;
+    }
     let second = one_more(first, input, unread, payload, out);
     let third = one_more(second, input, unread, payload, out);
     one_more(third, input, unread, payload, out)

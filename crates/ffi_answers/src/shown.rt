@@ -13,11 +13,13 @@ pub fn page_of(w: [u64; layout::RUN_WORDS]) -> Page
 {
     let progress = progress_of(w);
     let position = progress.position();
-    let confirmed = run_page::confirmed(last_status_of(w));
+    let status = last_status_of(w);
+    let confirmed = status.position;
     let metrics = metrics_of(w);
     let state = state_of(w[layout::RUN_STATE]);
     Page {
         position,
+        sent: status.sent,
         confirmed,
         server: Lsn(w[layout::RUN_SERVER]),
         events: metrics.events_forwarded,

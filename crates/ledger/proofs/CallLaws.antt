@@ -1,6 +1,5 @@
 -- Each way through a call, of its definition.
 use mathlib.Core.Path.{◌≡◌, sym, ap, ◌∙◌}
-use native.Mathlib.Omega.{arith}
 use mathlib.Core.Bool.{Bool, true, false}
 use mathlib.Core.List.{List}
 use Prim.Native.Nat.{ℕ, ◌<◌, ◌≤◌, min}
@@ -9,40 +8,28 @@ use borrow.Author.Tests.{eq-eqb, ne_eqb, le-leb, lt-leb, lt-ltb, le-ltb}
 use Rattle.touched.specs.Words.{touched_call}
 use Rattle.ledger.specs.declared.Ledger.{Ledger}
 use Rattle.ledger.specs.declared.Answer.{Answer}
-use Rattle.ledger.specs.declared.LedgerRefusal.{LedgerRefusal}
-use Rattle.std.specs.Prelude.{Option as Maybe, Some, None}
-use Rattle.progress.specs.Files.{file_number}
-use Rattle.progress.specs.declared.files.FileRefusal.{FileRefusal}
-use Rattle.progress.specs.declared.files.FileRefusal.TheVariants.{NoSuchFile}
-use Rattle.ledger.specs.Ledger.{Left, ledger_number, verdict_by, mark_of, cap_of, slot_of, entry, entry_in, stable_of, fitted_of, settled_of, answer_by, answered, refused_answer, refused_with}
+use Rattle.ledger.specs.Ledger.{Left, cap_of, slot_of, entry, entry_in, stable_of, fitted_of, settled_of, answer_by, answered, refused_answer, refused_with}
 use Rattle.ledger.specs.Ledger.{with_transaction, with_seen, with_entry, kept_of, entry_told, commit_touches, kind_told, list_told, tell_of, raised_in, all_raised}
 use Rattle.ledger.specs.Ledger.{done_refusal, done_of, all_done_of, answer_from, answer_of}
 
 -- ---- what an answer says, beside a ring
 
-pub refused_left : (a : Answer) (r : LedgerRefusal) (l : Ledger) (ring : List ℕ) → answer_by a ≡ refused_answer r l
-    → ◌≡◌ {A = Left} (verdict_by a.verdict, a.ledger, ring) (ledger_number r, refused_with r l, ring)
-refused_left a r l ring h = ap (λ (x : ℕ × Ledger). (x.0, x.1, ring)) h
-
--- no refusal has the number 0
-pub numbered : (r : LedgerRefusal) → ledger_number r ≡ 0 → ⊥
-numbered (LedgerRefusal.File NoSuchFile) h = omega (arith, h)
-numbered LedgerRefusal.EndNotAbove h = omega (arith, h)
-numbered LedgerRefusal.AboveHandedOn h = omega (arith, h)
-numbered LedgerRefusal.NoRoom h = omega (arith, h)
+pub refused_left : (a : Answer) (n m : ℕ) (l : Ledger) (ring : List ℕ) → n ≡ m → answer_by a ≡ refused_answer n l
+    → ◌≡◌ {A = Left} (a.refusal, a.ledger, ring) (m, refused_with m l, ring)
+refused_left a n m l ring e h = ap (λ (x : ℕ × Ledger). (x.0, x.1, ring)) (h ∙ ap (λ (k : ℕ). refused_answer k l) e)
 
 pub answered_left : (a : Answer) (n : ℕ) (l m : Ledger) (ring : List ℕ) → l ≡ m → answer_by a ≡ answered n l
-    → ◌≡◌ {A = Left} (verdict_by a.verdict, a.ledger, ring) (n, m, ring)
+    → ◌≡◌ {A = Left} (a.refusal, a.ledger, ring) (n, m, ring)
 answered_left a n l m ring e h = ap (λ (x : ℕ × Ledger). (x.0, x.1, ring)) (h ∙ ap (λ (k : Ledger). answered n k) e)
 
 -- ---- an entry
 
 module _ (o : Bool) (b p t : ℕ) (l : Ledger) (ring : List ℕ) where
-  pub entry_below : p ≤ l.seen → entry_told o b p t l ring ≡ (36, refused_with LedgerRefusal.EndNotAbove l, ring)
+  pub entry_below : p ≤ l.seen → entry_told o b p t l ring ≡ (36, refused_with 36 l, ring)
   unfolding entry_told
   entry_below h = simp (le-leb _ _ h)
 
-  pub entry_full : l.seen < p → (n : ℕ) → n ≡ cap_of (length ring) → n ≤ l.count → entry_told o b p t l ring ≡ (38, refused_with LedgerRefusal.NoRoom l, ring)
+  pub entry_full : l.seen < p → (n : ℕ) → n ≡ cap_of (length ring) → n ≤ l.count → entry_told o b p t l ring ≡ (38, refused_with 38 l, ring)
   unfolding entry_told
   entry_full h n e k = rw (← e) (simp (lt-leb _ _ h, le-leb _ _ k))
 
@@ -90,7 +77,7 @@ module _ (listed kind p bits : ℕ) (l : Ledger) (ring : List ℕ) where
 -- ---- an event with its data
 
 module _ (a b listed kind p : ℕ) (l : Ledger) (ring : List ℕ) where
-  list_refused : (a ≡ 0 → ⊥) → list_told (a, b) listed kind p l ring ≡ (a, refused_with (LedgerRefusal.File NoSuchFile) l, ring)
+  list_refused : (a ≡ 0 → ⊥) → list_told (a, b) listed kind p l ring ≡ (a, refused_with a l, ring)
   unfolding list_told
   list_refused h = simp (ne_eqb _ _ h)
 
@@ -100,26 +87,17 @@ module _ (a b listed kind p : ℕ) (l : Ledger) (ring : List ℕ) where
 
 module _ (ids fs : List ℕ) (kind p : ℕ) (s : List ℕ) (l₀ : Ledger) (ring : List ℕ) (n : ℕ) (l : Ledger) (en : n ≡ cap_of (length ring))
     (el : l ≡ fitted_of n l₀) where
-  pub tell_marked : (mark_of l.refusal ≡ 0 → ⊥) → tell_of ids fs kind p s l₀ ring ≡ (mark_of l.refusal, l, ring)
+  pub tell_marked : (l.refusal ≡ 0 → ⊥) → tell_of ids fs kind p s l₀ ring ≡ (l.refusal, l, ring)
   unfolding tell_of
   tell_marked h = rw (← en, ← el) (simp (ne_eqb _ _ h))
 
-  pub tell_refused : mark_of l.refusal ≡ 0 → (a b : ℕ) → ◌≡◌ {A = ℕ × ℕ} (a, b) (touched_call ids fs kind s l.touched) → (a ≡ 0 → ⊥)
-      → tell_of ids fs kind p s l₀ ring ≡ (a, refused_with (LedgerRefusal.File NoSuchFile) l, ring)
+  pub tell_refused : l.refusal ≡ 0 → (a b : ℕ) → ◌≡◌ {A = ℕ × ℕ} (a, b) (touched_call ids fs kind s l.touched) → (a ≡ 0 → ⊥)
+      → tell_of ids fs kind p s l₀ ring ≡ (a, refused_with a l, ring)
   unfolding tell_of
   tell_refused h a b et k =
       rw (← en, ← el) (simp (eq-eqb _ _ h) (ap (λ (t : ℕ × ℕ). list_told t (min (length ids) (length fs)) kind p l ring) (sym et) ∙ list_refused a b _ kind p l ring k))
 
-  -- the same of the code's own mark, and of the list's own refusal
-  pub tell_marked_by : (r : LedgerRefusal) → l.refusal ≡ Some r → tell_of ids fs kind p s l₀ ring ≡ (ledger_number r, l, ring)
-  tell_marked_by r e =
-      tell_marked (λ z. numbered r (sym (ap mark_of e) ∙ z)) ∙ ap (λ (m : Maybe LedgerRefusal). (mark_of m, l, ring)) e
-
-  pub tell_refused_by : l.refusal ≡ None → (r : FileRefusal) (b : ℕ) → ◌≡◌ {A = ℕ × ℕ} (file_number r, b) (touched_call ids fs kind s l.touched)
-      → tell_of ids fs kind p s l₀ ring ≡ (file_number r, refused_with (LedgerRefusal.File r) l, ring)
-  tell_refused_by e NoSuchFile b et = tell_refused (ap mark_of e) 31 b et (numbered (LedgerRefusal.File NoSuchFile))
-
-  pub tell_kind : mark_of l.refusal ≡ 0 → (a b m : ℕ) → ◌≡◌ {A = ℕ × ℕ} (a, b) (touched_call ids fs kind s l.touched) → a ≡ 0
+  pub tell_kind : l.refusal ≡ 0 → (a b m : ℕ) → ◌≡◌ {A = ℕ × ℕ} (a, b) (touched_call ids fs kind s l.touched) → a ≡ 0
       → m ≡ min (length ids) (length fs) → tell_of ids fs kind p s l₀ ring ≡ kind_told m kind p b l ring
   unfolding tell_of
   tell_kind h a b m et k em =

@@ -13,8 +13,6 @@ use Rattle.touched.specs.Touched.{paired, entries_of, has_no_file, is_among}
 use Rattle.touched.specs.Bits.{bits_of}
 use Rattle.touched.specs.Walk.{since_begin, all_changed}
 use Rattle.ledger.specs.declared.Ledger.{Ledger}
-use Rattle.ledger.specs.declared.LedgerRefusal.{LedgerRefusal}
-use Rattle.progress.specs.declared.files.FileRefusal.TheVariants.{NoSuchFile}
 use Rattle.ledger.specs.Ledger.{Left, cap_of, entry, fitted_of, first_of, with_done, refused_with, entry_told, commit_touches, kind_told, with_transaction}
 use Rattle.ledger.specs.Ledger.{done_refusal, raised_in, all_raised, room_of, settled_of}
 use Rattle.ledger.specs.History.{Event, keepalive, begin, commit, message, other, stopped, Call, streams, tells, does, does_all, History}
@@ -64,10 +62,10 @@ module _ (p : ℕ) (ids fs : List ℕ) (h : History) (l : Ledger) (ring : List �
       (λ s. by_order l.count cap
       (λ k. called_by 0 _ _ _ (rw (lt-leb q (seen_in h) (rw st.seen at s), held_count, lt-leb cap l.count k)) (entry_kept o b q t l ring s cap refl k)
       (record { answer = kept_answer o b q t l ring; memory = kept_length o b q t l ring; stands = told_entry st e o b q t s k eo refl et el ee }))
-      (λ k. called_by 38 _ (38, refused_with LedgerRefusal.NoRoom l, ring) _ (rw (lt-leb q (seen_in h) (rw st.seen at s), held_count, le-leb cap l.count k))
-      (entry_full o b q t l ring s cap refl k) (record { answer = refl; memory = refl; stands = marked st LedgerRefusal.NoRoom })))
-      (λ s. called_by 36 _ (36, refused_with LedgerRefusal.EndNotAbove l, ring) _ (rw (le-leb q (seen_in h) (rw st.seen at s))) (entry_below o b q t l ring s)
-      (record { answer = refl; memory = refl; stands = marked st LedgerRefusal.EndNotAbove }))
+      (λ k. called_by 38 _ (38, refused_with 38 l, ring) _ (rw (lt-leb q (seen_in h) (rw st.seen at s), held_count, le-leb cap l.count k))
+      (entry_full o b q t l ring s cap refl k) (record { answer = refl; memory = refl; stands = marked st 38 })))
+      (λ s. called_by 36 _ (36, refused_with 36 l, ring) _ (rw (le-leb q (seen_in h) (rw st.seen at s))) (entry_below o b q t l ring s)
+      (record { answer = refl; memory = refl; stands = marked st 36 }))
 
   seen_same : (e : Event) → seen_in (tells e ∷ h) ≡ seen_in h → l.seen ≡ seen_in (tells e ∷ h)
   seen_same e i = st.seen ∙ sym i
@@ -162,10 +160,10 @@ module _ (p : ℕ) (ids fs : List ℕ) (h : History) (l : Ledger) (ring : List �
   unfolding call_on refusal_in
   tell_called e =
       by_test (has_no_file es)
-      (λ n. called_by 31 _ (31, refused_with (LedgerRefusal.File NoSuchFile) l, ring) _ (rw n)
+      (λ n. called_by 31 _ (31, refused_with 31 l, ring) _ (rw n)
       (tell_refused ids fs (kind_by e) (position_by e) (data_by e) l ring cap l refl fit st.refusal 31 l.touched
       (touched_refused ids fs (kind_by e) l.touched (data_by e) n) (λ z. omega arith))
-      (record { answer = refl; memory = refl; stands = marked st (LedgerRefusal.File NoSuchFile) }))
+      (record { answer = refl; memory = refl; stands = marked st 31 }))
       (λ n. called_by (event_refusal p es cap e h) _ _ _ (rw n)
       (tell_kind ids fs (kind_by e) (position_by e) (data_by e) l ring cap l refl fit st.refusal 0 (walked_in es (tells e ∷ h))
       (min (length ids) (length fs)) (touched_told ids fs h e l.touched n st.touched) refl refl)

@@ -18,8 +18,7 @@ use Rattle.touched.proofs.Walk.{left_is_the_walk}
 use Rattle.ledger.specs.declared.Ledger.{Ledger}
 use Rattle.ledger.specs.declared.Entry.{Entry}
 use Rattle.ledger.specs.Ledger.{cap_of, slot_of, entry, entry_in, ledger, with_done, stable_of, file_done, settled_of, undone_for, undone_some}
-use Rattle.ledger.specs.declared.LedgerRefusal.{LedgerRefusal}
-use Rattle.ledger.specs.Ledger.{ledger_number, refused_with, with_entry, kept_of}
+use Rattle.ledger.specs.Ledger.{refused_with, with_entry, kept_of}
 use Rattle.ledger.specs.History.{Event, keepalive, begin, commit, message, other, stopped, Call, streams, tells, does, does_all, History}
 use Rattle.ledger.specs.History.{start_in, open_in, seen_in, stable_in, largest_in, done_in, told_in, walked_in, entries_in, entries_after, held_now, from_held}
 use Rattle.ledger.specs.History.{held_in, undone_now}
@@ -115,8 +114,8 @@ module _ {p mark : ℕ} {es : List (ℕ × ℕ)} {h : History} {l : Ledger} {rin
       }
 
   -- an event that is refused
-  pub marked : (r : LedgerRefusal) → Stands p es (ledger_number r) h (refused_with r l) ring
-  marked r =
+  pub marked : (n : ℕ) → Stands p es n h (refused_with n l) ring
+  marked n =
       record {
         start = st.start;
         seen = st.seen;

@@ -1,10 +1,9 @@
 -- A ledger's calls, over what it holds and its ring of entries in lent words. SCOPE 19.
-use Rattle.std.specs.Prelude.{Bool, true, false, List, ℕ, zero, suc, ◌+◌, ◌*◌, ◌-◌, ◌/◌, ◌%◌, min, max, length, get_or, set, eqb, ltb, leb, Option as Maybe, Some, None, Result, Ok, Err}
+use Rattle.std.specs.Prelude.{Bool, true, false, List, ℕ, zero, suc, ◌+◌, ◌*◌, ◌-◌, ◌/◌, ◌%◌, min, max, length, get_or, set, eqb, ltb, leb, Result, Ok, Err}
 use Rattle.wire.specs.Bytes.{pick}
 use Rattle.error.specs.Refusal.{usage, protocol}
 use Rattle.progress.specs.declared.files.FileRefusal.{FileRefusal}
-use Rattle.progress.specs.declared.files.FileRefusal.TheVariants.{NoSuchFile}
-use Rattle.progress.specs.Files.{no_file, file_number, file_kind}
+use Rattle.progress.specs.Files.{no_file, file_number}
 use Rattle.touched.specs.Words.{touched_call}
 use Rattle.ledger.specs.declared.Ledger.{Ledger}
 use Rattle.ledger.specs.declared.Entry.{Entry}
@@ -14,27 +13,15 @@ use Rattle.ledger.specs.declared.Answer.{Answer}
 -- ---- refusals
 
 abbrev pub ledger_number : LedgerRefusal → ℕ
-ledger_number (LedgerRefusal.File r) = file_number r
 ledger_number LedgerRefusal.EndNotAbove = 36
 ledger_number LedgerRefusal.AboveHandedOn = 37
 ledger_number LedgerRefusal.NoRoom = 38
 
 -- an end that goes back is the server's; the others are the caller's own input
 abbrev pub ledger_kind : LedgerRefusal → ℕ
-ledger_kind (LedgerRefusal.File r) = file_kind r
 ledger_kind LedgerRefusal.EndNotAbove = protocol
 ledger_kind LedgerRefusal.AboveHandedOn = usage
 ledger_kind LedgerRefusal.NoRoom = usage
-
--- the number of a verdict, 0 where the call was accepted
-abbrev pub verdict_by : Result (Unit {0}) LedgerRefusal → ℕ
-verdict_by (Ok u) = 0
-verdict_by (Err r) = ledger_number r
-
--- the number with which a stream refuses every call, 0 for none
-abbrev pub mark_of : Maybe LedgerRefusal → ℕ
-mark_of None = 0
-mark_of (Some r) = ledger_number r
 
 -- ---- the ring: three words an entry, in memory of any length
 
@@ -67,7 +54,7 @@ entry_in ring slot e =
 
 -- ---- what a ledger holds
 
-abbrev pub ledger : ℕ → ℕ → ℕ → ℕ → ℕ → ℕ → ℕ → Bool → ℕ → Maybe LedgerRefusal → ℕ → ℕ → Ledger
+abbrev pub ledger : ℕ → ℕ → ℕ → ℕ → ℕ → ℕ → ℕ → Bool → ℕ → ℕ → ℕ → ℕ → Ledger
 ledger start seen a b c d largest opened touched refusal front count =
     record {
       start = start;
@@ -86,10 +73,10 @@ ledger start seen a b c d largest opened touched refusal front count =
 
 -- the first stream of a slot, asked from a start, and a further one, which keeps what is done
 abbrev pub first_of : ℕ → Ledger
-first_of p = ledger p 0 p p p p 0 false 0 None 0 0
+first_of p = ledger p 0 p p p p 0 false 0 0 0 0
 
 abbrev pub stream_of : ℕ → Ledger → Ledger
-stream_of p l = ledger p 0 l.zero l.one l.two l.three l.largest false 0 None 0 0
+stream_of p l = ledger p 0 l.zero l.one l.two l.three l.largest false 0 0 0 0
 
 abbrev pub larger : ℕ → ℕ → ℕ
 larger a b = max a b
@@ -139,16 +126,16 @@ settled_of ring l = let w : ℕ × ℕ = settled_from ring l l.front l.count in 
 -- ---- telling an event
 
 -- an event is refused: nothing changes but the mark, with which every call on this stream is refused from then on
-abbrev pub refused_with : LedgerRefusal → Ledger → Ledger
-refused_with r l =
-    ledger l.start l.seen l.zero l.one l.two l.three l.largest l.opened l.touched (Some r) l.front l.count
+abbrev pub refused_with : ℕ → Ledger → Ledger
+refused_with n l =
+    ledger l.start l.seen l.zero l.one l.two l.three l.largest l.opened l.touched n l.front l.count
 
 -- what an answer of the code says
 abbrev pub answer_by : Answer → ℕ × Ledger
-answer_by a = (verdict_by a.verdict, a.ledger)
+answer_by a = (a.refusal, a.ledger)
 
-abbrev pub refused_answer : LedgerRefusal → Ledger → ℕ × Ledger
-refused_answer r l = (ledger_number r, refused_with r l)
+abbrev pub refused_answer : ℕ → Ledger → ℕ × Ledger
+refused_answer n l = (n, refused_with n l)
 
 abbrev pub answered : ℕ → Ledger → ℕ × Ledger
 answered n l = (n, l)
@@ -184,8 +171,8 @@ kept_of opened bits p touched l ring =
 -- 36 for an end that is not above what was seen, 38 without room; else it is kept
 unfoldable pub entry_told : Bool → ℕ → ℕ → ℕ → Ledger → List ℕ → Left
 entry_told opened bits p touched l ring =
-    pick (leb p l.seen) (36, refused_with LedgerRefusal.EndNotAbove l, ring)
-    (pick (leb (cap_of (length ring)) l.count) (38, refused_with LedgerRefusal.NoRoom l, ring) (kept_of opened bits p touched l ring))
+    pick (leb p l.seen) (36, refused_with 36 l, ring)
+    (pick (leb (cap_of (length ring)) l.count) (38, refused_with 38 l, ring) (kept_of opened bits p touched l ring))
 
 -- the files that a Commit touches: all four where there is no list
 unfoldable pub commit_touches : ℕ → ℕ → ℕ
@@ -203,14 +190,14 @@ kind_told listed kind p bits l ring =
 
 -- where the list is refused, nothing more is looked at
 unfoldable pub list_told : ℕ × ℕ → ℕ → ℕ → ℕ → Ledger → List ℕ → Left
-list_told t listed kind p l ring = pick (eqb t.0 0) (kind_told listed kind p t.1 l ring) (t.0, refused_with (LedgerRefusal.File NoSuchFile) l, ring)
+list_told t listed kind p l ring = pick (eqb t.0 0) (kind_told listed kind p t.1 l ring) (t.0, refused_with t.0 l, ring)
 
 -- an event with its data, and the list of relations and their files
 unfoldable pub tell_of : List ℕ → List ℕ → ℕ → ℕ → List ℕ → Ledger → List ℕ → Left
 tell_of ids fs kind p s l₀ ring =
     let l : Ledger = fitted_of (cap_of (length ring)) l₀ in
-    pick (eqb (mark_of l.refusal) 0) (list_told (touched_call ids fs kind s l.touched) (min (length ids) (length fs)) kind p l ring)
-    (mark_of l.refusal, l, ring)
+    pick (eqb l.refusal 0) (list_told (touched_call ids fs kind s l.touched) (min (length ids) (length fs)) kind p l ring)
+    (l.refusal, l, ring)
 
 -- ---- what is done
 
@@ -231,7 +218,7 @@ all_raised p l = with_done (larger l.zero p) (larger l.one p) (larger l.two p) (
 
 -- why a file is not done up to p: the stream's mark, 31 for a file above 3, 37 above every entry told; 0 where it may be
 unfoldable pub done_refusal : ℕ → ℕ → Ledger → ℕ
-done_refusal f p l = pick (eqb (mark_of l.refusal) 0) (pick (no_file f) 31 (pick (ltb l.largest p) 37 0)) (mark_of l.refusal)
+done_refusal f p l = pick (eqb l.refusal 0) (pick (no_file f) 31 (pick (ltb l.largest p) 37 0)) l.refusal
 
 -- what is done, for one file, and for all four: the refusal's number, 0 for none, and the ledger
 unfoldable pub done_of : ℕ → ℕ → Ledger → List ℕ → ℕ × Ledger

@@ -4,7 +4,7 @@ use Rattle.wire.specs.Bytes.{pick}
 use Rattle.touched.specs.Touched.{entries_of}
 use Rattle.ledger.specs.declared.Ledger.{Ledger}
 use Rattle.ledger.specs.declared.Entry.{Entry}
-use Rattle.ledger.specs.Ledger.{Left, cap_of, next_of, entry_at, first_of, stream_of, mark_of, tell_of, done_of, all_done_of, answer_of, room_of}
+use Rattle.ledger.specs.Ledger.{Left, cap_of, next_of, entry_at, first_of, stream_of, tell_of, done_of, all_done_of, answer_of, room_of}
 use Rattle.ledger.specs.History.{Event, keepalive, begin, commit, message, other, stopped, Call, streams, tells, does, does_all, History}
 use Rattle.ledger.specs.History.{start_in, open_in, seen_in, largest_in, done_in, walked_in, held_in, answer_in, refusal_in}
 
@@ -99,7 +99,7 @@ pub record Stands (p : ℕ) (es : List (ℕ × ℕ)) (mark : ℕ) (h : History) 
   pub largest : l.largest ≡ largest_in h
   pub opened : l.opened ≡ open_in h
   pub touched : l.touched ≡ walked_in es h
-  pub refusal : mark_of l.refusal ≡ mark
+  pub refusal : l.refusal ≡ mark
   pub fits : Fits (cap_of (length ring)) l.front
   pub within : l.count ≤ cap_of (length ring)
   pub held : ring_from ring l.front l.count ≡ held_in p es h

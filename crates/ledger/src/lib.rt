@@ -6,7 +6,7 @@ ghost use Rattle.error.specs.Refusal.{kind_number};
 ghost use Rattle.ledger.specs.Ledger.{ledger_number, ledger_kind, cap_of, next_of, entry_at, entry_in, bit_for, larger, file_done, stable_of, undone_in};
 ghost use Rattle.ledger.specs.Ledger.{undone_some, with_ring, settled_of, fitted_of, first_of, stream_of, slot_of};
 ghost use Rattle.ledger.specs.Ledger.{answer_by, answered, refused_answer, with_entry, with_transaction, with_seen, entry_told, commit_touches, kind_told};
-ghost use Rattle.ledger.specs.Ledger.{verdict_by, raised_in, all_raised, done_refusal, answer_from, tell_of, done_of, all_done_of, position_by, answer_of, room_of};
+ghost use Rattle.ledger.specs.Ledger.{raised_in, all_raised, done_refusal, answer_from, tell_of, done_of, all_done_of, position_by, answer_of, room_of};
 
 use error::Kind;
 use progress::files::{FileRefusal, LAST_FILE};
@@ -23,7 +23,8 @@ pub const MESSAGE: u64 = 4;
 // The bits of all four files.
 pub const ALL_FILES: u64 = 15;
 
-// What a ledger holds beside its ring.
+// What a ledger holds beside its ring. The refusal is a number, since any words are those of some ledger: the theorems `OneCall` and `Asked` speak of every
+// number.
 #[derive(Clone, Copy)]
 pub struct Ledger {
     pub start: u64,
@@ -35,7 +36,7 @@ pub struct Ledger {
     pub largest: u64, // the largest end of an entry, in all streams
     pub opened: bool, // whether a transaction is open
     pub touched: u64, // the files that the rows since the last Begin touch
-    pub refusal: Option<LedgerRefusal>, // why an event of this stream was refused
+    pub refusal: u64, // the number with which an event of this stream was refused, or 0
     pub front: usize, // the first entry's slot in the ring
     pub count: usize,
 }
@@ -51,17 +52,16 @@ pub struct Entry {
 // Why a call is refused.
 #[derive(Clone, Copy)]
 pub enum LedgerRefusal {
-    File(FileRefusal), // the list, or the caller, names a file that is none
     EndNotAbove, // an entry's end is not above what was told before it
     AboveHandedOn, // what is done lies above every entry told
     NoRoom, // the ring is full
 }
 
-// The ledger after a call, and whether the call was accepted.
+// The ledger after a call, and the refusal's number, 0 for none: a number, since a stream's mark is answered whatever number it is.
 #[derive(Clone, Copy)]
 pub struct Answer {
     pub ledger: Ledger,
-    pub verdict: Result<(), LedgerRefusal>,
+    pub refusal: u64,
 }
 
 fn larger(a: u64, b: u64) -> u64
@@ -167,7 +167,6 @@ impl LedgerRefusal {
         ensures { result ≡ ledger_number self }
     {
         match self {
-            LedgerRefusal::File(r) => r.number() as u64,
             LedgerRefusal::EndNotAbove => 36,
             LedgerRefusal::AboveHandedOn => 37,
             LedgerRefusal::NoRoom => 38,
@@ -179,7 +178,6 @@ impl LedgerRefusal {
         ensures { kind_number result ≡ ledger_kind self }
     {
         match self {
-            LedgerRefusal::File(r) => r.kind(),
             LedgerRefusal::EndNotAbove => Kind::Protocol,
             LedgerRefusal::AboveHandedOn => Kind::Usage,
             LedgerRefusal::NoRoom => Kind::Usage,
@@ -202,7 +200,7 @@ impl Ledger {
             largest: 0,
             opened: false,
             touched: 0,
-            refusal: None,
+            refusal: 0,
             front: 0,
             count: 0,
         }
@@ -222,7 +220,7 @@ impl Ledger {
             largest: self.largest,
             opened: false,
             touched: 0,
-            refusal: None,
+            refusal: 0,
             front: 0,
             count: 0,
         }
@@ -319,12 +317,12 @@ impl Ledger {
     }
 
     // The mark with which every call on this stream is refused from now on.
-    fn refused(self, refusal: LedgerRefusal) -> Answer
-        ensures { answer_by result ≡ refused_answer refusal self }
+    fn refused(self, number: u64) -> Answer
+        ensures { answer_by result ≡ refused_answer number self }
     {
         let mut after = self;
-        after.refusal = Some(refusal);
-        with_verdict(after, Err(refusal))
+        after.refusal = number;
+        with_refusal(after, number)
     }
 
     // With one entry more.
@@ -350,14 +348,14 @@ impl Ledger {
         position: u64,
         touched: u64,
     ) -> Answer
-        ensures { (verdict_by result.verdict, result.ledger, ring.new) ≡ entry_told opened bits position touched self ring.old }
+        ensures { (result.refusal, result.ledger, ring.new) ≡ entry_told opened bits position touched self ring.old }
     {
         if position <= self.seen {
-            return self.refused(LedgerRefusal::EndNotAbove);
+            return self.refused(LedgerRefusal::EndNotAbove.number());
         }
         let n = capacity(ring.len());
         if n <= self.count {
-            return self.refused(LedgerRefusal::NoRoom);
+            return self.refused(LedgerRefusal::NoRoom.number());
         }
         let slot = slot_after(n, self.front, self.count);
         let entry = Entry {
@@ -368,10 +366,7 @@ impl Ledger {
         set_entry(ring, slot, entry);
         let more = self.with_entry(opened, bits, position);
         let ledger = more.settled(ring);
-        Answer {
-            ledger,
-            verdict: Ok(()),
-        }
+        Answer { ledger, refusal: 0 }
     }
 
     // Whether a transaction is open, and the files that its rows touch.
@@ -402,7 +397,7 @@ impl Ledger {
         position: u64,
         bits: u64,
     ) -> Answer
-        ensures { (verdict_by result.verdict, result.ledger, ring.new) ≡ kind_told listed kind position bits self ring.old }
+        ensures { (result.refusal, result.ledger, ring.new) ≡ kind_told listed kind position bits self ring.old }
     {
         if kind == COMMIT {
             let touched = commit_touches(listed, bits);
@@ -410,20 +405,20 @@ impl Ledger {
         }
         if kind == BEGIN {
             let begun = self.with_transaction(true, bits);
-            return with_verdict(begun, Ok(()));
+            return with_refusal(begun, 0);
         }
         let same = self.with_transaction(self.opened, bits);
         if self.opened {
-            return with_verdict(same, Ok(()));
+            return with_refusal(same, 0);
         }
         if kind == KEEP_ALIVE {
             let seen = same.with_seen(position);
-            return with_verdict(seen, Ok(()));
+            return with_refusal(seen, 0);
         }
         if kind == MESSAGE {
             return self.entry_told(ring, false, bits, position, ALL_FILES);
         }
-        with_verdict(same, Ok(()))
+        with_refusal(same, 0)
     }
 
     // A file goes to the larger of its position and what is done.
@@ -467,20 +462,20 @@ impl Ledger {
         after
     }
 
-    // Whether a file may be done up to a position: it may not after an event that was refused, for a file above 3, or above every entry told.
-    fn done_refusal(self, file: u64, position: u64) -> Result<(), LedgerRefusal>
-        ensures { verdict_by result ≡ done_refusal file position self }
+    // Why a file is not done up to a position: the stream's mark, 31 or 37; 0 where it may be.
+    fn done_refusal(self, file: u64, position: u64) -> u64
+        ensures { result ≡ done_refusal file position self }
     {
-        if let Some(mark) = self.refusal {
-            return Err(mark);
+        if self.refusal != 0 {
+            return self.refusal;
         }
         if LAST_FILE < file {
-            return Err(LedgerRefusal::File(FileRefusal::NoSuchFile));
+            return FileRefusal::NoSuchFile.number() as u64;
         }
         if self.largest < position {
-            return Err(LedgerRefusal::AboveHandedOn);
+            return LedgerRefusal::AboveHandedOn.number();
         }
-        Ok(())
+        0
     }
 
     // The stable position before the first entry that is undone for a file, or the stable position.
@@ -509,19 +504,22 @@ impl Ledger {
         position: u64,
         data: &[u8],
     ) -> Answer
-        ensures { (verdict_by result.verdict, result.ledger, ring.new)
+        ensures { (result.refusal, result.ledger, ring.new)
             ≡ tell_of identifiers.now files.now kind position «data».now self ring.old }
     {
         let n = capacity(ring.len());
         let before = self.fitted(n);
-        if let Some(mark) = before.refusal {
-            return with_verdict(before, Err(mark));
+        let mark = before.refusal;
+        if mark != 0 {
+            return with_refusal(before, mark);
+        }
+        let reply = touched::words::after_event(identifiers, files, kind, data, before.touched);
+        let refusal = reply.refusal;
+        if refusal != 0 {
+            return before.refused(refusal);
         }
         let listed = identifiers.len().min(files.len());
-        match touched::words::bits_after(identifiers, files, kind, data, before.touched) {
-            Ok(bits) => before.kind_told(ring, listed, kind, position, bits),
-            Err(r) => before.refused(LedgerRefusal::File(r)),
-        }
+        before.kind_told(ring, listed, kind, position, reply.bits)
     }
 
     // A file is done up to a position.
@@ -530,12 +528,13 @@ impl Ledger {
     {
         let n = capacity(ring.len());
         let before = self.fitted(n);
-        if let Err(refusal) = before.done_refusal(file, position) {
-            return with_verdict(before, Err(refusal));
+        let refusal = before.done_refusal(file, position);
+        if refusal != 0 {
+            return with_refusal(before, refusal);
         }
         let raised = before.raised(file, position);
         let settled = raised.settled(ring);
-        with_verdict(settled, Ok(()))
+        with_refusal(settled, 0)
     }
 
     // All four files are done up to a position.
@@ -544,12 +543,13 @@ impl Ledger {
     {
         let n = capacity(ring.len());
         let before = self.fitted(n);
-        if let Err(refusal) = before.done_refusal(0, position) {
-            return with_verdict(before, Err(refusal));
+        let refusal = before.done_refusal(0, position);
+        if refusal != 0 {
+            return with_refusal(before, refusal);
         }
         let raised = before.all_raised(position);
         let settled = raised.settled(ring);
-        with_verdict(settled, Ok(()))
+        with_refusal(settled, 0)
     }
 
     // What may be reported of a file.
@@ -573,8 +573,8 @@ impl Ledger {
     }
 }
 
-fn with_verdict(ledger: Ledger, verdict: Result<(), LedgerRefusal>) -> Answer
-    ensures { answer_by result ≡ answered (verdict_by verdict) ledger }
+fn with_refusal(ledger: Ledger, refusal: u64) -> Answer
+    ensures { answer_by result ≡ answered refusal ledger }
 {
-    Answer { ledger, verdict }
+    Answer { ledger, refusal }
 }

@@ -35,12 +35,11 @@ struct Stretch {
     ill: usize,
 }
 
-// How far the text is well-formed from a place on, a part at a time, until so many bytes are passed or the text ends; `find` finds the part at a place.
-fn parts_from<F: Fn(usize) -> Part>(text: &[u8], from: usize, bytes: usize, find: &F) -> Stretch
-    requires { (from ≤ length text.now) × FindsParts (F.pre find.now) (F.post find.now) text.now }
-    ensures { WalkedTo text.now from (from + min (length text.now - from) bytes) result }
+// How far the text is well-formed from a place on, a part at a time, until a place is reached; `find` finds the part at a place.
+fn parts_from<F: Fn(usize) -> Part>(text: &[u8], from: usize, stop: usize, find: &F) -> Stretch
+    requires { (from ≤ length text.now) × (stop ≤ length text.now) × FindsParts (F.pre find.now) (F.post find.now) text.now }
+    ensures { WalkedTo text.now from stop result }
 {
-    let stop = from + (text.len() - from).min(bytes);
     let mut i = from;
     while i < stop {
         let p = find(i);
@@ -52,19 +51,20 @@ fn parts_from<F: Fn(usize) -> Part>(text: &[u8], from: usize, bytes: usize, find
     Stretch { end: i, ill: 0 }
 }
 
-// The same with the bytes of a part compared, not looked up in the table.
+// The same with the bytes of a part compared, not looked up in the table, until so many bytes are passed or the text ends.
 fn plain_to(text: &[u8], from: usize, bytes: usize) -> Stretch
     requires { from ≤ length text.now }
     ensures { WalkedTo text.now from (from + min (length text.now - from) bytes) result }
 {
-    parts_from(text, from, bytes, &|i| part::part_at(text, i))
+    let stop = from + (text.len() - from).min(bytes);
+    parts_from(text, from, stop, &|i| part::part_at(text, i))
 }
 
 fn plain_from(text: &[u8], from: usize) -> Stretch
     requires { from ≤ length text.now }
     ensures { StretchAt text.now from result }
 {
-    plain_to(text, from, text.len())
+    parts_from(text, from, text.len(), &|i| part::part_at(text, i))
 }
 
 // What stands where a block of characters of one and two bytes does not pass: blocks of any characters, or else as many bytes as a block has, a part at

@@ -13,12 +13,12 @@ pub(crate) struct Part {
 // What may follow a first byte: how many bytes are due, and the range of the next of them; those after it are 80 to BF.
 #[derive(Clone, Copy)]
 pub(crate) struct Lead {
-    pub due: usize,
+    pub due: u8,
     pub low: u8,
     pub high: u8,
 }
 
-fn due(n: usize, low: u8, high: u8) -> Option<Lead>
+fn due(n: u8, low: u8, high: u8) -> Option<Lead>
     ensures { result ≡ Some (record { due = n; low = low; high = high }) }
 {
     Some(Lead { due: n, low, high })
@@ -107,6 +107,6 @@ pub(crate) fn part_at(s: &[u8], at: usize) -> Part
     let n = follow(s, at + 1, l);
     Part {
         len: 1 + n,
-        well: n == l.due,
+        well: n == l.due as usize,
     }
 }

@@ -17,7 +17,7 @@ use Rattle.text.proofs.Laws.{shorter, numeral_length}
 use Rattle.lsn.specs.Position.{display_of}
 use Rattle.lsn.proofs.Laws.{length_display}
 use Rattle.page.specs.declared.Page.{Page}
-use Rattle.page.specs.Page.{spaces, line_of, is_sent, sent_position, sent_text, state_names, state_name, page_of}
+use Rattle.page.specs.Page.{spaces, line_of, sent_text, state_names, state_name, page_of}
 use Rattle.page.specs.Reader.{In64}
 
 -- ---- values
@@ -98,7 +98,7 @@ stored d t {k} {e} h p =
 -- the lengths of its lines
 pub record Lengths (p : Page) : Type 0 where
   pub position : length (line_of (ascii "POSITION") (display_of p.position.0)) ≡ 33
-  pub sent : length (line_of (ascii "SENT") (sent_text (is_sent p.confirmed) (sent_position p.confirmed))) ≡ 33
+  pub sent : length (line_of (ascii "SENT") (sent_text p.sent p.confirmed.0)) ≡ 33
   pub server : length (line_of (ascii "SERVER") (display_of p.server.0)) ≡ 33
   pub events : length (line_of (ascii "EVENTS") (decimal_text p.events)) ≡ 33
   pub stalls : length (line_of (ascii "STALLS") (decimal_text p.stalls)) ≡ 33
@@ -109,7 +109,7 @@ unfolding ascii
 lengths p h =
     record {
       position = length_line _ _ (omega arith) (omega (arith, display_short p.position.0 h.position));
-      sent = length_line _ _ (omega arith) (omega (arith, sent_short (is_sent p.confirmed) (sent_position p.confirmed) h.confirmed));
+      sent = length_line _ _ (omega arith) (omega (arith, sent_short p.sent p.confirmed.0 h.confirmed));
       server = length_line _ _ (omega arith) (omega (arith, display_short p.server.0 h.server));
       events = length_line _ _ (omega arith) (numeral_length 10 20 p.events);
       stalls = length_line _ _ (omega arith) (numeral_length 10 20 p.stalls);
@@ -125,7 +125,7 @@ length_page p h =
 -- its lines, as the code places them
 pub page_pieces : (p : Page) → page_of p
     ≡ line_of (ascii "POSITION") (display_of p.position.0)
-    ++ (line_of (ascii "SENT") (sent_text (is_sent p.confirmed) (sent_position p.confirmed))
+    ++ (line_of (ascii "SENT") (sent_text p.sent p.confirmed.0)
     ++ (line_of (ascii "SERVER") (display_of p.server.0)
     ++ (line_of (ascii "EVENTS") (decimal_text p.events)
     ++ (line_of (ascii "STALLS") (decimal_text p.stalls) ++ line_of (ascii "STATE") (state_name p.state)))))

@@ -12,7 +12,7 @@ use Rattle.text.proofs.Spelling.{spelling_laws}
 use Rattle.lsn.specs.Position.{display_of}
 use Rattle.lsn.specs.PositionLaws.{Displayed}
 use Rattle.lsn.proofs.PositionLaws.{display_laws}
-use Rattle.page.specs.Page.{spaces, line_of, is_sent, sent_position, sent_text, state_names, state_name, page_of}
+use Rattle.page.specs.Page.{spaces, line_of, sent_text, state_names, state_name, page_of}
 use Rattle.page.specs.PageLines.{Line, LineOf, SentValue, PageHasLines, NamesOfStates}
 use Rattle.page.proofs.Laws.{display_short, sent_short, state_short, line_pieces}
 
@@ -82,8 +82,8 @@ position_line label v l h =
 pub page_has_lines : PageHasLines
 unfolding page_of ascii
 page_has_lines p b =
-    let s : List ℕ = sent_text (is_sent p.confirmed) (sent_position p.confirmed) in
-    let k : length s ≤ 17 = sent_short (is_sent p.confirmed) (sent_position p.confirmed) b.confirmed in
+    let s : List ℕ = sent_text p.sent p.confirmed.0 in
+    let k : length s ≤ 17 = sent_short p.sent p.confirmed.0 b.confirmed in
     let n : length (state_name p.state) ≤ 8 = state_short p.state in
     record {
       first = bare (ascii "POSITION") (display_of p.position.0);
@@ -97,7 +97,7 @@ page_has_lines p b =
       sent =
           record {
             value = s;
-            says = sent_value (is_sent p.confirmed) (sent_position p.confirmed) b.confirmed;
+            says = sent_value p.sent p.confirmed.0 b.confirmed;
             is = is_line (ascii "SENT") s (omega arith) (omega arith);
           };
       server = position_line (ascii "SERVER") p.server.0 (omega arith) b.server;

@@ -19,7 +19,7 @@ use Rattle.text.proofs.Cases.{text_laws}
 use Rattle.lsn.specs.Position.{position_of, display_of}
 use Rattle.lsn.proofs.ReadBack.{read_back}
 use Rattle.page.specs.declared.Page.{Page}
-use Rattle.page.specs.Page.{spaces, flush_left, flush_right, line_of, is_sent, sent_position, sent_text, state_names, state_name, page_of}
+use Rattle.page.specs.Page.{spaces, flush_left, flush_right, line_of, sent_text, state_names, state_name, page_of}
 use Rattle.page.specs.Reader.{lines_of, label_of, value_from, is_same, beside, shown, position_in, shown_position, shown_number}
 use Rattle.page.specs.Reader.{PageReadsBack, OnScreen, PageFitsScreen, ValuesFit}
 use Rattle.page.proofs.Laws.{display_short, sent_short, state_short, length_line, length_page}
@@ -143,7 +143,7 @@ line_last label value h k =
 unfoldable texts : Page → List (List ℕ)
 texts p =
     line_text (ascii "POSITION") (display_of p.position.0)
-    ∷ line_text (ascii "SENT") (sent_text (is_sent p.confirmed) (sent_position p.confirmed))
+    ∷ line_text (ascii "SENT") (sent_text p.sent p.confirmed.0)
     ∷ line_text (ascii "SERVER") (display_of p.server.0)
     ∷ line_text (ascii "EVENTS") (decimal_text p.events)
     ∷ line_text (ascii "STALLS") (decimal_text p.stalls)
@@ -155,8 +155,8 @@ unfolding ascii is_visible texts page_of
 page_lines p =
     line_next (ascii "POSITION") _ _ refl (display_visible p.position.0)
     ∙ ap (λ (l : List (List ℕ)). line_text (ascii "POSITION") (display_of p.position.0) ∷ l)
-    (line_next (ascii "SENT") _ _ refl (sent_visible (is_sent p.confirmed) (sent_position p.confirmed))
-    ∙ ap (λ (l : List (List ℕ)). line_text (ascii "SENT") (sent_text (is_sent p.confirmed) (sent_position p.confirmed)) ∷ l)
+    (line_next (ascii "SENT") _ _ refl (sent_visible p.sent p.confirmed.0)
+    ∙ ap (λ (l : List (List ℕ)). line_text (ascii "SENT") (sent_text p.sent p.confirmed.0) ∷ l)
     (line_next (ascii "SERVER") _ _ refl (display_visible p.server.0)
     ∙ ap (λ (l : List (List ℕ)). line_text (ascii "SERVER") (display_of p.server.0) ∷ l)
     (line_next (ascii "EVENTS") _ _ refl (decimal_visible p.events)
@@ -195,9 +195,9 @@ module _ (p : Page) where
   unfolding ascii texts label_of value_from is_same beside
   position_beside = by_lines (ascii "POSITION") p (ap some (flushed _ (display_visible p.position.0)))
 
-  sent_beside : shown (ascii "SENT") (page_of p) ≡ some (sent_text (is_sent p.confirmed) (sent_position p.confirmed))
+  sent_beside : shown (ascii "SENT") (page_of p) ≡ some (sent_text p.sent p.confirmed.0)
   unfolding ascii texts label_of value_from is_same beside
-  sent_beside = by_lines (ascii "SENT") p (ap some (flushed _ (sent_visible (is_sent p.confirmed) (sent_position p.confirmed))))
+  sent_beside = by_lines (ascii "SENT") p (ap some (flushed _ (sent_visible p.sent p.confirmed.0)))
 
   server_beside : shown (ascii "SERVER") (page_of p) ≡ some (display_of p.server.0)
   unfolding ascii texts label_of value_from is_same beside
@@ -259,7 +259,7 @@ page_on_screen : (p : Page) → OnScreen (page_of p)
 unfolding ascii is_visible page_of
 page_on_screen p =
     line_on_screen (ascii "POSITION") _ _ refl (display_visible p.position.0)
-    (line_on_screen (ascii "SENT") _ _ refl (sent_visible (is_sent p.confirmed) (sent_position p.confirmed))
+    (line_on_screen (ascii "SENT") _ _ refl (sent_visible p.sent p.confirmed.0)
     (line_on_screen (ascii "SERVER") _ _ refl (display_visible p.server.0)
     (line_on_screen (ascii "EVENTS") _ _ refl (decimal_visible p.events)
     (line_on_screen (ascii "STALLS") _ _ refl (decimal_visible p.stalls)
@@ -269,8 +269,8 @@ pub page_fits_screen : PageFitsScreen
 unfolding ascii texts
 page_fits_screen p h =
     let a = length_text (ascii "POSITION") (display_of p.position.0) (omega arith) (omega (arith, display_short p.position.0 h.position)) in
-    let s = sent_short (is_sent p.confirmed) (sent_position p.confirmed) h.confirmed in
-    let b = length_text (ascii "SENT") (sent_text (is_sent p.confirmed) (sent_position p.confirmed)) (omega arith) (omega (arith, s)) in
+    let s = sent_short p.sent p.confirmed.0 h.confirmed in
+    let b = length_text (ascii "SENT") (sent_text p.sent p.confirmed.0) (omega arith) (omega (arith, s)) in
     let c = length_text (ascii "SERVER") (display_of p.server.0) (omega arith) (omega (arith, display_short p.server.0 h.server)) in
     let d = length_text (ascii "EVENTS") (decimal_text p.events) (omega arith) (numeral_length 10 20 p.events) in
     let e = length_text (ascii "STALLS") (decimal_text p.stalls) (omega arith) (numeral_length 10 20 p.stalls) in

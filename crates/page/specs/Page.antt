@@ -1,9 +1,8 @@
 -- The service page: six lines, each a label flush left in 12 characters, a value flush right in 20, and a newline. 02, wish 9.
-use Rattle.std.specs.Prelude.{ℕ, ◌-◌, Bool, true, false, Option as Answer, Some, None, List, [], ◌∷◌, ◌++◌, length, get_or, replicate}
+use Rattle.std.specs.Prelude.{ℕ, ◌-◌, Bool, List, [], ◌∷◌, ◌++◌, length, get_or, replicate}
 use Rattle.wire.specs.Bytes.{pick}
 use Rattle.text.specs.Ascii.{ascii}
 use Rattle.text.specs.Numeral.{decimal_text}
-use Rattle.lsn.specs.declared.Lsn.{Lsn}
 use Rattle.lsn.specs.Position.{display_of}
 use Rattle.page.specs.declared.Page.{Page}
 
@@ -21,15 +20,6 @@ flush_right n t = spaces (n - length t) ++ t
 -- a label, its value and a newline
 unfoldable pub line_of : List ℕ → List ℕ → List ℕ
 line_of label value = flush_left 12 label ++ (flush_right 20 value ++ (10 ∷ []))
-
--- whether there was a status, and the position that the last one confirmed, 0 where there was none
-abbrev pub is_sent : Answer Lsn → Bool
-is_sent (Some p) = true
-is_sent None = false
-
-abbrev pub sent_position : Answer Lsn → ℕ
-sent_position (Some p) = p.0
-sent_position None = 0
 
 -- what the last status confirmed; before the first status a single hyphen
 abbrev pub sent_text : Bool → ℕ → List ℕ
@@ -54,7 +44,7 @@ state_name n = get_or state_names n (ascii "ENDED")
 unfoldable pub page_of : Page → List ℕ
 page_of p =
     line_of (ascii "POSITION") (display_of p.position.0)
-    ++ (line_of (ascii "SENT") (sent_text (is_sent p.confirmed) (sent_position p.confirmed))
+    ++ (line_of (ascii "SENT") (sent_text p.sent p.confirmed.0)
     ++ (line_of (ascii "SERVER") (display_of p.server.0)
     ++ (line_of (ascii "EVENTS") (decimal_text p.events)
     ++ (line_of (ascii "STALLS") (decimal_text p.stalls)

@@ -1,6 +1,5 @@
 -- Pages and state names, character by character. 02, wish 9.
-use Rattle.std.specs.Prelude.{◌≡◌, refl, Bool, true, false, Some, None, List, [], ◌∷◌, ◌++◌, ℕ}
-use Rattle.wire.specs.Bytes.{pick}
+use Rattle.std.specs.Prelude.{◌≡◌, refl, Bool, true, false, List, [], ◌∷◌, ◌++◌, ℕ}
 use Rattle.text.specs.Ascii.{ascii}
 use Rattle.text.specs.Numeral.{numeral}
 use Rattle.lsn.specs.Position.{display_of}
@@ -11,7 +10,8 @@ abbrev pub page : ℕ → Bool → ℕ → ℕ → ℕ → ℕ → ℕ → Page
 page position sent confirmed server events stalls state =
     record {
       position = record { 0 = position };
-      confirmed = pick sent (Some (record { 0 = confirmed })) None;
+      sent = sent;
+      confirmed = record { 0 = confirmed };
       server = record { 0 = server };
       events = events;
       stalls = stalls;

@@ -6,7 +6,7 @@ use Rattle.text.specs.Ascii.{ascii}
 use Rattle.text.specs.Spelling.{SpelledTo}
 use Rattle.lsn.specs.PositionLaws.{Displayed}
 use Rattle.page.specs.declared.Page.{Page}
-use Rattle.page.specs.Page.{is_sent, sent_position, state_name, page_of}
+use Rattle.page.specs.Page.{state_name, page_of}
 use Rattle.page.specs.Reader.{In64}
 
 -- a line: its label at the front, its value at the end, blanks between them, 32 characters in all
@@ -48,7 +48,7 @@ pub record Lines (p : Page) : Type 0 where
   pub sixth : List ℕ
   pub page : page_of p ≡ first ++ (10 ∷ (second ++ (10 ∷ (third ++ (10 ∷ (fourth ++ (10 ∷ (fifth ++ (10 ∷ (sixth ++ (10 ∷ [])))))))))))
   pub position : LineOf first (ascii "POSITION") (λ v. Displayed v p.position.0)
-  pub sent : LineOf second (ascii "SENT") (SentValue (is_sent p.confirmed) (sent_position p.confirmed))
+  pub sent : LineOf second (ascii "SENT") (SentValue p.sent p.confirmed.0)
   pub server : LineOf third (ascii "SERVER") (λ v. Displayed v p.server.0)
   pub events : LineOf fourth (ascii "EVENTS") (λ v. SpelledTo 10 v p.events)
   pub stalls : LineOf fifth (ascii "STALLS") (λ v. SpelledTo 10 v p.stalls)

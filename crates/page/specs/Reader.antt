@@ -10,7 +10,7 @@ use Rattle.text.specs.Numeral.{decimal_text}
 use Rattle.text.specs.TextCases.{decimal_from}
 use Rattle.lsn.specs.Position.{position_of, display_of}
 use Rattle.page.specs.declared.Page.{Page}
-use Rattle.page.specs.Page.{line_of, is_sent, sent_position, state_name, page_of}
+use Rattle.page.specs.Page.{line_of, state_name, page_of}
 
 -- ---- the reader
 
@@ -60,7 +60,7 @@ shown_number label page = and_then (shown label page) (λ t. some (decimal_from 
 -- positions and counts are numbers of 64 bits, as every page has them
 pub record In64 (p : Page) : Type 0 where
   pub position : p.position.0 < 2 ^ 64
-  pub confirmed : sent_position p.confirmed < 2 ^ 64
+  pub confirmed : p.confirmed.0 < 2 ^ 64
   pub server : p.server.0 < 2 ^ 64
   pub events : p.events < 2 ^ 64
   pub stalls : p.stalls < 2 ^ 64
@@ -68,10 +68,10 @@ pub record In64 (p : Page) : Type 0 where
 -- each value stands beside its own label and reads back as the value that was given, so that no two can change places
 pub record ReadsBack (p : Page) : Type 0 where
   pub position : shown_position (ascii "POSITION") (page_of p) ≡ some p.position.0
-  pub sent : is_sent p.confirmed ≡ true → shown_position (ascii "SENT") (page_of p) ≡ some (sent_position p.confirmed)
+  pub sent : p.sent ≡ true → shown_position (ascii "SENT") (page_of p) ≡ some p.confirmed.0
   -- a hyphen, and no position, before the first status
-  pub unsent : is_sent p.confirmed ≡ false → shown (ascii "SENT") (page_of p) ≡ some (ascii "-")
-  pub no_position : is_sent p.confirmed ≡ false → shown_position (ascii "SENT") (page_of p) ≡ none
+  pub unsent : p.sent ≡ false → shown (ascii "SENT") (page_of p) ≡ some (ascii "-")
+  pub no_position : p.sent ≡ false → shown_position (ascii "SENT") (page_of p) ≡ none
   pub server : shown_position (ascii "SERVER") (page_of p) ≡ some p.server.0
   pub events : shown_number (ascii "EVENTS") (page_of p) ≡ some p.events
   pub stalls : shown_number (ascii "STALLS") (page_of p) ≡ some p.stalls

@@ -6,7 +6,7 @@ ghost use Rattle.text.specs.Ascii.{ascii};
 ghost use Rattle.lsn.specs.Position.{display_of};
 ghost use Rattle.text.specs.Numeral.{decimal_text};
 ghost use Rattle.error.specs.Writer.{writing, outcome};
-ghost use Rattle.page.specs.Page.{spaces, line_of, is_sent, sent_position, sent_text, state_name, page_of};
+ghost use Rattle.page.specs.Page.{spaces, line_of, sent_text, state_name, page_of};
 
 use error::Refusal;
 use lsn::Lsn;
@@ -17,13 +17,14 @@ const LINE: usize = 33;
 
 pub const PAGE: usize = 198;
 
-// What the page shows: the position that a status would confirm now, what the last status confirmed, where there was one, the server's end, events
-// handed on, stalls begun, and the state's row in the step table, counted from 0. The state is a number, since the theorem `NamesOfStates` names every
-// number.
+// What the page shows: the position that a status would confirm now, whether there was a status and what the last one confirmed, the server's end,
+// events handed on, stalls begun, and the state's row in the step table, counted from 0. `confirmed` is no `Option`, since the theorem `PageTraced` says
+// which position stands there while no status was sent. The state is a number, since the theorem `NamesOfStates` names every number.
 #[derive(Clone, Copy)]
 pub struct Page {
     pub position: Lsn,
-    pub confirmed: Option<Lsn>,
+    pub sent: bool,
+    pub confirmed: Lsn,
     pub server: Lsn,
     pub events: u64,
     pub stalls: u64,
@@ -74,14 +75,13 @@ fn place_count(out: &mut [u8], to: usize, label: &[u8], n: u64) -> usize
     place_line(out, to, label, &value[..k])
 }
 
-fn place_sent(out: &mut [u8], to: usize, confirmed: Option<Lsn>) -> usize
-    ensures { (result, out.new)
-        ≡ placed out.old to (line_of (ascii "SENT") (sent_text (is_sent confirmed) (sent_position confirmed))) }
+fn place_sent(out: &mut [u8], to: usize, sent: bool, confirmed: Lsn) -> usize
+    ensures { (result, out.new) ≡ placed out.old to (line_of (ascii "SENT") (sent_text sent confirmed.0)) }
 {
-    match confirmed {
-        Some(p) => place_position(out, to, b"SENT", p),
-        None => place_line(out, to, b"SENT", b"-"),
+    if sent {
+        return place_position(out, to, b"SENT", confirmed);
     }
+    place_line(out, to, b"SENT", b"-")
 }
 
 fn place_state(out: &mut [u8], to: usize, state: u64) -> usize
@@ -108,7 +108,7 @@ impl Page {
             return Err(Refusal::OutputTooShort);
         }
         let a = place_position(out, 0, b"POSITION", self.position);
-        let b = place_sent(out, a, self.confirmed);
+        let b = place_sent(out, a, self.sent, self.confirmed);
         let c = place_position(out, b, b"SERVER", self.server);
         let d = place_count(out, c, b"EVENTS", self.events);
         let e = place_count(out, d, b"STALLS", self.stalls);

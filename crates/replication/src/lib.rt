@@ -44,6 +44,26 @@ impl CopyData {
     }
 }
 
+// Of an answer of `parse_copy_data`: a refusal is neither an XLogData nor a keepalive, and asks for no reply.
+pub fn is_xlog_data(answer: Result<CopyData, Refusal>) -> bool
+    ensures { result ≡ is_xlog_data (said_by answer) }
+{
+    matches!(answer, Ok(CopyData::XLogData { .. }))
+}
+
+pub fn is_keepalive(answer: Result<CopyData, Refusal>) -> bool
+    ensures { result ≡ is_keep_alive (said_by answer) }
+{
+    matches!(answer, Ok(CopyData::KeepAlive { .. }))
+}
+
+// Whether the answer is a keepalive that asks for a reply.
+pub fn requires_reply(answer: Result<CopyData, Refusal>) -> bool
+    ensures { result ≡ asks_reply (said_by answer) }
+{
+    matches!(answer, Ok(CopyData::KeepAlive { reply: true, .. }))
+}
+
 // An XLogData, of which body is what follows the letter. The data begin at place 25 of the payload.
 fn xlog_data(body: &[u8]) -> Result<CopyData, Refusal>
     ensures { said_by result ≡ xlog_of body.now }

@@ -1,14 +1,8 @@
 -- The six lines of a run's page: those of the page with the run's values.
 use mathlib.Core.Path.{◌≡◌, refl, ◌∙◌}
 use mathlib.Core.List.{List}
-use mathlib.Core.Bool.{Bool, true, false}
-use native.Mathlib.Omega.{arith}
-use Rattle.std.specs.Prelude.{Option as Answer, Some, None}
-use Rattle.wire.specs.Bytes.{pick}
-use Rattle.lsn.specs.declared.Lsn.{Lsn}
-use Rattle.page.specs.Page.{is_sent, sent_position}
-use Prim.Native.Nat.{ℕ, ◌<◌, ◌^◌}
-use Rattle.page.specs.PageLines.{LineOf, Lines, SentValue, state_shown}
+use Prim.Native.Nat.{ℕ}
+use Rattle.page.specs.PageLines.{LineOf, Lines, state_shown}
 use Rattle.page.proofs.PageLines.{page_has_lines}
 use Rattle.text.specs.Ascii.{ascii}
 use Rattle.worker.specs.declared.State.{State}
@@ -27,23 +21,13 @@ name_is Handling = refl
 name_is Offering = refl
 name_is Ended = refl
 
--- what is shown of the last status
-sent_is : (sent : Bool) (position : Lsn) (line : List ℕ) → let shown : Answer Lsn = pick sent (Some position) None in
-    LineOf line (ascii "SENT") (SentValue (is_sent shown) (sent_position shown)) → LineOf line (ascii "SENT") (SentValue sent position.0)
-sent_is true position line l = l
-sent_is false position line l = record { value = l.value; says = l.says; is = l.is }
-
-in_64 : (sent : Bool) (position : Lsn) → position.0 < 2 ^ 64 → sent_position (pick sent (Some position) None) < 2 ^ 64
-in_64 true position h = h
-in_64 false position h = omega arith
-
 by_name : (line : List ℕ) (s : State) → LineOf line (ascii "STATE") (λ v. v ≡ state_shown (state_number s))
     → LineOf line (ascii "STATE") (λ v. v ≡ capitals s)
 by_name line s l = record { value = l.value; says = l.says ∙ name_is s; is = l.is }
 
 pub run_has_lines : RunHasLines
 run_has_lines r n = by (page_has_lines (shown_by r)
-    (record { position = n.position; confirmed = in_64 r.status.sent r.status.position n.confirmed; server = n.server; events = n.events; stalls = n.stalls }))
+    (record { position = n.position; confirmed = n.confirmed; server = n.server; events = n.events; stalls = n.stalls }))
   where
     by : Lines (shown_by r) → RunLines r
     by l = record {
@@ -55,7 +39,7 @@ run_has_lines r n = by (page_has_lines (shown_by r)
       sixth = l.sixth;
       page = l.page;
       position = l.position;
-      sent = sent_is r.status.sent r.status.position l.second l.sent;
+      sent = l.sent;
       server = l.server;
       events = l.events;
       stalls = l.stalls;

@@ -1,6 +1,4 @@
 -- What the service page shows of a run. SCOPE 5.12; 02, wish 9.
-use Rattle.std.specs.Prelude.{Some, None}
-use Rattle.wire.specs.Bytes.{pick}
 use Rattle.page.specs.declared.Page.{Page}
 use Rattle.progress.specs.Progress.{cell_position}
 use Rattle.worker.specs.declared.Run.{Run}
@@ -12,7 +10,8 @@ abbrev pub shown_by : Run → Page
 shown_by r =
     record {
       position = cell_position (cell_in r);
-      confirmed = pick r.status.sent (Some r.status.position) None;
+      sent = r.status.sent;
+      confirmed = r.status.position;
       server = r.server;
       events = r.metrics.events_forwarded;
       stalls = r.metrics.stall_count;

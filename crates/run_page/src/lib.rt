@@ -1,38 +1,26 @@
 #![tactic(auto)]
 // The service page of a run.
-ghost use Rattle.std.specs.Prelude.{◌≡◌, Some, None};
-ghost use Rattle.wire.specs.Bytes.{pick};
+ghost use Rattle.std.specs.Prelude.{◌≡◌};
 ghost use Rattle.error.specs.Writer.{writing, outcome};
 ghost use Rattle.page.specs.Page.{page_of};
 ghost use Rattle.run_page.specs.RunPage.{shown_by};
 
 use error::Refusal;
-use lsn::Lsn;
 use page::Page;
-use worker::{LastStatus, Run};
-
-// The position that the last status confirmed, where there was one.
-pub fn confirmed(status: LastStatus) -> Option<Lsn>
-    ensures { result ≡ pick status.sent (Some status.position) None }
-{
-    if status.sent {
-        Some(status.position)
-    } else {
-        None
-    }
-}
+use worker::Run;
 
 // The values that the page shows.
 pub fn page_of(run: Run) -> Page
     ensures { result ≡ shown_by run }
 {
     let position = worker::session::position(run);
-    let confirmed = confirmed(run.status);
+    let status = run.status;
     let server = run.server;
     let metrics = run.metrics;
     Page {
         position,
-        confirmed,
+        sent: status.sent,
+        confirmed: status.position,
         server,
         events: metrics.events_forwarded,
         stalls: metrics.stall_count,

@@ -12,8 +12,6 @@ use Rattle.wire.proofs.Laws.{by_test, impossible}
 use Rattle.lsn.specs.declared.Lsn.{Lsn}
 use Rattle.metrics.specs.declared.Metrics.{Metrics}
 use Rattle.moment.specs.declared.Moment.{Moment}
-use Rattle.std.specs.Prelude.{Some, None}
-use Rattle.wire.specs.Bytes.{pick}
 use Rattle.page.specs.declared.Page.{Page}
 use Rattle.progress.specs.declared.files.Files.{Files}
 use Rattle.progress.specs.Files.{smallest}
@@ -203,7 +201,7 @@ first_told s x = record { server = refl; metric = λ e. refl }
 -- ---- the page
 
 abbrev page : Lsn → Bool → Lsn → Lsn → ℕ → ℕ → ℕ → Page
-page a b c d e f g = record { position = a; confirmed = pick b (Some c) None; server = d; events = e; stalls = f; state = g }
+page a b c d e f g = record { position = a; sent = b; confirmed = c; server = d; events = e; stalls = f; state = g }
 
 page_by : {a a' c c' d d' : Lsn} {b b' : Bool} {e e' f f' g g' : ℕ} → a ≡ a' → b ≡ b' → c ≡ c' → d ≡ d' → e ≡ e' → f ≡ f' → g ≡ g'
     → page a b c d e f g ≡ page a' b' c' d' e' f' g'

@@ -1,5 +1,5 @@
 -- The service page over any list of calls, in words of the calls and the server's bytes. SCOPE 5.12, 8.11; 02, wish 9.
-use Rattle.std.specs.Prelude.{◌≡◌, Some, None, List, [], ◌∷◌, ℕ, length, take}
+use Rattle.std.specs.Prelude.{◌≡◌, List, [], ◌∷◌, ℕ, length, take}
 use Rattle.wire.specs.Bytes.{pick}
 use Rattle.lsn.specs.declared.Lsn.{Lsn}
 use Rattle.page.specs.declared.Page.{Page}
@@ -26,7 +26,8 @@ abbrev pub page_after : Setup → Trace → Page
 page_after s h =
     record {
       position = confirmed_of s.start h;
-      confirmed = pick (has_sent h) (Some (sent_position s.start h)) None;
+      sent = has_sent h;
+      confirmed = sent_position s.start h;
       server = server_of s h;
       events = wrapped (length (handed_by h));
       stalls = wrapped (stall_count_of h);

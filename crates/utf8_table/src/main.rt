@@ -1,6 +1,8 @@
 #![tactic(auto)]
 // Prints the states of the crate `utf8` after each byte, computed from the Unicode Standard's Table 3-7 "Well-Formed UTF-8 Byte Sequences": the entry
 // of a state and a byte is the one at 256 times the state and the byte.
+ghost use Rattle.std.specs.Prelude.{IfSome, ◌≤◌, ◌<◌};
+
 use std::io;
 
 // From the first byte to the last.
@@ -38,7 +40,9 @@ fn has(range: Range, byte: u8) -> bool {
 }
 
 // The state after a byte of a row or of a state whose ranges these are; none where the byte is ill-formed there.
-fn after(ranges: &[Range], byte: u8) -> Option<usize> {
+fn after(ranges: &[Range], byte: u8) -> Option<usize>
+    ensures { IfSome result (λ state. state < 8) }
+{
     let (first, rest) = ranges.split_first()?;
     if !has(*first, byte) {
         return None;
@@ -47,7 +51,9 @@ fn after(ranges: &[Range], byte: u8) -> Option<usize> {
 }
 
 // The state after a byte in a state whose ranges these are; 8 where the byte is ill-formed there.
-fn entry(due: &[Range], byte: u8) -> usize {
+fn entry(due: &[Range], byte: u8) -> usize
+    ensures { result ≤ 8 }
+{
     let next = if due.is_empty() {
         ROWS.iter().find_map(|row| after(row, byte))
     } else {
@@ -56,12 +62,12 @@ fn entry(due: &[Range], byte: u8) -> usize {
     next.unwrap_or(DUE.len())
 }
 
-// Thirty-two entries stand in a line.
+// Thirty-two entries stand in a line. An entry is one digit, so that it is a byte, and needs no formatting.
 fn main(rt: HostRuntime) -> io::Result<()> {
     for due in DUE {
         for byte in 0..=255 {
-            let end = if byte % 32 == 31 { '\n' } else { ' ' };
-            print!(rt; "{},{end}", entry(due, byte))?;
+            let end = if byte % 32 == 31 { b'\n' } else { b' ' };
+            rt.write_all(&[b'0' + entry(due, byte) as u8, b',', end])?;
         }
     }
     Ok(())

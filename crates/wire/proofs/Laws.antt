@@ -6,7 +6,7 @@ use native.Mathlib.Nat.{le_of_suc-le-suc, not-suc-le-zero, add-zero, pow-suc, lt
 use native.Mathlib.Numerals.{add-one}
 use native.Mathlib.Omega.{arith}
 use lib.ListN.{length, take, drop, get_or, set, length-append, length-take, length-drop, length-set, take-append-drop, drop_of_length-le}
-use lib.Seq.{take-suc, take-take, get_or-drop, drop-drop, take_all, take-set-le, set_split, take_at, drop-append-add}
+use lib.Seq.{take-suc, take-take, get_or-drop, drop-drop, take_all, take-set-le, take-length, set_split, take_at, drop-append-add}
 use mathlib.Core.Bool.{Bool, true, false}
 use borrow.Author.Tests.{le-leb, lt-leb}
 use Rattle.wire.specs.Bytes.{be, be_from, be_bytes, at, put, nowhere, placed, copied}
@@ -50,6 +50,26 @@ fits i n {a} {b} hi hn ha hb =
     let k : i + 1 ≤ 8 = omega arith in
     let z : 0 < 256 = omega arith in
     lt_of_lt_of_le (more i ha hb) (pow-le-pow_right z k)
+
+-- a turn of a copying loop: one byte more of src stands over the front of d
+store : (src dst : List ℕ) (i : ℕ) → i < length src → i < length dst → set (take i src ++ drop i dst) i (get_or src i 0) ≡ take (suc i) src ++ drop (suc i) dst
+store [] dst i h k = absurd (not-suc-le-zero h)
+store (x ∷ xs) [] i h k = absurd (not-suc-le-zero k)
+store (x ∷ xs) (y ∷ ys) zero h k = refl
+store (x ∷ xs) (y ∷ ys) (suc i) h k = ap (λ (l : List ℕ). x ∷ l) (store xs ys i (le_of_suc-le-suc h) (le_of_suc-le-suc k))
+
+pub copy_turn : (src d d₀ : List ℕ) (i : ℕ) → i < length src → length src ≤ length d₀ → d ≡ take i src ++ drop i d₀
+    → set d i (get_or src i 0) ≡ take (i + 1) src ++ drop (i + 1) d₀
+copy_turn src d d₀ i h k inv =
+    let l : i < length d₀ = omega arith in
+    rw (inv, add-one) (store src d₀ i h l)
+
+-- the whole of src is copied
+pub copy_done : (src d d₀ : List ℕ) (i : ℕ) → i ≡ length src → d ≡ take i src ++ drop i d₀ → d ≡ put d₀ 0 src
+unfolding put
+copy_done src d d₀ i e inv =
+    let z : 0 + length src ≡ length src = omega arith in
+    inv ∙ rw (e, take-length, z)
 
 drop_set_same : (d : List ℕ) (i b : ℕ) → i < length d → drop i (set d i b) ≡ b ∷ drop (suc i) d
 drop_set_same [] i b h = absurd (not-suc-le-zero h)

@@ -6,12 +6,22 @@ ghost use Rattle.wire.specs.Bytes.{placed, copied, put, be_bytes};
 // a writer measures its text first and then places one piece after the other, and would have to match a `None` that cannot be.
 pub const NOWHERE: usize = 18446744073709551615;
 
+// A loop, since the library's `copy_from_slice` is C's memmove, which whoever links the archive for C would have to bring.
+fn copy_all(dst: &mut [u8], src: &[u8])
+    requires { length src.now ≤ length dst.old }
+    ensures { dst.new ≡ put dst.old 0 src.now }
+{
+    for i in 0..src.len() {
+        dst[i] = src[i];
+    }
+}
+
 // As much of src as fits over the front of dst, and how much that is.
 pub fn copy(dst: &mut [u8], src: &[u8]) -> usize
     ensures { (result, dst.new) ≡ copied dst.old src.now }
 {
     let n = src.len().min(dst.len());
-    dst[..n].copy_from_slice(&src[..n]);
+    copy_all(dst, &src[..n]);
     n
 }
 
@@ -25,7 +35,7 @@ pub fn place(dst: &mut [u8], to: usize, src: &[u8]) -> usize
     if dst.len() - to < src.len() {
         return NOWHERE;
     }
-    dst[to..to + src.len()].copy_from_slice(src);
+    copy_all(&mut dst[to..], src);
     to + src.len()
 }
 

@@ -2,10 +2,12 @@
 use Rattle.text.specs.Ascii.{ascii}
 use Rattle.page.proofs.place_sent.Goals as goal
 
-pub returns-in-Some : goal.returns-in-Some
+pub returns-then-sent : goal.returns-then-sent
 unfolding ascii
-returns-in-Some c = rw c.in-Some.is c.place_position.ensures
+returns-then-sent c =
+    rw c.if-sent.true c.place_position.ensures
 
-pub returns-in-None : goal.returns-in-None
+pub returns : goal.returns
 unfolding ascii
-returns-in-None c = rw c.in-None.is c.place_line.ensures
+returns c =
+    rw c.if-sent.false c.place_line.ensures

@@ -5,11 +5,11 @@ use Rattle.ledger.proofs.Ledger.entry_told.Goals as goal
 
 pub returns-then-position-self : goal.returns-then-position-self
 returns-then-position-self c =
-    refused_left _ _ c.args.self _ c.refused.ensures ∙ sym (entry_below _ _ _ _ c.args.self _ c.if-position-self.true)
+    refused_left _ _ _ c.args.self _ c.number.ensures c.refused.ensures ∙ sym (entry_below _ _ _ _ c.args.self _ c.if-position-self.true)
 
 pub returns-then-n-self : goal.returns-then-n-self
 returns-then-n-self c =
-    refused_left _ _ c.args.self _ c.refused-then-n-self.ensures
+    refused_left _ _ _ c.args.self _ c.number-then-n-self.ensures c.refused-then-n-self.ensures
     ∙ sym (entry_full _ _ _ _ c.args.self _ c.if-position-self.false _ c.capacity-n.ensures c.if-n-self.true)
 
 pub returns : goal.returns

@@ -11,18 +11,18 @@ returns-then-kind-eq-COMMIT c =
 
 pub returns-then-kind-eq-BEGIN : goal.returns-then-kind-eq-BEGIN
 returns-then-kind-eq-BEGIN c =
-    answered_left _ _ _ _ _ c.with_transaction-begun.ensures c.with_verdict.ensures
+    answered_left _ _ _ _ _ c.with_transaction-begun.ensures c.with_refusal.ensures
     ∙ sym (told_begin _ _ _ _ _ _ c.if-kind-eq-COMMIT.false c.if-kind-eq-BEGIN.true)
 
 pub returns-then-self : goal.returns-then-self
 returns-then-self c =
-    answered_left _ _ _ _ _ c.with_transaction-same.ensures c.with_verdict-then-self.ensures
+    answered_left _ _ _ _ _ c.with_transaction-same.ensures c.with_refusal-then-self.ensures
     ∙ sym (told_open _ _ _ _ _ _ c.if-kind-eq-COMMIT.false c.if-kind-eq-BEGIN.false c.if-self.true)
 
 pub returns-then-kind-eq-KEEP_ALIVE : goal.returns-then-kind-eq-KEEP_ALIVE
 returns-then-kind-eq-KEEP_ALIVE c =
     answered_left _ _ _ _ _ (c.with_seen-seen.ensures ∙ ap (λ (l : Ledger). with_seen c.args.position l) c.with_transaction-same.ensures)
-    c.with_verdict-then-kind-eq-KEEP_ALIVE.ensures
+    c.with_refusal-then-kind-eq-KEEP_ALIVE.ensures
     ∙ sym (told_seen _ _ _ _ c.args.self _ c.if-kind-eq-COMMIT.false c.if-kind-eq-BEGIN.false c.if-self.false
     c.if-kind-eq-KEEP_ALIVE.true)
 
@@ -34,6 +34,6 @@ returns-then-kind-eq-MESSAGE c =
 
 pub returns : goal.returns
 returns c =
-    answered_left _ _ _ _ _ c.with_transaction-same.ensures c.with_verdict-2.ensures
+    answered_left _ _ _ _ _ c.with_transaction-same.ensures c.with_refusal-2.ensures
     ∙ sym (told_other _ _ _ _ _ _ c.if-kind-eq-COMMIT.false c.if-kind-eq-BEGIN.false c.if-self.false c.if-kind-eq-KEEP_ALIVE.false
     c.if-kind-eq-MESSAGE.false)

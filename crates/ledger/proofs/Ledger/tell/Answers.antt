@@ -1,21 +1,21 @@
 -- The mark, then the list, then the kind.
-use mathlib.Core.Path.{refl, sym, ap, ◌∙◌}
-use Rattle.ledger.specs.Ledger.{mark_of}
-use Rattle.ledger.proofs.CallLaws.{answered_left, refused_left, tell_marked_by, tell_refused_by, tell_kind}
+use mathlib.Core.Path.{refl, sym, ◌∙◌}
+use Rattle.ledger.proofs.CallLaws.{answered_left, refused_left, tell_marked, tell_refused, tell_kind}
 use Rattle.ledger.proofs.Ledger.tell.Goals as goal
 
-pub returns-in-Some : goal.returns-in-Some
-returns-in-Some c =
-    answered_left _ _ _ _ _ refl c.with_verdict.ensures
-    ∙ sym (tell_marked_by _ _ _ _ _ _ _ _ _ c.capacity-n.ensures c.fitted-before.ensures _ c.in-Some.is)
+pub returns-then-mark-ne0 : goal.returns-then-mark-ne0
+returns-then-mark-ne0 c =
+    answered_left _ _ _ _ _ refl c.with_refusal.ensures
+    ∙ sym (tell_marked _ _ _ _ _ _ _ _ _ c.capacity-n.ensures c.fitted-before.ensures c.if-mark-ne0.true)
 
-pub returns-in-Err : goal.returns-in-Err
-returns-in-Err c =
-    refused_left _ _ c.fitted-before.result _ c.refused.ensures
-    ∙ sym (tell_refused_by _ _ _ _ _ _ _ _ _ c.capacity-n.ensures c.fitted-before.ensures c.in_default.is _ _ c.in-Err.ensures)
+pub returns-then-refusal-ne0 : goal.returns-then-refusal-ne0
+returns-then-refusal-ne0 c =
+    refused_left _ _ _ c.fitted-before.result _ refl c.refused.ensures
+    ∙ sym (tell_refused _ _ _ _ _ _ _ _ _ c.capacity-n.ensures c.fitted-before.ensures c.if-mark-ne0.false _ _ c.after_event-reply.ensures
+    c.if-refusal-ne0.true)
 
-pub returns-in-Ok : goal.returns-in-Ok
-returns-in-Ok c =
+pub returns : goal.returns
+returns c =
     c.kind_told.ensures
-    ∙ sym (tell_kind _ _ _ _ _ _ _ _ _ c.capacity-n.ensures c.fitted-before.ensures (ap mark_of c.in_default.is) _ _ _ c.in-Ok.ensures
-    refl c.min-listed.ensures)
+    ∙ sym (tell_kind _ _ _ _ _ _ _ _ _ c.capacity-n.ensures c.fitted-before.ensures c.if-mark-ne0.false _ _ _ c.after_event-reply.ensures
+    c.if-refusal-ne0.false c.min-listed.ensures)

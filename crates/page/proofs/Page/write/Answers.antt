@@ -13,13 +13,13 @@ use Rattle.page.proofs.Page.write.Goals as goal
 
 pub returns-then-out-lt-PAGE : goal.returns-then-out-lt-PAGE
 returns-then-out-lt-PAGE c =
-    let b : In64 c.args.self = record { position = omega arith; confirmed = grind (arith, c.well_formed); server = omega arith; events = omega arith; stalls = omega arith } in
+    let b : In64 c.args.self = record { position = omega arith; confirmed = omega arith; server = omega arith; events = omega arith; stalls = omega arith } in
     no_room 0 _ _ (omega arith) (omega (arith, length_page c.args.self b))
 
 pub returns : goal.returns
 unfolding ascii
 returns c =
-    let b : In64 c.args.self = record { position = omega arith; confirmed = grind (arith, c.well_formed); server = omega arith; events = omega arith; stalls = omega arith } in
+    let b : In64 c.args.self = record { position = omega arith; confirmed = omega arith; server = omega arith; events = omega arith; stalls = omega arith } in
     let a = c.args in
     let l : length (page_of a.self) ≡ 198 = length_page a.self b in
     let h : 0 + length (page_of a.self) ≤ length a.out.now = omega (arith, c.if-out-lt-PAGE.false) in

@@ -1,11 +1,16 @@
-use mathlib.Core.Path.{◌≡◌}
+use Rattle.wire.proofs.Laws.{copied_at}
+use Rattle.wire.specs.Bytes.{copied}
 use native.Mathlib.Omega.{arith}
-use lib.ListN.{length, take, length-take}
-use Rattle.wire.proofs.Laws.{copied_at, lent_part}
+use lib.ListN.{length-take}
 use Rattle.wire.proofs.store.copy.Goals as goal
 
+pub slice_bounds-copy_all-end : goal.slice_bounds-copy_all-end
+slice_bounds-copy_all-end c = simp length-take (omega arith)
+
+pub copy_all-requires : goal.copy_all-requires
+copy_all-requires c = simp length-take (omega arith)
+
 pub returns : goal.returns
+unfolding copied
 returns c =
-    let n = c.min-n.result in
-    let front : n ≡ length (take n c.args.src.now) = simp length-take (omega arith) in
-    copied_at c.args.dst.now c.args.src.now _ n c.min-n.ensures (lent_part c.args.dst.now c.copy_from_slice.new.self (take n c.args.src.now) 0 n front c.copy_from_slice.ensures.after)
+    copied_at _ _ _ _ c.min-n.ensures c.copy_all.ensures
