@@ -35,7 +35,9 @@ struct Stretch {
     ill: usize,
 }
 
-// How far the text is well-formed from a place on, a part at a time, until a place is reached; `find` finds the part at a place.
+// How far the text is well-formed from a place on, a part at a time, until a place is reached; `find` finds the part at a place. Inline, as `part_at` and
+// `plain_to` are: a call for each character, or for the few of a stretch, would cost as much as what it does.
+#[inline]
 fn parts_from<F: Fn(usize) -> Part>(text: &[u8], from: usize, stop: usize, find: &F) -> Stretch
     requires { (from ≤ length text.now) × (stop ≤ length text.now) × FindsParts (F.pre find.now) (F.post find.now) text.now }
     ensures { WalkedTo text.now from stop result }
@@ -52,6 +54,7 @@ fn parts_from<F: Fn(usize) -> Part>(text: &[u8], from: usize, stop: usize, find:
 }
 
 // The same with the bytes of a part compared, not looked up in the table, until so many bytes are passed or the text ends.
+#[inline]
 fn plain_to(text: &[u8], from: usize, bytes: usize) -> Stretch
     requires { from ≤ length text.now }
     ensures { WalkedTo text.now from (from + min (length text.now - from) bytes) result }

@@ -1,5 +1,5 @@
 // The part of a text at a place: a well-formed sequence, or a maximal ill-formed part.
-ghost use Rattle.std.specs.Prelude.{◌≡◌, ◌≤◌, ◌<◌, length, drop, Some};
+ghost use Rattle.std.specs.Prelude.{◌≡◌, ◌+◌, ◌≤◌, ◌<◌, true, false, eqb, length, drop, Some};
 ghost use Rattle.utf8.specs.WellFormed.{table, row_of, matched};
 ghost use Rattle.lossy.specs.Code.{behind_first, trail, lead_said, due_in, first_in, PartAt};
 
@@ -53,6 +53,19 @@ fn lead_of(b: u8) -> Option<Lead>
     }
 }
 
+// A well-formed part of so many bytes, and an ill-formed one.
+fn well(len: usize) -> Part
+    ensures { result ≡ record { len = len; well = true } }
+{
+    Part { len, well: true }
+}
+
+fn ill(len: usize) -> Part
+    ensures { result ≡ record { len = len; well = false } }
+{
+    Part { len, well: false }
+}
+
 // Whether a byte from low to high stands at the place.
 fn next_in(s: &[u8], at: usize, low: u8, high: u8) -> bool
     ensures { result ≡ first_in (record { low = low; high = high }) (drop at s.now) }
@@ -66,47 +79,53 @@ fn next_in(s: &[u8], at: usize, low: u8, high: u8) -> bool
     s[at] <= high
 }
 
-// How many of the bytes that are due stand from the place on.
-fn follow(s: &[u8], at: usize, l: Lead) -> usize
-    requires { at ≤ length s.now }
-    ensures { result ≡ matched (trail l) (drop at s.now) }
+// The part of a first byte, by how many of the bytes that are due stand from the place on. Each number that may be due has an arm of its own, which
+// says at each of its ends whether the part is well-formed: nothing is counted and compared.
+fn follow(s: &[u8], at: usize, l: Lead) -> Part
+    requires { (at ≤ length s.now) × (l.due ≤ 3) }
+    ensures { result
+        ≡ record { len = 1 + matched (trail l) (drop at s.now); well = eqb (matched (trail l) (drop at s.now)) l.due } }
 {
-    let n = l.due;
-    if n == 0 {
-        return 0;
+    match l.due {
+        0 => well(1),
+        1 => {
+            if next_in(s, at, l.low, l.high) {
+                well(2)
+            } else {
+                ill(1)
+            }
+        }
+        2 => {
+            if !next_in(s, at, l.low, l.high) {
+                ill(1)
+            } else if next_in(s, at + 1, 0x80, 0xBF) {
+                well(3)
+            } else {
+                ill(2)
+            }
+        }
+        _ => {
+            if !next_in(s, at, l.low, l.high) {
+                ill(1)
+            } else if !next_in(s, at + 1, 0x80, 0xBF) {
+                ill(2)
+            } else if next_in(s, at + 2, 0x80, 0xBF) {
+                well(4)
+            } else {
+                ill(3)
+            }
+        }
     }
-    if !next_in(s, at, l.low, l.high) {
-        return 0;
-    }
-    if n == 1 {
-        return 1;
-    }
-    if !next_in(s, at + 1, 0x80, 0xBF) {
-        return 1;
-    }
-    if n == 2 {
-        return 2;
-    }
-    if !next_in(s, at + 2, 0x80, 0xBF) {
-        return 2;
-    }
-    3
 }
 
 // The part that begins at the place.
+#[inline]
 pub(crate) fn part_at(s: &[u8], at: usize) -> Part
     requires { at < length s.now }
     ensures { PartAt s.now at result }
 {
     let Some(l) = lead_of(s[at]) else {
-        return Part {
-            len: 1,
-            well: false,
-        };
+        return ill(1);
     };
-    let n = follow(s, at + 1, l);
-    Part {
-        len: 1 + n,
-        well: n == l.due as usize,
-    }
+    follow(s, at + 1, l)
 }

@@ -78,13 +78,20 @@ impl<'a> Slots<'a> {
         None
     }
 
+    // The same for rows.
+    fn columns(self, id: u32) -> Option<usize>
+        ensures { maybe result ≡ count_held self.entry.held self.entry.ids.now self.entry.counts.now id }
+    {
+        columns_of(self.held, self.ids, self.counts, id)
+    }
+
     // The tuples of a row are matched with its relation.
     pub fn judge(self, row: Option<Row>) -> Result<(), Refusal>
         ensures { verdict_by result ≡ head_judged (λ id. count_held self.entry.held self.entry.ids.now self.entry.counts.now id) (row_by (Ok row)) }
     {
         match row {
-            Some(Row::Insert { relation, new }) => matched(self.count_of(relation), new.columns),
-            Some(Row::Update { relation, new }) => matched(self.count_of(relation), new.columns),
+            Some(Row::Insert { relation, new }) => matched(self.columns(relation), new.columns),
+            Some(Row::Update { relation, new }) => matched(self.columns(relation), new.columns),
             Some(
                 Row::UpdateFrom {
                     relation,
@@ -92,13 +99,22 @@ impl<'a> Slots<'a> {
                     new,
                     ..
                 },
-            ) => both_matched(self.count_of(relation), old.columns, new.columns),
+            ) => both_matched(self.columns(relation), old.columns, new.columns),
             Some(Row::Delete { relation, old, .. }) => {
-                matched(self.count_of(relation), old.columns)
+                matched(self.columns(relation), old.columns)
             }
             _ => Ok(()),
         }
     }
+}
+
+// How many columns a relation has, if it is held. Out of line, and with its parts in registers: within the function of a whole message each turn of the
+// search would set that function's numbers anew.
+#[inline(never)]
+fn columns_of(held: u64, ids: &[u32], counts: &[u8], id: u32) -> Option<usize>
+    ensures { maybe result ≡ count_held held ids.now counts.now id }
+{
+    Slots { held, ids, counts }.count_of(id)
 }
 
 // Whether a flag byte is that of a column of the key: its lowest bit.

@@ -66,7 +66,8 @@ impl Repeated for Identifiers {
     }
 }
 
-// The place after n of them, one after the other.
+// The place after n of them, one after the other. Out of line: within the function of a whole row each turn of the loop would go through the stack.
+#[inline(never)]
 pub(crate) fn after_all<R: Repeated>(bytes: &[u8], from: usize, n: usize) -> Result<usize, Refusal>
     ensures { end_by result ≡ mapped (λ v. tt) (times_at (λ q. read_at R.layout bytes.now q) n from) }
 {
