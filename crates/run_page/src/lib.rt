@@ -1,13 +1,26 @@
 #![tactic(auto)]
 // The service page of a run.
-ghost use Rattle.std.specs.Prelude.{◌≡◌};
+ghost use Rattle.std.specs.Prelude.{◌≡◌, Some, None};
+ghost use Rattle.wire.specs.Bytes.{pick};
 ghost use Rattle.error.specs.Writer.{writing, outcome};
 ghost use Rattle.page.specs.Page.{page_of};
 ghost use Rattle.run_page.specs.RunPage.{shown_by};
 
 use error::Refusal;
+use lsn::Lsn;
 use page::Page;
-use worker::Run;
+use worker::{LastStatus, Run};
+
+// The position that the last status confirmed, where there was one.
+pub fn confirmed(status: LastStatus) -> Option<Lsn>
+    ensures { result ≡ pick status.sent (Some status.position) None }
+{
+    if status.sent {
+        Some(status.position)
+    } else {
+        None
+    }
+}
 
 // The values that the page shows.
 pub fn page_of(run: Run) -> Page
@@ -34,4 +47,22 @@ pub fn write(run: Run, out: &mut [u8]) -> Result<usize, Refusal>
 {
     let page = page_of(run);
     page.write(out)
+}
+
+#[cfg(test)]
+mod tests {
+    use super::*;
+    use moment::Moment;
+
+    #[test]
+    fn confirmed_of_a_status(rt: HostRuntime) {
+        let mut status = LastStatus {
+            sent: false,
+            position: Lsn(7),
+            at: Moment(1),
+        };
+        assert!(rt; confirmed(status).is_none());
+        status.sent = true;
+        assert!(rt; confirmed(status) == Some(Lsn(7)));
+    }
 }
