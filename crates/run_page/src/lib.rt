@@ -56,13 +56,21 @@ mod tests {
 
     #[test]
     fn confirmed_of_a_status(rt: HostRuntime) {
-        let mut status = LastStatus {
-            sent: false,
-            position: Lsn(7),
-            at: Moment(1),
-        };
-        assert!(rt; confirmed(status).is_none());
-        status.sent = true;
-        assert!(rt; confirmed(status) == Some(Lsn(7)));
+        // 0/0 is a position like any other.
+        for position in [Lsn(0), Lsn(7), Lsn(u64::MAX)] {
+            let at = Moment(1);
+            let unsent = LastStatus {
+                sent: false,
+                position,
+                at,
+            };
+            assert!(rt; confirmed(unsent).is_none());
+            let sent = LastStatus {
+                sent: true,
+                position,
+                at,
+            };
+            assert!(rt; confirmed(sent) == Some(position));
+        }
     }
 }
